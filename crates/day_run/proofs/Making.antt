@@ -20,7 +20,7 @@ use Rattle.run_model.proofs.NodeLists.{some_is}
 use Rattle.run_model.proofs.PartLemmas.{turn}
 use Rattle.statement_steps.proofs.Stepping.{request_there}
 use Rattle.world_laws.proofs.Induction.{acts_name}
-use Rattle.node_requests.specs.Standing.{Kept}
+use Rattle.node_standing.specs.Standing.{Kept}
 use Rattle.run_nodes.specs.Together.{StandAll, disks_of}
 use Rattle.day_model.specs.Days.{is_broken}
 use Rattle.day_run.specs.Serving.{AreLarge}

@@ -16,7 +16,7 @@ use Rattle.run_shared.specs.Sharing.{SharedState}
 use Rattle.world_laws.specs.Nodes.{NodesAreKept}
 use Rattle.statement_steps.specs.Doing.{AllKept}
 use Rattle.statement_steps.proofs.Keeping.{all_kept}
-use Rattle.node_requests.specs.Standing.{Kept}
+use Rattle.node_standing.specs.Standing.{Kept}
 use Rattle.run_nodes.specs.Names.{AreApart}
 use Rattle.run_nodes.specs.Together.{ServesTogether, StandsTogether, disks_of}
 use Rattle.run_nodes.specs.Told.{kept_names}

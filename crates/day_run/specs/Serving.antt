@@ -9,7 +9,7 @@ use Rattle.run_laws.specs.Anew.{Makes}
 use Rattle.run_model.specs.Transcript.{Entry, Legal}
 use Rattle.run_model.specs.World.{World}
 use Rattle.run_shared.specs.Sharing.{SharedState}
-use Rattle.node_requests.specs.Standing.{Kept}
+use Rattle.node_standing.specs.Standing.{Kept}
 use Rattle.day_run.specs.Tells.{EntriesTell}
 use Rattle.run_nodes.specs.Together.{StandsTogether}
 use Rattle.day_model.specs.Pieces.{Piece, day}

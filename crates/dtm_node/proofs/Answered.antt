@@ -13,7 +13,7 @@ use Rattle.said_steps.specs.Answers.{ends_boot, is_broken, is_served, may_answer
 use Rattle.said_steps.specs.Answers.{IsSteady}
 use Rattle.said_steps.proofs.Falls.{falls_last, falls_none, named_first}
 use Rattle.node_table.specs.Telling.{IsOfWork}
-use Rattle.node_requests.specs.Telling.{AnswersTask, may_answer_task}
+use Rattle.node_standing.specs.Telling.{AnswersTask, may_answer_task}
 use Rattle.node_requests.proofs.SaysLemmas.{calm_not_down}
 
 pub calm_not_crashed : (ls : List Line) (name : List ℕ) → AllByRecursion IsOfWork ls → In (line.Crashed name) ls → ⊥

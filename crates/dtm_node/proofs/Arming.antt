@@ -15,10 +15,10 @@ use Rattle.recovery_units.specs.State.{IsKept, UnitsState}
 use Rattle.run_shared.specs.Sharing.{SharedState}
 use Rattle.volume.specs.State.{VolumeState}
 use Rattle.node_table.specs.Standing.{IsUp, Up}
-use Rattle.node_requests.specs.Keeping.{PerformsRequest}
-use Rattle.node_requests.specs.Standing.{IsDown, IsRunning, Kept, Place, StandsIn, counts_of, disk_in, is_up}
+use Rattle.node_standing.specs.Keeping.{PerformsRequest}
+use Rattle.node_standing.specs.Standing.{IsDown, IsRunning, Kept, Place, StandsIn, counts_of, disk_in, is_up}
 use Rattle.dtm_node.specs.Nodes.{place_armed}
-use Rattle.node_requests.specs.Telling.{Passes, TellsTask, said_shared}
+use Rattle.node_standing.specs.Telling.{Passes, TellsTask, said_shared}
 use Rattle.dtm_node.proofs.Answered.{calm_answers}
 use Rattle.dtm_node.proofs.DiskLemmas.{disk_kept}
 use Rattle.dtm_node.proofs.Held.{holds_same}

@@ -25,11 +25,11 @@ use Rattle.run_shared.specs.Sharing.{IsShared, SharedState}
 use Rattle.node_table.specs.Telling.{IsOfWork, wire_after}
 use Rattle.commit_protocol.specs.Messages.{Message}
 use Rattle.dtm_node.specs.Boots.{IsBootRefusal}
-use Rattle.node_requests.specs.Keeping.{IsPromised, Performs}
+use Rattle.node_standing.specs.Keeping.{IsPromised, Performs}
 use Rattle.dtm_node.specs.Opening.{EndsBoot, EndsTask, boots_node, kept_down, used}
-use Rattle.node_requests.specs.Standing.{StandsFor, counts_of}
-use Rattle.node_requests.specs.Holding.{HoldsAs}
-use Rattle.node_requests.specs.Telling.{AnswersTask, Passes, TellsTask, may_answer_task, powered_task, said_alone, said_shared}
+use Rattle.node_standing.specs.Standing.{StandsFor, counts_of}
+use Rattle.node_standing.specs.Holding.{HoldsAs}
+use Rattle.node_standing.specs.Telling.{AnswersTask, Passes, TellsTask, may_answer_task, powered_task, said_alone, said_shared}
 use Rattle.dtm_node.proofs.Answered.{boot_may, calm_answers, fell_answers, restart_may}
 use Rattle.dtm_node.proofs.BootSteps.{IsBoot, boot_is, in_use, restart_is}
 use Rattle.node_requests.proofs.SaysLemmas.{all_on, alone_down, down_behind, lines_calm, lines_on, own_calm, with_wire}

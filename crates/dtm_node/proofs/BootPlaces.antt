@@ -19,7 +19,7 @@ use Rattle.dtm_node.specs.Causes.{cause_of}
 use Rattle.dtm_node.specs.Nodes.{IsFallen, IsNode, IsPlaceOf, MayFall, last_lines_of, place_of, undone_line}
 use Rattle.dtm_node.specs.Opening.{Breaks, IsOpen, ReopensUp, Reopens}
 use Rattle.node_requests.specs.Running.{HasGrown}
-use Rattle.node_requests.specs.Standing.{IsDown, IsRunning, Place, is_up}
+use Rattle.node_standing.specs.Standing.{IsDown, IsRunning, Place, is_up}
 use Rattle.dtm_node.proofs.NodeEvents.{fall_shown}
 
 module _ {D U : Type 0} (state : D → DiskState) (units : U → UnitsState) where

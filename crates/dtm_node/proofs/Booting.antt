@@ -18,11 +18,11 @@ use Rattle.recovery_units.specs.declared.settled.SettledUnit.{SettledUnit}
 use Rattle.run_shared.specs.Sharing.{IsShared, SharedState}
 use Rattle.node_table.specs.Standing.{StandsUp, Up}
 use Rattle.dtm_node.specs.Boots.{IsAwake}
-use Rattle.node_requests.specs.Keeping.{Performs}
+use Rattle.node_standing.specs.Keeping.{Performs}
 use Rattle.dtm_node.specs.Nodes.{last_lines_of, undone_line}
 use Rattle.dtm_node.specs.Opening.{Wakes, kept_down}
-use Rattle.node_requests.specs.Standing.{StandsFor, counts_of, disk_of, noted_all}
-use Rattle.node_requests.specs.Telling.{Passes}
+use Rattle.node_standing.specs.Standing.{StandsFor, counts_of, disk_of, noted_all}
+use Rattle.node_standing.specs.Telling.{Passes}
 use Rattle.dtm_node.proofs.BootSteps.{IsBoot, in_use, step_barred, step_fell, step_lacking, step_risen, step_unpowered}
 use Rattle.dtm_node.proofs.DiskLemmas.{disk_kept}
 use Rattle.dtm_node.proofs.Performing.{kept_fallen, kept_up}

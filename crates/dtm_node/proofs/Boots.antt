@@ -26,15 +26,15 @@ use Rattle.run_shared.specs.Sharing.{IsShared, SharedState}
 use Rattle.node_table.specs.Telling.{IsOfWork}
 use Rattle.dtm_node.specs.declared.node.Opened.TheVariants as opened
 use Rattle.dtm_node.specs.Causes.{cause_of}
-use Rattle.node_requests.specs.Keeping.{PerformsRequest, PerformsTask}
+use Rattle.node_standing.specs.Keeping.{PerformsRequest, PerformsTask}
 use Rattle.dtm_node.specs.Nodes.{last_lines_of, undone_line}
 use Rattle.dtm_node.specs.Opening.{ComesTo, EndsBoot, EndsTask, IsOpen, Opens, Reopens, Rises, kept_down, used}
-use Rattle.node_requests.specs.Standing.{IsDown, IsRunning, Kept, Place, StandsFor, StandsIn, counts_of, disk_in, is_up}
+use Rattle.node_standing.specs.Standing.{IsDown, IsRunning, Kept, Place, StandsFor, StandsIn, counts_of, disk_in, is_up}
 use Rattle.said_steps.specs.Answers.{IsSteady}
 use Rattle.said_steps.proofs.Falls.{steady_on}
 use Rattle.dtm_node.proofs.Answered.{calm_answers, calm_steady, refused_answers, steady_answers}
 use Rattle.dtm_node.proofs.Held.{holds_is}
-use Rattle.node_requests.specs.Telling.{AnswersTask, RestartTold, TellsTask, armed_task, powered_task, refused_task, said_alone, said_node, said_shared, task_said}
+use Rattle.node_standing.specs.Telling.{AnswersTask, RestartTold, TellsTask, armed_task, powered_task, refused_task, said_alone, said_node, said_shared, task_said}
 use Rattle.node_requests.specs.TheLaws.{TheLaws}
 use Rattle.dtm_node.proofs.BootEnds.{shares_used}
 use Rattle.dtm_node.proofs.BootSteps.{IsBoot, boot_is, restart_is, step_first}

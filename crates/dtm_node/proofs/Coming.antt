@@ -21,9 +21,9 @@ use Rattle.node_table.specs.Running.{IsNewFor, TellsRows}
 use Rattle.node_table.specs.Standing.{StandsUp, Up}
 use Rattle.node_table.specs.Telling.{ShowsWork}
 use Rattle.dtm_node.specs.Causes.{cause_of}
-use Rattle.node_requests.specs.Keeping.{Performs, PerformsTask}
+use Rattle.node_standing.specs.Keeping.{Performs, PerformsTask}
 use Rattle.node_requests.specs.Running.{ComesFreely, TellsEvent, event_told, name_of, shown_first}
-use Rattle.node_requests.specs.Standing.{IsDown, Kept, StandsFor, counts_of, disk_in, disk_of}
+use Rattle.node_standing.specs.Standing.{IsDown, Kept, StandsFor, counts_of, disk_in, disk_of}
 use Rattle.dtm_node.proofs.EventSteps.{did_performs, does_behind, up_behind, went_performs}
 use Rattle.dtm_node.proofs.EventTasks.{IsEventTask, event_down, event_fails, event_task, event_tells}
 use Rattle.dtm_node.proofs.Performing.{kept_fallen, kept_up}

@@ -21,9 +21,9 @@ use Rattle.run_shared.specs.Sharing.{IsShared, SharedState}
 use Rattle.node_table.specs.Serving.{WasCut, service_at}
 use Rattle.node_table.specs.Standing.{StandsUp, Up}
 use Rattle.dtm_node.specs.Causes.{cause_of}
-use Rattle.node_requests.specs.Keeping.{Performs}
+use Rattle.node_standing.specs.Keeping.{Performs}
 use Rattle.node_requests.specs.Running.{name_of, shown_first}
-use Rattle.node_requests.specs.Standing.{StandsFor, counts_of, disk_of}
+use Rattle.node_standing.specs.Standing.{StandsFor, counts_of, disk_of}
 use Rattle.dtm_node.proofs.EventTasks.{IsEventTask}
 use Rattle.dtm_node.proofs.Performing.{LeavesRest, cut_performs, kept_fallen, kept_up, leaves_rest, rows_same, stands_then}
 use Rattle.dtm_node.proofs.Stepping.{step_done}

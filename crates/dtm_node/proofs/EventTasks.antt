@@ -23,12 +23,12 @@ use Rattle.run_shared.specs.Sharing.{SharedState}
 use Rattle.node_table.specs.Standing.{Up}
 use Rattle.node_table.specs.Telling.{IsOfWork, ShowsWork, wire_after, wire_behind}
 use Rattle.dtm_node.specs.Causes.{cause_of}
-use Rattle.node_requests.specs.Keeping.{all_shown}
+use Rattle.node_standing.specs.Keeping.{all_shown}
 use Rattle.node_requests.specs.Running.{event_told, shown_first}
-use Rattle.node_requests.specs.Standing.{Kept, counts_of, disk_in, disk_of, is_up}
+use Rattle.node_standing.specs.Standing.{Kept, counts_of, disk_in, disk_of, is_up}
 use Rattle.dtm_node.proofs.Answered.{calm_answers, fell_answers, goes_answers, refused_answers}
 use Rattle.dtm_node.proofs.Held.{holds_is}
-use Rattle.node_requests.specs.Telling.{AnswersTask, Passes, TellsTask, calls_after_task, may_answer_task, refused_task, said_alone, said_node, said_shared, task_said}
+use Rattle.node_standing.specs.Telling.{AnswersTask, Passes, TellsTask, calls_after_task, may_answer_task, refused_task, said_alone, said_node, said_shared, task_said}
 use Rattle.dtm_node.proofs.Performing.{kept_fallen, kept_up, rose_of}
 use Rattle.node_requests.proofs.SaysLemmas.{all_on, alone_down, calm_not_down, down_behind, lines_calm, lines_on, own_calm}
 use Rattle.dtm_node.proofs.Stepping.{IsPlain}

@@ -6,7 +6,7 @@ use Rattle.run_model.specs.World.{Durable, Node}
 use Rattle.volume_model.specs.Volumes.{HasDisk, IsEitherOf}
 use Rattle.recovery_units.specs.Laws.{KeepsNodes}
 use Rattle.node_table.specs.Standing.{IsUp, StandsUp, Up}
-use Rattle.node_requests.specs.Standing.{disk_of}
+use Rattle.node_standing.specs.Standing.{disk_of}
 use Rattle.dtm_node.proofs.DiskLemmas.{Content, disk_sound, idle_leaves}
 
 some_of : {A B : Type 0} (f : A → B) (o : Option A) (y : B) → option_map f o ≡ Some y → is_some o ≡ true

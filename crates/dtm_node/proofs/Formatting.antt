@@ -40,12 +40,12 @@ use Rattle.dtm_node.specs.declared.node.Formatted.{Formatted}
 use Rattle.dtm_node.specs.declared.node.Formatted.TheVariants as formatted
 use Rattle.dtm_node.specs.Causes.{cause_of}
 use Rattle.dtm_node.specs.Formatting.{Formats as FormatsPlace, FormatsDisk, init_answer, init_lines, is_ended, kept_so, unmade_then}
-use Rattle.node_requests.specs.Keeping.{Performs, PerformsRequest}
-use Rattle.node_requests.specs.Standing.{IsDown, IsRunning, Kept, Place, StandsFor, counts_of, disk_in, noted_all}
-use Rattle.node_requests.specs.Holding.{HoldsAs}
+use Rattle.node_standing.specs.Keeping.{Performs, PerformsRequest}
+use Rattle.node_standing.specs.Standing.{IsDown, IsRunning, Kept, Place, StandsFor, counts_of, disk_in, noted_all}
+use Rattle.node_standing.specs.Holding.{HoldsAs}
 use Rattle.dtm_node.proofs.Answered.{calm_answers, fell_answers, refused_answers}
 use Rattle.dtm_node.proofs.Held.{holds_is}
-use Rattle.node_requests.specs.Telling.{AnswersTask, Passes, TellsTask, task_used, powered_task, refused_task, said_alone, said_node, said_shared, task_said}
+use Rattle.node_standing.specs.Telling.{AnswersTask, Passes, TellsTask, task_used, powered_task, refused_task, said_alone, said_node, said_shared, task_said}
 use Rattle.dtm_node.proofs.DiskLemmas.{as_it_was, disk_unknown}
 use Rattle.dtm_node.proofs.Passing.{Unpowers, passes_counts, passes_on, passes_power, passes_same, power_calls, rose_after, rose_down}
 use Rattle.node_requests.proofs.SaysLemmas.{alone_down, same_text}

@@ -14,8 +14,8 @@ use Rattle.dtm_node.specs.declared.boot.Booted.{Booted}
 use Rattle.dtm_node.specs.declared.boot.Booted.TheVariants as booted
 use Rattle.dtm_node.specs.Boots.{AllHave, IsBooted}
 use Rattle.dtm_node.specs.Causes.{cause_of}
-use Rattle.node_requests.specs.Standing.{counts_of}
-use Rattle.node_requests.specs.Holding.{HoldsAs, IsHeldBy}
+use Rattle.node_standing.specs.Standing.{counts_of}
+use Rattle.node_standing.specs.Holding.{HoldsAs, IsHeldBy}
 use Rattle.dtm_node.proofs.DiskLemmas.{Content, idle_alike}
 
 -- what is seen and pending is as it was

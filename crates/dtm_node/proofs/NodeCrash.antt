@@ -14,10 +14,10 @@ use Rattle.node_table.specs.declared.running.Running.{Running}
 use Rattle.dtm_node.specs.declared.node.Node.{Node}
 use Rattle.dtm_node.specs.declared.node.Place as code
 use Rattle.dtm_node.specs.declared.node.Place.TheVariants as code_place
-use Rattle.node_requests.specs.Keeping.{PerformsRequest}
+use Rattle.node_standing.specs.Keeping.{PerformsRequest}
 use Rattle.dtm_node.specs.Nodes.{IsNode, IsPlaceOf, fallen_place, kept_of, place_of}
-use Rattle.node_requests.specs.Standing.{Kept, Place, disk_of, is_up}
-use Rattle.node_requests.specs.Telling.{TellsTask}
+use Rattle.node_standing.specs.Standing.{Kept, Place, disk_of, is_up}
+use Rattle.node_standing.specs.Telling.{TellsTask}
 use Rattle.dtm_node.proofs.Performing.{kept_fallen, kept_up}
 use Rattle.dtm_node.proofs.Simple.{crash_performs, crash_tells}
 

@@ -22,7 +22,7 @@ use Rattle.commit_protocol.specs.Messages.{Message}
 use Rattle.run_model.specs.Answers.{Hears, Task, outcome_told}
 use Rattle.vms_model.specs.Transactions.{Outcome}
 use Rattle.emitter_model.proofs.EmittingLemmas.{emits_nothing, emits_on}
-use Rattle.node_requests.specs.Standing.{IsDown, IsRunning, Kept, Place, disk_of, is_up}
+use Rattle.node_standing.specs.Standing.{IsDown, IsRunning, Kept, Place, disk_of, is_up}
 use Rattle.dtm_node.proofs.Coming.{event_at_down, event_done, event_failed}
 use Rattle.dtm_node.proofs.Falling.{told_up}
 use Rattle.dtm_node.proofs.NodeLemmas.{kept_is_down, kept_is_up}

@@ -20,12 +20,12 @@ use Rattle.dtm_node.specs.declared.node.Parts.{Parts}
 use Rattle.dtm_node.specs.declared.node.Place as code
 use Rattle.dtm_node.specs.declared.node.Place.TheVariants as code_place
 use Rattle.dtm_node.specs.Causes.{cause_of}
-use Rattle.node_requests.specs.Keeping.{PerformsRequest}
+use Rattle.node_standing.specs.Keeping.{PerformsRequest}
 use Rattle.dtm_node.specs.Nodes.{IsNode, IsPlaceOf, MayFall, fallen_place, kept_of}
 use Rattle.node_requests.specs.Requests.{DoesRequest, IsForUp, LacksMemory, MayServe, SaysRequest, said_up}
 use Rattle.node_requests.specs.Running.{name_of}
-use Rattle.node_requests.specs.Standing.{Kept, disk_of}
-use Rattle.node_requests.specs.Telling.{TellsTask}
+use Rattle.node_standing.specs.Standing.{Kept, disk_of}
+use Rattle.node_standing.specs.Telling.{TellsTask}
 use Rattle.dtm_node.proofs.Falling.{told_up}
 use Rattle.dtm_node.proofs.NodeLemmas.{grown_more, kept_is_down, kept_is_up, may_serve, moved_grown}
 use Rattle.dtm_node.proofs.Performing.{kept_fallen, kept_up}

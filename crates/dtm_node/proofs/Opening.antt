@@ -18,12 +18,12 @@ use Rattle.recovery_units.specs.Uses.{Goes, IsCounted}
 use Rattle.node_table.specs.Standing.{Up}
 use Rattle.dtm_node.specs.Boots.{IsAwake, IsBootRefusal, IsRaised}
 use Rattle.dtm_node.specs.Causes.{cause_of}
-use Rattle.node_requests.specs.Keeping.{IsPromised}
+use Rattle.node_standing.specs.Keeping.{IsPromised}
 use Rattle.dtm_node.specs.Opening.{EndsBoot, OpensUp, Wakes, kept_down, used}
-use Rattle.node_requests.specs.Standing.{StandsFor, counts_of, disk_of}
+use Rattle.node_standing.specs.Standing.{StandsFor, counts_of, disk_of}
 use Rattle.dtm_node.proofs.BootEnds.{ends_boot, fallen_end, fallen_rose, lacking_end, refused_end, shares_used}
 use Rattle.dtm_node.proofs.Booting.{boot_fell, boot_lacks, boot_refused, boot_unpowered}
-use Rattle.node_requests.specs.Holding.{HoldsAs}
+use Rattle.node_standing.specs.Holding.{HoldsAs}
 use Rattle.dtm_node.proofs.Held.{holds_is, holds_on, holds_power}
 use Rattle.dtm_node.proofs.Passing.{Unpowers, passes_goes, passes_power, passes_same, power_calls, rose_after}
 use Rattle.dtm_node.proofs.Waking.{powered_kept, wakes}

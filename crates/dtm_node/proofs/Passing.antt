@@ -18,8 +18,8 @@ use Rattle.transcript_model.specs.Lines.{Cause, Failed, Stopped}
 use Rattle.run_model.specs.Steps.{count_of}
 use Rattle.recovery_units.specs.Uses.{Goes, IsCounted}
 use Rattle.dtm_node.specs.Causes.{cause_of}
-use Rattle.node_requests.specs.Standing.{counts_of}
-use Rattle.node_requests.specs.Telling.{Passes}
+use Rattle.node_standing.specs.Standing.{counts_of}
+use Rattle.node_standing.specs.Telling.{Passes}
 
 up : (b : Bool) (n : ℕ) → n < 2 ^ 64 → (n ≤ counted b n) × (counted b n < 2 ^ 64)
 up true n h = (omega arith, omega arith)

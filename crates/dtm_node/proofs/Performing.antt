@@ -20,9 +20,9 @@ use Rattle.run_shared.specs.Sharing.{IsShared, SharedState}
 use Rattle.node_table.specs.Serving.{WasCut, WasRefused, WasServed, rows_at_risk, service_at}
 use Rattle.node_table.specs.Standing.{StandsUp, Up}
 use Rattle.dtm_node.specs.Causes.{cause_of}
-use Rattle.node_requests.specs.Keeping.{Performs}
+use Rattle.node_standing.specs.Keeping.{Performs}
 use Rattle.node_requests.specs.Running.{name_of}
-use Rattle.node_requests.specs.Standing.{IsDown, IsRunning, Kept, StandsFor, counts_of, disk_of, noted_all}
+use Rattle.node_standing.specs.Standing.{IsDown, IsRunning, Kept, StandsFor, counts_of, disk_of, noted_all}
 use Rattle.dtm_node.proofs.Stepping.{IsPlain, step_cut, step_done, step_early, step_lacking, step_late}
 
 -- what is kept of a node that is up, and of one that went down

@@ -21,11 +21,11 @@ use Rattle.run_shared.specs.Sharing.{IsShared, SharedState}
 use Rattle.node_table.specs.Serving.{DoesService, service_at}
 use Rattle.node_table.specs.Standing.{StandsUp, Up}
 use Rattle.dtm_node.specs.Causes.{cause_of}
-use Rattle.node_requests.specs.Keeping.{Performs, PerformsRequest}
+use Rattle.node_standing.specs.Keeping.{Performs, PerformsRequest}
 use Rattle.node_requests.specs.Requests.{DoesRequest, IsForUp, LacksMemory, node_up, said_up}
 use Rattle.node_requests.specs.Running.{name_of}
-use Rattle.node_requests.specs.Standing.{IsDown, Kept, StandsFor, counts_of, disk_of}
-use Rattle.node_requests.specs.Telling.{TellsTask, calls_after_task, said_alone, said_shared}
+use Rattle.node_standing.specs.Standing.{IsDown, Kept, StandsFor, counts_of, disk_of}
+use Rattle.node_standing.specs.Telling.{TellsTask, calls_after_task, said_alone, said_shared}
 use Rattle.dtm_node.proofs.Answered.{calm_answers, fell_answers, may_of, refused_answers, refused_unbroken, served_other, served_unbroken}
 use Rattle.dtm_node.proofs.Held.{holds_is}
 use Rattle.dtm_node.proofs.Coming.{down_performs}

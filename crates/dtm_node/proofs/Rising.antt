@@ -32,8 +32,8 @@ use Rattle.node_table.specs.Telling.{IsOfWork, wire_after}
 use Rattle.dtm_node.specs.Causes.{cause_of}
 use Rattle.dtm_node.specs.Nodes.{last_lines_of, undone_line}
 use Rattle.dtm_node.specs.Opening.{EndsBoot, OpensUp, RaisesTo, ReopensDown, ReopensUp, Rises, RisesHere, answer_up, kept_down, prepared_told, shown_up, used}
-use Rattle.node_requests.specs.Standing.{StandsFor, counts_of, disk_of}
-use Rattle.node_requests.specs.Telling.{Passes}
+use Rattle.node_standing.specs.Standing.{StandsFor, counts_of, disk_of}
+use Rattle.node_standing.specs.Telling.{Passes}
 use Rattle.node_requests.specs.TheLaws.{TheLaws}
 use Rattle.dtm_node.proofs.BootEnds.{each_boot, early_boot, early_restart, ends_boot, fallen_end, fallen_rose, shares_used}
 use Rattle.dtm_node.proofs.Booting.{boot_broke, boot_risen, risen_stands}

@@ -15,10 +15,10 @@ use Rattle.run_model.specs.Steps.{NodeStep}
 use Rattle.recovery_units.specs.Laws.{KeepsNodes}
 use Rattle.run_shared.specs.Sharing.{SharedState}
 use Rattle.node_table.specs.Standing.{IsUp, Up}
-use Rattle.node_requests.specs.Keeping.{PerformsRequest, PerformsTask}
+use Rattle.node_standing.specs.Keeping.{PerformsRequest, PerformsTask}
 use Rattle.node_requests.specs.Running.{name_of}
-use Rattle.node_requests.specs.Standing.{IsDown, IsRunning, Kept, Place, StandsFor, StandsIn, counts_of, disk_in, disk_of, is_up}
-use Rattle.node_requests.specs.Telling.{TellsTask, said_shared}
+use Rattle.node_standing.specs.Standing.{IsDown, IsRunning, Kept, Place, StandsFor, StandsIn, counts_of, disk_in, disk_of, is_up}
+use Rattle.node_standing.specs.Telling.{TellsTask, said_shared}
 use Rattle.said_steps.proofs.Falls.{falls_none}
 use Rattle.dtm_node.proofs.Answered.{refused_answers}
 use Rattle.dtm_node.proofs.Held.{holds_is}

@@ -9,7 +9,7 @@ use Rattle.statement_steps.specs.Settling.{question_of}
 use Rattle.vms_model.specs.Ids.{Id}
 use Rattle.dtm_node.specs.declared.node.Flow.{Flow}
 use Rattle.dtm_node.specs.declared.node.Flow.TheVariants as flow
-use Rattle.node_requests.specs.Standing.{IsDown, IsRunning, Place}
+use Rattle.node_standing.specs.Standing.{IsDown, IsRunning, Place}
 
 -- whether a statement was ended and answered
 abbrev pub is_over : Flow → Bool

@@ -23,9 +23,9 @@ use Rattle.recovery_units.specs.Calls.{IsRestarting}
 use Rattle.recovery_units.specs.Uses.{IsCounted}
 use Rattle.dtm_node.specs.declared.boot.Booted.{Booted}
 use Rattle.dtm_node.specs.declared.boot.Booted.TheVariants as booted
-use Rattle.node_requests.specs.Standing.{counts_of}
+use Rattle.node_standing.specs.Standing.{counts_of}
 use Rattle.dtm_node.specs.Causes.{cause_of}
-use Rattle.node_requests.specs.Holding.{HoldsAs}
+use Rattle.node_standing.specs.Holding.{HoldsAs}
 use Rattle.said_steps.specs.Calls.{is_boot_refusal}
 
 abbrev pub disk_booted : {D : Type 0} → (D → DiskState) → Booted D → DiskState

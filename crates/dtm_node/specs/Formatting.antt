@@ -10,9 +10,9 @@ use Rattle.run_shared.specs.Sharing.{SharedState}
 use Rattle.dtm_node.specs.declared.node.Formatted.{Formatted}
 use Rattle.dtm_node.specs.declared.node.Formatted.TheVariants as formatted
 use Rattle.dtm_node.specs.Causes.{cause_of}
-use Rattle.node_requests.specs.Keeping.{PerformsTask}
-use Rattle.node_requests.specs.Standing.{IsDown, IsRunning, Kept, Place}
-use Rattle.node_requests.specs.Telling.{TellsTask}
+use Rattle.node_standing.specs.Keeping.{PerformsTask}
+use Rattle.node_standing.specs.Standing.{IsDown, IsRunning, Kept, Place}
+use Rattle.node_standing.specs.Telling.{TellsTask}
 
 -- what it shows and is answered
 abbrev pub init_lines : List ℕ → Formatted → List Line

@@ -18,7 +18,7 @@ use Rattle.dtm_node.specs.declared.node.Parts.{Parts}
 use Rattle.dtm_node.specs.declared.node.Place as code
 use Rattle.dtm_node.specs.declared.node.Place.TheVariants as code_place
 use Rattle.node_requests.specs.Running.{HasGrown}
-use Rattle.node_requests.specs.Standing.{IsDown, IsRunning, Kept, Place, disk_in, disk_of}
+use Rattle.node_standing.specs.Standing.{IsDown, IsRunning, Kept, Place, disk_in, disk_of}
 
 -- what stands over the disk
 abbrev pub place_of : {D U : Type 0} → (D → DiskState) → (U → UnitsState) → code.Place D U → Place

@@ -34,11 +34,11 @@ use Rattle.dtm_node.specs.declared.node.Opened.{Opened}
 use Rattle.dtm_node.specs.declared.node.Opened.TheVariants as opened
 use Rattle.dtm_node.specs.Boots.{IsAwake, IsRaised}
 use Rattle.dtm_node.specs.Causes.{cause_of}
-use Rattle.node_requests.specs.Keeping.{IsPromised, PerformsTask}
+use Rattle.node_standing.specs.Keeping.{IsPromised, PerformsTask}
 use Rattle.dtm_node.specs.Nodes.{last_lines_of, undone_line}
 use Rattle.node_requests.specs.Running.{HasGrown}
-use Rattle.node_requests.specs.Standing.{IsDown, IsRunning, Kept, Place, StandsFor, counts_of, disk_in, disk_of, is_up}
-use Rattle.node_requests.specs.Telling.{Passes, TellsTask}
+use Rattle.node_standing.specs.Standing.{IsDown, IsRunning, Kept, Place, StandsFor, counts_of, disk_in, disk_of, is_up}
+use Rattle.node_standing.specs.Telling.{Passes, TellsTask}
 
 -- whether a task boots a node
 abbrev pub boots_node : Task → Bool

@@ -12,8 +12,8 @@ use Rattle.run_laws.specs.Laws.{AgreedPromisesAreKept, PromisesAreKept}
 use Rattle.manager_laws.specs.Promises.{ManagerPromisesHold}
 use Rattle.run_said.specs.Said.{Said, said_of}
 use Rattle.run_shared.specs.Sharing.{SharedState}
-use Rattle.node_requests.specs.Standing.{Kept, counts_of}
-use Rattle.node_requests.specs.Telling.{Passes}
+use Rattle.node_standing.specs.Standing.{Kept, counts_of}
+use Rattle.node_standing.specs.Telling.{Passes}
 use Rattle.run_nodes.specs.Calls.{LineTellsAll}
 use Rattle.run_nodes.specs.Names.{AreApart}
 use Rattle.run_nodes.proofs.Telling.{passes_same}

@@ -23,7 +23,7 @@ use Rattle.dtm_node.specs.declared.node.Node as node
 use Rattle.dtm_node.specs.declared.node.Place as place
 use Rattle.dtm_node.specs.declared.node.Place.TheVariants as at
 use Rattle.dtm_node.specs.Nodes.{IsPlaceOf, place_of}
-use Rattle.node_requests.specs.Standing.{Kept, StandsIn, disk_in, noted_all}
+use Rattle.node_standing.specs.Standing.{Kept, StandsIn, disk_in, noted_all}
 use Rattle.run_nodes.specs.Held.{AreNodesIn}
 use Rattle.run_nodes.specs.Together.{StandAll, StandsTogether, disks_of, said_together}
 use Rattle.run_nodes.specs.Told.{kept_names}

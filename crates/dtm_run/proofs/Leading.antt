@@ -20,8 +20,8 @@ use Rattle.run_model.proofs.NodeLists.{some_is}
 use Rattle.run_said.specs.Said.{Said, SaidLabel, answer_said, line_said, lines_said, nothing_said, request_said, said_here}
 use Rattle.run_shared.specs.Sharing.{SharedState}
 use Rattle.world_laws.specs.Nodes.{NodesAreKept}
-use Rattle.node_requests.specs.Standing.{Kept, Place, IsDown, IsRunning, StandsIn, counts_of, disk_in, is_up, noted_all}
-use Rattle.node_requests.specs.Telling.{said_label, said_node}
+use Rattle.node_standing.specs.Standing.{Kept, Place, IsDown, IsRunning, StandsIn, counts_of, disk_in, is_up, noted_all}
+use Rattle.node_standing.specs.Telling.{said_label, said_node}
 use Rattle.statement_steps.specs.Doing.{AllKept}
 use Rattle.statement_steps.proofs.Keeping.{all_kept}
 use Rattle.statement_steps.proofs.Places.{find_at}

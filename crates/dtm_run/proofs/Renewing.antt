@@ -14,7 +14,7 @@ use Rattle.run_said.specs.Said.{Said}
 use Rattle.volume_model.specs.Volumes.{HasDisk, IsEitherOf, IsLeftBy, LeavesVolume}
 use Rattle.recovery_units.specs.Uses.{IsCounted}
 use Rattle.dtm_node.proofs.DiskLemmas.{DiskBy}
-use Rattle.node_requests.specs.Standing.{IsDown, IsRunning, Kept, Place, StandsIn, disk_in}
+use Rattle.node_standing.specs.Standing.{IsDown, IsRunning, Kept, Place, StandsIn, disk_in}
 use Rattle.run_nodes.specs.Calls.{LineTellsAll}
 use Rattle.run_nodes.specs.Together.{StandAll, disks_of}
 use Rattle.run_nodes.specs.Told.{kept_names}

@@ -19,7 +19,7 @@ use Rattle.world_laws.specs.Nodes.{IsKeptDisk, IsKeptNode, IsOf, NodesAreKept, o
 use Rattle.world_laws.proofs.NodeLemmas.{acted_disk, acted_name, kept_as, powered_ready}
 use Rattle.volume_model.specs.Volumes.{HasBarred, IsLeftBy, half_done}
 use Rattle.volume_laws.specs.Falls.{VolumeFalls}
-use Rattle.node_requests.specs.Standing.{counts_of}
+use Rattle.node_standing.specs.Standing.{counts_of}
 use Rattle.dtm_node.proofs.DiskLemmas.{DiskBy, have_disk}
 use Rattle.dtm_run.specs.Headline.{IsVolumeOf, LeaveNodes, LeavesNode, StandOn, StandsOn}
 use Rattle.run_chains.specs.Chains.{AreNext, IsNext}

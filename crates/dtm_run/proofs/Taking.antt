@@ -8,8 +8,8 @@ use Rattle.run_said.specs.Said.{nothing_said}
 use Rattle.run_shared.specs.Sharing.{SharedState}
 use Rattle.run_model.proofs.NodeLists.{some_is}
 use Rattle.dtm_node.specs.Nodes.{IsNode, kept_of}
-use Rattle.node_requests.specs.Standing.{Kept, disk_in}
-use Rattle.node_requests.specs.Telling.{said_node}
+use Rattle.node_standing.specs.Standing.{Kept, disk_in}
+use Rattle.node_standing.specs.Telling.{said_node}
 use Rattle.dtm_node.specs.declared.node.Node.{Node}
 use Rattle.run_nodes.specs.Held.{AreNodesIn}
 use Rattle.run_nodes.specs.Names.{AreApart, is_among}

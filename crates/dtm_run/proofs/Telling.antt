@@ -11,7 +11,7 @@ use Rattle.run_said.specs.Said.{Said, nothing_said, said_here, said_of}
 use Rattle.run_model.specs.Transcript as model
 use Rattle.run_model.specs.Transcript.{Entry}
 use Rattle.run_shared.specs.Sharing.{SharedState}
-use Rattle.node_requests.specs.Standing.{Kept}
+use Rattle.node_standing.specs.Standing.{Kept}
 use Rattle.run_nodes.specs.Calls.{LineFollows, LineTellsAll}
 use Rattle.day_run.specs.Tells.{EntriesTell}
 use Rattle.run_nodes.specs.Together.{AnswersTogether, disks_of, said_together}

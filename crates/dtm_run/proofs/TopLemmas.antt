@@ -12,7 +12,7 @@ use Rattle.run_model.proofs.NodeLists.{some_is}
 use Rattle.run_laws.specs.Laws.{AgreedPromisesAreKept, PromisesAreKept}
 use Rattle.manager_laws.specs.Promises.{ManagerPromisesHold}
 use Rattle.recovery_runs.specs.Promises.{RecoveryPromisesHold}
-use Rattle.node_requests.specs.Standing.{counts_of, noted_all}
+use Rattle.node_standing.specs.Standing.{counts_of, noted_all}
 use Rattle.run_nodes.specs.Names.{AreApart}
 use Rattle.run_nodes.proofs.Places.{apart_nodes}
 use Rattle.dtm_run.specs.Racks.{names_in, states_in, AreSized, IsRack}

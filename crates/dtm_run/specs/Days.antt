@@ -7,7 +7,7 @@ use Rattle.run_model.specs.Transcript.{Entry, Legal}
 use Rattle.run_laws.specs.Laws.{AgreedPromises}
 use Rattle.run_laws.specs.Promises.{KeptPromises}
 use Rattle.manager_laws.specs.Promises.{ManagerPromises}
-use Rattle.node_requests.specs.Standing.{counts_of}
+use Rattle.node_standing.specs.Standing.{counts_of}
 use Rattle.day_model.specs.Days.{DayEnds}
 use Rattle.day_run.specs.Tells.{EntriesTell}
 use Rattle.dtm_run.specs.Headline.{Leaves}

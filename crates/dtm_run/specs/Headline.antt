@@ -17,12 +17,12 @@ use Rattle.run_laws.specs.Laws.{AgreedPromises}
 use Rattle.run_laws.specs.Promises.{KeptPromises}
 use Rattle.manager_laws.specs.Promises.{ManagerPromises}
 use Rattle.recovery_runs.specs.Promises.{RecoveryPromises}
-use Rattle.node_requests.specs.Telling.{Passes}
+use Rattle.node_standing.specs.Telling.{Passes}
 use Rattle.volume.specs.declared.catalog.Catalog.{Catalog}
 use Rattle.volume.specs.Catalogs.{IsSound, TellsCatalog}
 use Rattle.volume_model.specs.Volumes.{HasDisk, HasVolume}
 use Rattle.recovery_units.specs.Uses.{IsCounted}
-use Rattle.node_requests.specs.Standing.{counts_of, noted_all}
+use Rattle.node_standing.specs.Standing.{counts_of, noted_all}
 use Rattle.dtm_run.specs.declared.top.Exit.{Exit}
 use Rattle.dtm_run.specs.declared.top.Exit.TheVariants as exit
 

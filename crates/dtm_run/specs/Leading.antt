@@ -15,8 +15,8 @@ use Rattle.run_laws.specs.Promises.{KeptPromises}
 use Rattle.manager_laws.specs.Promises.{ManagerPromises}
 use Rattle.recovery_runs.specs.Promises.{RecoveryPromises}
 use Rattle.run_said.specs.Said.{Said, SaidNode, is_settling, said_here}
-use Rattle.node_requests.specs.Standing.{counts_of}
-use Rattle.node_requests.specs.Telling.{said_label}
+use Rattle.node_standing.specs.Standing.{counts_of}
+use Rattle.node_standing.specs.Telling.{said_label}
 use Rattle.run_nodes.specs.Calls.{LineFollows, LineTellsAll}
 use Rattle.run_nodes.specs.Untold.{BootsUnknown}
 use Rattle.dtm_run.specs.Headline.{AllGo, KeepsAgreed, Leaves, StandOn, WholeRun, exit_of, is_known}

@@ -8,7 +8,7 @@ use Rattle.run_model.specs.Transcript.{AreOpening, Entry, Legal}
 use Rattle.run_agreement.specs.Laws.{NamesApart}
 use Rattle.run_chains.specs.Chains.{AreNext, IsNext}
 use Rattle.recovery_units.specs.Uses.{IsCounted}
-use Rattle.node_requests.specs.Standing.{counts_of}
+use Rattle.node_standing.specs.Standing.{counts_of}
 use Rattle.dtm_run.specs.Headline.{LeaveNodes, LeavesNode, StandOn, StandsOn}
 
 -- The disk of the next run has one of the images that a power loss may leave of the disk of this one, and nothing is pending on it. It has 4,096 blocks or more,

@@ -4,7 +4,7 @@ use Rattle.block_disk.specs.Disk.{DiskState}
 use Rattle.recovery_units.specs.State.{UnitsState}
 use Rattle.run_shared.specs.Sharing.{SharedState}
 use Rattle.dtm_node.specs.Nodes.{IsNode, kept_of}
-use Rattle.node_requests.specs.Standing.{IsDown, Kept}
+use Rattle.node_standing.specs.Standing.{IsDown, Kept}
 use Rattle.dtm_node.specs.declared.node.Node.{Node}
 
 -- what is kept of a node that was not booted yet

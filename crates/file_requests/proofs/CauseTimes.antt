@@ -18,7 +18,8 @@ use Rattle.volume.specs.State.{VolumeState}
 use Rattle.node_files.proofs.CatalogLemmas.{head_below}
 use Rattle.directory_model.specs.Files.{head_at}
 use Rattle.recovery_units.specs.State.{IsInOrder, UnitsState}
-use Rattle.file_requests.specs.Recovering.{CanTell, HasTimes}
+use Rattle.file_requests.specs.Recovering.{HasTimes}
+use Rattle.node_standing.specs.Moments.{CanTell}
 
 -- the moments of the cause that there is
 abbrev Times : Way → Option RecoverErr → Type 0

@@ -8,7 +8,6 @@ use Rattle.file_recoveries.specs.declared.errors.RecoverErr.{RecoverErr}
 use Rattle.file_recoveries.specs.declared.errors.RecoverErr.TheVariants as err
 use Rattle.run_model.specs.Answers.{Service}
 use Rattle.run_model.specs.World.{Node, Shared}
-use Rattle.script_model.specs.Statements.{Recovery, Forward, Backward}
 use Rattle.transcript_model.specs.Lines as line
 use Rattle.transcript_model.specs.Lines.{Line}
 use Rattle.vms_model.specs.Times.{CanBeWritten}
@@ -19,12 +18,6 @@ use Rattle.node_table.specs.Standing.{Stored}
 use Rattle.file_requests.specs.Serving.{IsReady, SameStored, ServesFile}
 use Rattle.file_requests.specs.declared.recovery.Reply.{Reply}
 use Rattle.file_requests.specs.declared.recovery.Reply.TheVariants.{Told, NoMemory}
-
--- the moment of a recovery can be shown
-abbrev pub CanTell : Recovery → Type 0
-CanTell (Forward None) = Unit {0}
-CanTell (Forward (Some until)) = CanBeWritten until
-CanTell (Backward until) = CanBeWritten until
 
 -- the moments that a cause tells can be shown
 abbrev pub HasTimes : Way → RecoverErr → Type 0

@@ -6,7 +6,8 @@ ghost use Rattle.script_model.specs.Statements as said;
 ghost use Rattle.run_model.specs.Answers.{service, way_of as model_way};
 ghost use Rattle.recovery_units.specs.State.{IsEarly, IsInOrder};
 ghost use Rattle.node_table.specs.Code.{stored_of};
-ghost use Rattle.file_requests.specs.Recovering.{CanTell, HasTimes, Recovers, Tells};
+ghost use Rattle.file_requests.specs.Recovering.{HasTimes, Recovers, Tells};
+ghost use Rattle.node_standing.specs.Moments.{CanTell};
 
 use crate::finding::find_file;
 use crate::law::the_laws;

@@ -2,6 +2,7 @@ pub mod Taking
 pub mod TasksTake
 pub mod Worlds
 pub mod Declared
+pub mod Asking
 pub mod Requests
 pub mod Unreplied
 pub mod Replied

@@ -3,17 +3,19 @@ use Rattle.std.specs.Prelude.{◌≡◌, ℕ, List, true, Some}
 use Rattle.run_model.specs.World.{Node, World, find_node}
 use Rattle.run_model.specs.Transcript.{Entry, InAllRuns}
 use Rattle.run_laws.specs.Vetoing.{VetoesAbort}
+use Rattle.manager_laws.specs.Asking.{PendingAreAsked}
 use Rattle.manager_laws.specs.Joined.{AreDeclared}
 use Rattle.manager_laws.specs.Replying.{LeavesForget, RepliesComeFirst}
 use Rattle.manager_laws.specs.Telling.{AbortsAreTold, CommitsAreRetold, CommitsAreTold, DeclaresShow}
 
 -- What is kept by the entries of a legal transcript, which lead from the opening world to the closing one: no reply is missing where a branch is prepared, leaves or
--- is committed, and where one leaves each is FORGET; what managers are told of an outcome is so; a commitment that a manager was told each later DECLARE_RM tells it,
--- until a line has it reply FORGET there; a veto aborts; and each manager of an unsettled branch that is not prepared is declared in the closing world, where its node
--- is up.
+-- is committed, and where one leaves each is FORGET; an END_TRANS that is answered so names just the managers that it asks; what managers are told of an outcome is so;
+-- a commitment that a manager was told each later DECLARE_RM tells it, until a line has it reply FORGET there; a veto aborts; and each manager of an unsettled branch
+-- that is not prepared is declared in the closing world, where its node is up.
 pub record ManagerPromises (opening : World) (es : List Entry) (closing : World) : Type 0 where
   pub replies : RepliesComeFirst opening es
   pub leaves : LeavesForget es
+  pub asked : PendingAreAsked es
   pub commits : CommitsAreTold opening es closing
   pub aborts : AbortsAreTold es closing
   pub declares : DeclaresShow es

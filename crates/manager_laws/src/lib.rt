@@ -3,6 +3,7 @@
 //! The crate has definitions and laws, and nothing that runs. `specs/Promises` has all of them in one record, with one of `run_laws`.
 #![tactic(auto)]
 
+ghost use Rattle.manager_laws.specs.Asking.{PendingAskedHold};
 ghost use Rattle.manager_laws.specs.Joined.{JoinedAreDeclared};
 ghost use Rattle.manager_laws.specs.Promises.{ManagerPromisesHold};
 ghost use Rattle.manager_laws.specs.Replying.{LeavesHold, RepliesHold};
@@ -21,6 +22,12 @@ pub fn joined_are_declared()
 pub fn replies_come_first()
     ensures replies { RepliesHold }
     ensures leaves { LeavesHold }
+{}
+
+/// In every legal transcript an END_TRANS that is answered PENDING names just the resource managers that it asks for their replies: each that it names
+/// has the event PREPARE or ONEPHASE among its lines, of the first branch of the transaction, and it shows no event of another manager.
+pub fn pending_are_asked()
+    ensures { PendingAskedHold }
 {}
 
 /// In every legal transcript what a resource manager is told of the outcome of a branch is its outcome, over all stops and restarts. An event COMMIT

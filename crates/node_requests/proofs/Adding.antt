@@ -23,7 +23,7 @@ use Rattle.node_table.specs.Standing.{IsUp, StandsUp, Up}
 use Rattle.node_requests.specs.Labelled.{branch_in, made_in, unsettled_in}
 use Rattle.node_requests.specs.Requests.{DoesRequest, node_up}
 use Rattle.node_requests.specs.Running.{name_of}
-use Rattle.node_requests.specs.Telling.{said_shared}
+use Rattle.node_standing.specs.Telling.{said_shared}
 use Rattle.node_requests.specs.Transacting.{new_in}
 use Rattle.node_requests.proofs.Drawing.{add_acts, add_told, id_next, new_is, next_is, with_drawn}
 use Rattle.node_requests.proofs.Ending.{first_parts, first_there}

@@ -20,8 +20,8 @@ use Rattle.node_table.specs.Growing.{end_to_come, moment_to_come}
 use Rattle.node_table.specs.Serving.{DoesService, service_at}
 use Rattle.node_table.specs.Standing.{IsUp, StandsUp, Stored, Up}
 use Rattle.node_requests.specs.Requests.{DoesRequest, KeepsRequest, MayServe, SaysRequest, ServesUp, node_up}
-use Rattle.node_requests.specs.Standing.{disk_of}
-use Rattle.node_requests.specs.Telling.{said_shared}
+use Rattle.node_standing.specs.Standing.{disk_of}
+use Rattle.node_standing.specs.Telling.{said_shared}
 use Rattle.node_requests.proofs.Asides.{AreAside, IsAside, aside_create, aside_lines, aside_records, aside_rows, keeps_beside, service_as, stands_aside, stands_still}
 use Rattle.node_requests.proofs.Saying.{IsStillRequest, says_replies}
 

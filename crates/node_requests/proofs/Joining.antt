@@ -26,7 +26,7 @@ use Rattle.node_table.specs.Standing.{IsUp, StandsUp, Up}
 use Rattle.node_requests.specs.Labelled.{branch_in, made_in, unsettled_in}
 use Rattle.node_requests.specs.Requests.{DoesRequest, node_up}
 use Rattle.node_requests.specs.Running.{name_of}
-use Rattle.node_requests.specs.Telling.{said_label, said_shared}
+use Rattle.node_standing.specs.Telling.{said_label, said_shared}
 use Rattle.node_requests.specs.Transacting.{IsQuota, more_in}
 use Rattle.node_requests.proofs.Drawing.{begin_acts, begin_told, id_next, more_is, next_free, next_is, with_drawn}
 use Rattle.node_requests.proofs.Labels.{made_says}

@@ -15,7 +15,7 @@ use Rattle.run_model.specs.World as world
 use Rattle.run_model.specs.World.{Label, Node, find_branch, find_label, serial_labelled}
 use Rattle.node_table.proofs.Branching.{told_serial}
 use Rattle.node_requests.specs.Labelled.{branch_at, branch_in, made_in}
-use Rattle.node_requests.specs.Telling.{said_label}
+use Rattle.node_standing.specs.Telling.{said_label}
 
 -- a label is found among those that were said as among those that were made
 pub said_found : (name : List ℕ) (ls : List Label) → find_said name (map said_label ls) ≡ option_map said_label (find_label name ls)

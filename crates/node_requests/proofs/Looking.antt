@@ -19,7 +19,7 @@ use Rattle.node_table.specs.Standing.{IsUp, StandsUp, Up}
 use Rattle.node_table.specs.Telling.{IsOfWork}
 use Rattle.node_requests.specs.Requests.{DoesRequest, node_up, said_up}
 use Rattle.node_requests.specs.Running.{name_of}
-use Rattle.node_requests.specs.Telling.{said_shared}
+use Rattle.node_standing.specs.Telling.{said_shared}
 
 -- What such a statement is at a node of the world: nothing refuses it, it shows these lines and this answer, shares nothing new, and leaves the node so that these
 -- managers are declared.

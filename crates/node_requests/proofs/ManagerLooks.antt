@@ -20,7 +20,7 @@ use Rattle.node_table.specs.Standing.{IsUp, StandsUp, Up}
 use Rattle.node_requests.specs.Managers.{known_at, made_of, serial_in}
 use Rattle.node_requests.specs.Requests.{DoesRequest, node_up}
 use Rattle.node_requests.specs.Running.{name_of}
-use Rattle.node_requests.specs.Telling.{said_shared}
+use Rattle.node_standing.specs.Telling.{said_shared}
 use Rattle.node_requests.proofs.Looking.{Looks, log_still, log_work, looks, owed_still, owed_work, shown_lines, shown_node, shown_shared, stands_declared, with_declared}
 use Rattle.node_requests.proofs.ManagerStatements.{by_lines, known_is, unrefused}
 use Rattle.node_requests.proofs.Statements.{branches_are, made_name_is}

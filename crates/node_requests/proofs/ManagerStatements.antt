@@ -36,7 +36,7 @@ use Rattle.node_requests.specs.Labelled.{made_in}
 use Rattle.node_requests.specs.Managers.{known_at, made_of, serial_in, unheard_in, without_serial}
 use Rattle.node_requests.specs.Requests.{DoesRequest, node_up}
 use Rattle.node_requests.specs.Running.{name_of}
-use Rattle.node_requests.specs.Telling.{said_label, said_shared}
+use Rattle.node_standing.specs.Telling.{said_label, said_shared}
 use Rattle.node_table.proofs.Branching.{told_serial}
 use Rattle.node_requests.proofs.Labels.{branch_found}
 use Rattle.node_requests.proofs.Statements.{branches_are, made_name_either, made_name_is, made_name_says, name_is, row_of}

@@ -38,7 +38,7 @@ use Rattle.node_table.specs.Growing.{end_to_come, groups_left, moment_to_come}
 use Rattle.node_table.specs.Standing.{AreInDoubt, Follows, IsUp, NamesPrepared, StandsUp, Stored, Up, standing}
 use Rattle.node_requests.specs.Operating.{DoesUp, OperatesAlone, OperatesFor}
 use Rattle.node_requests.specs.Requests.{HasMoved, KeepsRequest, MayServe, noted, with_noted}
-use Rattle.node_requests.specs.Standing.{disk_of}
+use Rattle.node_standing.specs.Standing.{disk_of}
 use Rattle.node_requests.proofs.Asides.{IsAside, aside_directs, keeps_beside, service_as, stands_aside, stands_still}
 use Rattle.node_table.proofs.Branching.{told_serial}
 use Rattle.node_requests.proofs.Noted.{alike_noted, doubt_alike, later_branches, later_groups, names_alike, noted_changed, noted_same, standing_alike, told_alike, within_noted}

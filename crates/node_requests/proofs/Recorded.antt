@@ -33,8 +33,8 @@ use Rattle.node_table.specs.Standing.{IsUp, StandsUp, Up}
 use Rattle.node_requests.specs.Labelled.{branch_at, made_in}
 use Rattle.node_requests.specs.Operating.{DoesUp, OperatesAlone, OperatesFor}
 use Rattle.node_requests.specs.Requests.{DoesRequest, node_up}
-use Rattle.node_requests.specs.Standing.{disk_of}
-use Rattle.node_requests.specs.Telling.{said_shared}
+use Rattle.node_standing.specs.Standing.{disk_of}
+use Rattle.node_standing.specs.Telling.{said_shared}
 use Rattle.node_requests.proofs.Asides.{keeps_same, service_as}
 use Rattle.node_requests.proofs.Operated.{active_only}
 use Rattle.node_requests.proofs.Labels.{branch_found, labelled_branch, made_says}

@@ -17,7 +17,7 @@ use Rattle.node_table.proofs.Rows.{goes_same}
 use Rattle.node_table.specs.Standing.{Stored, Up}
 use Rattle.run_shared.specs.Sharing.{SharedState}
 use Rattle.node_requests.specs.Requests.{AnswersRequest, KeepsRequest, LacksMemory, MayServe}
-use Rattle.node_requests.specs.Standing.{disk_of}
+use Rattle.node_standing.specs.Standing.{disk_of}
 use Rattle.node_requests.proofs.Asides.{aside_file, stands_still}
 use Rattle.node_requests.proofs.FileServices.{ready_of, serves_files}
 

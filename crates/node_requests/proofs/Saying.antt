@@ -12,7 +12,7 @@ use Rattle.run_shared.specs.Sharing.{SharedState}
 use Rattle.file_requests.specs.Replying.{IsQuiet, Replies, RepliesIf, ShowsQuietly}
 use Rattle.node_table.specs.Telling.{IsOfWork}
 use Rattle.node_requests.specs.Requests.{SaysRequest, node_up, said_up}
-use Rattle.node_requests.specs.Telling.{said_shared}
+use Rattle.node_standing.specs.Telling.{said_shared}
 
 pub quiet_work : (l : Line) → IsQuiet l → IsOfWork l
 quiet_work (line.Sent number m) h = let no : ⊥ = cc in absurd no

@@ -22,7 +22,7 @@ use Rattle.node_table.specs.Running.{KeepsUp, TellsRows}
 use Rattle.node_table.specs.Standing.{IsUp, StandsUp, Up}
 use Rattle.node_requests.specs.Requests.{DoesRequest, node_up}
 use Rattle.node_requests.specs.Running.{name_of}
-use Rattle.node_requests.specs.Telling.{said_label, said_shared}
+use Rattle.node_standing.specs.Telling.{said_label, said_shared}
 use Rattle.node_requests.specs.Transacting.{IsQuota, due_in, more_in, new_in}
 use Rattle.node_requests.proofs.Drawing.{id_next, more_is, new_is, next_free, next_is, start_acts, start_told, with_drawn}
 use Rattle.node_requests.proofs.Labels.{said_found}

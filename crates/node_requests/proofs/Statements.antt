@@ -33,7 +33,7 @@ use Rattle.node_requests.specs.Labelled.{branch_at, branch_in, made_in, unsettle
 use Rattle.node_requests.specs.Managers.{made_of}
 use Rattle.node_requests.specs.Requests.{DoesRequest, node_up}
 use Rattle.node_requests.specs.Running.{name_of}
-use Rattle.node_requests.specs.Telling.{said_label, said_shared}
+use Rattle.node_standing.specs.Telling.{said_label, said_shared}
 use Rattle.node_requests.specs.Transacting.{named_in, unnamed_in}
 use Rattle.node_requests.proofs.Labels.{branch_found, labelled_branch, made_says}
 use Rattle.node_requests.proofs.Transacting.{IsToldBy, first_more, first_none, refuses, told_fails, told_serves}

@@ -30,8 +30,8 @@ use Rattle.node_table.specs.Standing.{IsUp, StandsUp, Stored, Up}
 use Rattle.node_table.specs.Telling.{IsOfWork, wire_after}
 use Rattle.node_requests.specs.Requests.{DoesRequest, HasMoved, KeepsRequest, node_up, said_up}
 use Rattle.node_requests.specs.Running.{name_of}
-use Rattle.node_requests.specs.Standing.{disk_of}
-use Rattle.node_requests.specs.Telling.{said_shared}
+use Rattle.node_standing.specs.Standing.{disk_of}
+use Rattle.node_standing.specs.Telling.{said_shared}
 use Rattle.node_requests.proofs.SaysLemmas.{lines_calm}
 
 -- The first of several causes.

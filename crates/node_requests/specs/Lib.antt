@@ -1,7 +1,3 @@
-pub mod Standing
-pub mod Keeping
-pub mod Holding
-pub mod Telling
 pub mod Running
 pub mod Requests
 pub mod Labelled

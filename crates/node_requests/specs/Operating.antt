@@ -13,7 +13,7 @@ use Rattle.file_requests.specs.Replying.{RepliesIf}
 use Rattle.node_table.specs.Serving.{DoesService, ServiceAt}
 use Rattle.node_table.specs.Standing.{StandsUp, Up}
 use Rattle.node_requests.specs.Requests.{KeepsRequest}
-use Rattle.node_requests.specs.Standing.{disk_of}
+use Rattle.node_standing.specs.Standing.{disk_of}
 
 -- this is the serial that is told, and its branch may change records
 abbrev pub IsWorkingAt : Option Id → (serial : Id) → List Branch → Type 0

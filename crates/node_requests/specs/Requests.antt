@@ -17,15 +17,15 @@ use Rattle.run_shared.specs.Sharing.{IsShared, SharedState}
 use Rattle.world_laws.specs.Nodes.{IsKeptNode}
 use Rattle.recovery_units.specs.State.{has_changed_by}
 use Rattle.recovery_units.specs.Uses.{Caused, Goes, down_of}
-use Rattle.file_requests.specs.Recovering.{CanTell}
+use Rattle.node_standing.specs.Moments.{CanTell}
 use Rattle.file_requests.specs.declared.recovery.Reply.{Reply}
 use Rattle.file_requests.specs.declared.recovery.Reply.TheVariants.{Told, NoMemory}
 use Rattle.node_table.specs.Growing.{end_to_come, moment_to_come}
 use Rattle.node_table.specs.Serving.{DoesService, service_at}
 use Rattle.node_table.specs.Standing.{IsUp, StandsUp, Up}
 use Rattle.node_table.specs.Telling.{IsOfWork}
-use Rattle.node_requests.specs.Standing.{disk_of}
-use Rattle.node_requests.specs.Telling.{said_shared}
+use Rattle.node_standing.specs.Standing.{disk_of}
+use Rattle.node_standing.specs.Telling.{said_shared}
 
 -- what is asked of a node that is up before a request: numbers that only grow are far from their ends
 pub record MayServe (clock : ℕ) (r : Up) : Type 0 where
@@ -119,11 +119,6 @@ IsReserved Crash = ⊥
 IsReserved (Clock now) = ⊥
 IsReserved (Recover file way) = ⊥
 IsReserved request = Unit {0}
-
--- the moment up to which a request recovers a file can be shown
-abbrev pub CanBeTold : Request → Type 0
-CanBeTold (Recover file way) = CanTell way
-CanBeTold request = Unit {0}
 
 -- one on a transaction, on a resource manager, on how a branch stands, or on the transaction log
 abbrev pub IsOfTransaction : Request → Type 0

@@ -8,9 +8,9 @@ use Rattle.run_model.specs.Answers.{Hears, LosesLink, Restarts, RunsDown, Serves
 use Rattle.run_shared.specs.Sharing.{SharedState}
 use Rattle.node_table.specs.Growing.{end_to_come, moment_to_come}
 use Rattle.node_table.specs.Standing.{Up}
-use Rattle.node_requests.specs.Keeping.{PerformsTask}
-use Rattle.node_requests.specs.Standing.{Kept, is_up}
-use Rattle.node_requests.specs.Telling.{TellsTask}
+use Rattle.node_standing.specs.Keeping.{PerformsTask}
+use Rattle.node_standing.specs.Standing.{Kept, is_up}
+use Rattle.node_standing.specs.Telling.{TellsTask}
 
 -- the name of a node that is up
 abbrev pub name_of : Up → List ℕ

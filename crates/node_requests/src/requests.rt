@@ -15,7 +15,8 @@ ghost use Rattle.file_requests.specs.Serving.{HasFile};
 ghost use Rattle.node_table.specs.Code.{stored_of, up_of};
 ghost use Rattle.node_requests.specs.Labelled.{branch_at};
 ghost use Rattle.node_requests.specs.Operating.{IsWorkingAt, OperatesAlone, OperatesFor};
-ghost use Rattle.node_requests.specs.Requests.{AnswersRequest, CanBeTold, DoesRequest, IsForUp, IsOfManager, IsOfTransaction, IsReserved, MayServe, noted};
+ghost use Rattle.node_requests.specs.Requests.{AnswersRequest, DoesRequest, IsForUp, IsOfManager, IsOfTransaction, IsReserved, MayServe, noted};
+ghost use Rattle.node_standing.specs.Moments.{CanBeTold};
 
 use crate::labelled::labelled;
 use crate::law::the_laws;

@@ -30,12 +30,11 @@ use Rattle.directory_model.specs.Files.{IsFile, organized_by}
 use Rattle.directory_model.proofs.Reading.{reads_files}
 use Rattle.recovery_units.specs.Calls.{IsNumber, IsNumbered, cause_line, change_said, number_of, position_line}
 use Rattle.recovery_units.proofs.FormLemmas.{line_if}
-use Rattle.rms_units.specs.declared.asked.KeyChange.{KeyChange}
-use Rattle.rms_units.specs.declared.asked.KeyChange.TheVariants as how
-use Rattle.rms_units.specs.Changing as rms
-use Rattle.rms_units.specs.Changing.{after_change, found_refused}
-use Rattle.rms_units.specs.Keys.{change_in, key_in, key_put, position_by}
-use Rattle.rms_units.specs.Making as making
+use Rattle.key_changes.specs.declared.asked.KeyChange.{KeyChange}
+use Rattle.key_changes.specs.declared.asked.KeyChange.TheVariants as how
+use Rattle.key_changes.specs.Changing as rms
+use Rattle.key_changes.specs.Changing.{after_change, found_refused}
+use Rattle.key_changes.specs.Keys.{change_in, key_in, key_put, position_by}
 use Rattle.node_units.proofs.ReadLemmas.{first_none}
 
 abbrev pub Content : Type 0
@@ -48,7 +47,7 @@ pub record AsksKey (content : Content) (h : FileHead) (file : File) (o : RecordO
   pub held : keys_held file (change_said o bytes) ≡ rms.keys_asked h (change_in o) (key_in h o (written o bytes))
   pub none : keys_found file (change_said o bytes) ≡ []
   pub stands : option_map cause_line (found_refused h (change_in o) (key_in h o (written o bytes)) (map_of h content (key_in h o (written o bytes))) (written o bytes)) ≡ data_refused file (change_said o bytes)
-  pub full : option_map cause_line (rms.file_refused h (making.need_of h content (change_in o) (length (written o bytes)))) ≡ file_full file (change_said o bytes)
+  pub full : option_map cause_line (rms.file_refused h (rms.need_of h content (change_in o) (length (written o bytes)))) ≡ file_full file (change_said o bytes)
   pub answer : operation_answer file (change_said o bytes) ≡ position_line (position_by h.organization (change_in o) (key_in h o (written o bytes)))
 
 -- Records that are put.
@@ -128,7 +127,7 @@ no_position kept.Sequential how.Remove key other = refl
 no_position kept.Relative change key other = refl
 no_position kept.Indexed change key other = refl
 
-update_needs : (o : Kept) (content : Content) (h : FileHead) (file : File) (key : Key) (bytes : List ℕ) → h.organization ≡ o → IsFile content h file → need_of file (Update key bytes) ≡ making.need_of h content how.Replace (length bytes)
+update_needs : (o : Kept) (content : Content) (h : FileHead) (file : File) (key : Key) (bytes : List ℕ) → h.organization ≡ o → IsFile content h file → need_of file (Update key bytes) ≡ rms.need_of h content how.Replace (length bytes)
 update_needs kept.Sequential content h file key bytes is of =
     ap (λ w. said.update_need w file) (of.head.organization ∙ ap (λ q. organized_by q h) is) ∙ sym (ap (λ q. if rms.asks_by q how.Replace then asks h content (length bytes) else 0) is)
 update_needs kept.Relative content h file key bytes is of =
@@ -136,7 +135,7 @@ update_needs kept.Relative content h file key bytes is of =
 update_needs kept.Indexed content h file key bytes is of =
     reads_files.update content h file key bytes of is ∙ sym (ap (λ q. if rms.asks_by q how.Replace then asks h content (length bytes) else 0) is)
 
-remove_needs : (o : Kept) (content : Content) (h : FileHead) → h.organization ≡ o → making.need_of h content how.Remove 0 ≡ 0
+remove_needs : (o : Kept) (content : Content) (h : FileHead) → h.organization ≡ o → rms.need_of h content how.Remove 0 ≡ 0
 remove_needs kept.Sequential content h is = ap (λ q. if rms.asks_by q how.Remove then asks h content 0 else 0) is
 remove_needs kept.Relative content h is = ap (λ q. if rms.asks_by q how.Remove then asks h content 0 else 0) is
 remove_needs kept.Indexed content h is = ap (λ q. if rms.asks_by q how.Remove then asks h content 0 else 0) is
@@ -195,7 +194,7 @@ module _ (content : Content) (h : FileHead) (file : File) (is : IsFile content h
         held = keys;
         none = refl;
         stands = update_data h k (map_of h content k) bytes ∙ (λ i. said.update_refused (sym is.head.organization i) k (sym (is.records k) i) bytes);
-        full = full_is (making.need_of h content how.Replace (length bytes)) (Update k bytes) (update_needs h.organization content h file k bytes refl is);
+        full = full_is (rms.need_of h content how.Replace (length bytes)) (Update k bytes) (update_needs h.organization content h file k bytes refl is);
         answer = ap position_line (sym (no_position h.organization how.Replace k (λ e. let never : ⊥ = cc in never)));
       }
 
@@ -209,7 +208,7 @@ module _ (content : Content) (h : FileHead) (file : File) (is : IsFile content h
         held = keys;
         none = refl;
         stands = missing_is h k (map_of h content k) ∙ ap said.missing (sym (is.records k));
-        full = full_is (making.need_of h content how.Remove 0) (Delete k) (sym (remove_needs h.organization content h refl));
+        full = full_is (rms.need_of h content how.Remove 0) (Delete k) (sym (remove_needs h.organization content h refl));
         answer = ap position_line (sym (no_position h.organization how.Remove k (λ e. let never : ⊥ = cc in never)));
       }
 

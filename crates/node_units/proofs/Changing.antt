@@ -19,7 +19,7 @@ use Rattle.recovery_units.specs.Calls.{IsDone, IsNotDone, IsNumbered, KeepsUp, p
 use Rattle.rms_units.specs.Calls as rms
 use Rattle.rms_units.specs.State as state
 use Rattle.rms_units.specs.State.{IsEarly, IsInOrder}
-use Rattle.rms_units.specs.declared.asked.KeyChange.TheVariants as how
+use Rattle.key_changes.specs.declared.asked.KeyChange.TheVariants as how
 use Rattle.log_laws.specs.Slots.{Slots}
 use Rattle.node_units.specs.Seen.{seen}
 use Rattle.node_units.proofs.AskedKey.{no_position}

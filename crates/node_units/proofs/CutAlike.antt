@@ -17,7 +17,7 @@ use Rattle.script_model.specs.Statements.{Truncate}
 use Rattle.directory_model.specs.Files.{IsFile}
 use Rattle.recovery_units.specs.Calls.{cause_line, position_line}
 use Rattle.recovery_units.proofs.FormLemmas.{line_if, lines_first}
-use Rattle.rms_units.specs.Keys.{change_in, position_by}
+use Rattle.key_changes.specs.Keys.{change_in, position_by}
 use Rattle.rms_units.specs.Truncating.{number_refused}
 use Rattle.unit_cuts.specs.Truncating.{removed_from}
 use Rattle.unit_cuts.proofs.CutLemmas.{removed_lies}

@@ -90,7 +90,7 @@ use Rattle.image_groups.proofs.Lists.{enters_moved}
 use Rattle.recovery_units.specs.Calls.{KeepsUp, unit_act, unit_early, unit_late}
 use Rattle.recovery_units.specs.State.{IsKept, IsOfBranch}
 use Rattle.rms_units.specs.Calls as rms
-use Rattle.rms_units.specs.Changing as changing
+use Rattle.key_changes.specs.Changing as changing
 use Rattle.unit_cuts.specs.Records.{OfRecords}
 use Rattle.rms_units.specs.State as state
 use Rattle.rms_units.specs.State.{IsEarly, IsInOrder}

@@ -44,7 +44,7 @@ use Rattle.recovery_units.specs.Calls.{cause_line, unit_early, unit_late}
 use Rattle.recovery_units.specs.State.{IsKept, IsOfBranch, changed_at}
 use Rattle.recovery_units.proofs.FormLemmas.{forms, line_if, lines_first}
 use Rattle.rms_units.specs.Calls as rms
-use Rattle.rms_units.specs.Changing as changing
+use Rattle.key_changes.specs.Changing as changing
 use Rattle.rms_units.specs.State as state
 use Rattle.rms_units.specs.State.{IsInOrder}
 use Rattle.rms_units.specs.Truncating.{CutRefused, cut_asked, cut_early, number_refused}

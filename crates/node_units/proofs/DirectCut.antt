@@ -40,8 +40,8 @@ use Rattle.recovery_units.specs.State.{AreLocks, IsKept}
 use Rattle.restart_laws.proofs.ChangingLemmas.{changes_restorable}
 use Rattle.restart_laws.specs.Units.{MayChange}
 use Rattle.rms_units.specs.Calls as rms
-use Rattle.rms_units.specs.Changing.{locks_refuse}
-use Rattle.rms_units.specs.Keys.{change_in, position_by}
+use Rattle.key_changes.specs.Changing.{locks_refuse}
+use Rattle.key_changes.specs.Keys.{change_in, position_by}
 use Rattle.rms_units.specs.State as state
 use Rattle.rms_units.specs.Truncating.{DirectsCut, IsDirectCut, cut_asked, number_refused}
 use Rattle.run_model.specs.Answers.{change_limit, found_refused, images_full, keys_refused}

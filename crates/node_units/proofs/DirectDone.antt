@@ -52,7 +52,7 @@ use Rattle.node_units.proofs.ImagesAlike.{images_alike}
 use Rattle.node_units.proofs.KeyImages.{IsImage, change_is, may_enter, now_changed}
 use Rattle.node_units.proofs.KeyRefusals.{found_before, image_size, key_size}
 use Rattle.node_units.proofs.NotedKey.{Noted, noted_by}
-use Rattle.rms_units.specs.Changing.{before_change}
+use Rattle.key_changes.specs.Changing.{before_change}
 use Rattle.record_files.specs.Any.{Suits, Takes, map_of, room_at}
 use Rattle.script_model.specs.Statements.{Operation}
 use Rattle.vms_model.specs.Keys.{Key}
@@ -62,10 +62,9 @@ use Rattle.unit_table.specs.Units.{earliest}
 use Rattle.unit_table.proofs.BegunLemmas.{earliest_seen}
 use Rattle.volume_files.specs.Staging.{SetsKey}
 use Rattle.directory_model.specs.Laws.{IsChanged}
-use Rattle.rms_units.specs.Changing as keys_by
-use Rattle.rms_units.specs.Making as making
+use Rattle.key_changes.specs.Changing as keys_by
 use Rattle.recovery_units.proofs.FormLemmas.{forms, line_if, lines_first}
-use Rattle.rms_units.specs.Keys.{change_in, key_in, position_by}
+use Rattle.key_changes.specs.Keys.{change_in, key_in, position_by}
 use Rattle.node_units.proofs.Looking.{first_again, first_some}
 use Rattle.node_units.proofs.DirectMade.{DirectsFile, begins_made, direct_kept, direct_told, own_settlement}
 use Rattle.std.proofs.lemmas.Nat.{mul-le}
@@ -96,7 +95,7 @@ use Rattle.directory_model.proofs.Reading.{reads_files}
 use Rattle.recovery_units.specs.Calls.{IsDone, IsNumbered, KeepsUp, alone_early, alone_late, cause_line, change_said, direct_act, position_line}
 use Rattle.recovery_units.specs.State.{IsKept}
 use Rattle.rms_units.specs.Calls as rms
-use Rattle.rms_units.specs.Changing.{after_change, locks_refuse}
+use Rattle.key_changes.specs.Changing.{after_change, locks_refuse}
 use Rattle.rms_units.specs.State as state
 use Rattle.rms_units.specs.State.{IsInOrder}
 use Rattle.unit_journal.specs.Settling as settling
@@ -319,7 +318,7 @@ module _ (o : RecordOp) (bytes : List ℕ) (s : state.UnitsState) (log : Slots) 
     why = keys_by.found_refused h (change_in o) key had value
 
     abbrev full : Option Cause
-    full = keys_by.file_refused h (making.need_of h told (change_in o) (length value))
+    full = keys_by.file_refused h (keys_by.need_of h told (change_in o) (length value))
 
     abbrev full_images : Option Cause
     full_images = images_refused h (file_in o) s.units.places false (room.entry_size key after) (room.entry_size key (before_change (change_in o) (unwrap_or had [])))

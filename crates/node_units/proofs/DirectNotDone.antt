@@ -26,8 +26,8 @@ use Rattle.unit_table.specs.Units.{OpenUnit}
 use Rattle.recovery_units.specs.Calls.{IsBroken, KeepsUp, alone_early, alone_late, cause_line, change_said, direct_act}
 use Rattle.run_model.specs.World.{is_durable}
 use Rattle.rms_units.specs.Calls as rms
-use Rattle.rms_units.specs.Changing as keys_by
-use Rattle.rms_units.specs.Keys.{change_in, key_in}
+use Rattle.key_changes.specs.Changing as keys_by
+use Rattle.key_changes.specs.Keys.{change_in, key_in}
 use Rattle.rms_units.specs.State as state
 use Rattle.unit_journal.specs.Settling as settling
 use Rattle.node_units.specs.Seen.{seen}
@@ -35,7 +35,7 @@ use Rattle.node_units.proofs.Falling.{disk_sound, leaves_kept, same_some}
 use Rattle.node_units.proofs.DirectMade.{DirectsFile, direct_left, own_settlement}
 use Rattle.run_model.specs.Operations.{changes_of, keys_asked}
 use Rattle.script_model.specs.Statements.{Truncate}
-use Rattle.rms_units.specs.Changing.{locks_refuse}
+use Rattle.key_changes.specs.Changing.{locks_refuse}
 use Rattle.rms_units.specs.Truncating.{DirectCutBroke, DirectCutRefused, IsDirectCut, cut_asked, number_refused}
 use Rattle.unit_cuts.specs.Truncating.{AllTold, LeavesCut, removed_from}
 use Rattle.node_units.proofs.AskedCut.{keys_alike}

@@ -17,7 +17,7 @@ use Rattle.directory_model.specs.Files.{IsFile, head_at}
 use Rattle.directory_model.proofs.Reading.{reads_files}
 use Rattle.recovery_units.specs.Calls.{cause_line, read_said, record_line}
 use Rattle.recovery_units.specs.State.{AreLocks}
-use Rattle.rms_units.specs.Changing as rms
+use Rattle.key_changes.specs.Changing as rms
 use Rattle.rms_units.specs.Reading.{Finds}
 use Rattle.node_units.proofs.Locking.{AreOnce}
 use Rattle.node_units.proofs.Refusing.{held_by}

@@ -40,8 +40,8 @@ use Rattle.recovery_units.specs.State.{AreLocks, AreOfBranches, IsKept, IsUnitOf
 use Rattle.unit_world.proofs.Leaving.{down}
 use Rattle.unit_world.proofs.Staying.{changed_set}
 use Rattle.rms_units.specs.Calls as rms
-use Rattle.rms_units.specs.Changing as changing
-use Rattle.rms_units.specs.Keys.{change_in, key_in, position_by}
+use Rattle.key_changes.specs.Changing as changing
+use Rattle.key_changes.specs.Keys.{change_in, key_in, position_by}
 use Rattle.rms_units.specs.State as state
 use Rattle.rms_units.specs.State.{IsEarly, IsInOrder}
 use Rattle.log_laws.specs.Slots.{Slots}

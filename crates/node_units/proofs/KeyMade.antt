@@ -76,12 +76,12 @@ use Rattle.recovery_units.specs.Calls.{IsNumbered, KeepsUp, change_said, unit_ac
 use Rattle.recovery_units.specs.State.{AreLocks, IsKept, IsOfBranch}
 use Rattle.unit_world.proofs.Blocks.{same_names}
 use Rattle.rms_units.specs.Calls as rms
-use Rattle.rms_units.specs.Changing as changing
-use Rattle.rms_units.specs.Changing.{after_change, before_change}
-use Rattle.rms_units.specs.declared.asked.KeyChange.{KeyChange}
-use Rattle.rms_units.specs.declared.asked.KeyChange.TheVariants as change
-use Rattle.rms_units.specs.Keys.{change_in, key_in}
-use Rattle.rms_units.specs.Making.{EntersKey, need_of}
+use Rattle.key_changes.specs.Changing as changing
+use Rattle.key_changes.specs.Changing.{after_change, before_change, need_of}
+use Rattle.key_changes.specs.declared.asked.KeyChange.{KeyChange}
+use Rattle.key_changes.specs.declared.asked.KeyChange.TheVariants as change
+use Rattle.key_changes.specs.Keys.{change_in, key_in}
+use Rattle.rms_units.specs.Making.{EntersKey}
 use Rattle.rms_units.specs.State as state
 use Rattle.rms_units.specs.State.{IsEarly, IsInOrder}
 use Rattle.rms_units.proofs.OrderLemmas.{sound_longer}

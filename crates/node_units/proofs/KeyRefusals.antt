@@ -49,14 +49,13 @@ use Rattle.recovery_units.specs.Calls.{IsNumbered, cause_line, change_said, unit
 use Rattle.recovery_units.specs.State.{IsKept, IsOfBranch, are_there}
 use Rattle.recovery_units.proofs.FormLemmas.{forms, line_if, lines_first}
 use Rattle.rms_units.specs.Calls as rms
-use Rattle.rms_units.specs.Changing as changing
-use Rattle.rms_units.specs.Changing.{before_change}
-use Rattle.rms_units.specs.Keys.{change_in, key_in}
-use Rattle.rms_units.specs.Making.{need_of}
+use Rattle.key_changes.specs.Changing as changing
+use Rattle.key_changes.specs.Changing.{before_change, need_of}
+use Rattle.key_changes.specs.Keys.{change_in, key_in}
 use Rattle.rms_units.specs.State as state
 use Rattle.rms_units.specs.State.{IsInOrder}
-use Rattle.rms_units.specs.declared.asked.KeyChange.{KeyChange}
-use Rattle.rms_units.specs.declared.asked.KeyChange.TheVariants as how
+use Rattle.key_changes.specs.declared.asked.KeyChange.{KeyChange}
+use Rattle.key_changes.specs.declared.asked.KeyChange.TheVariants as how
 use Rattle.log_laws.specs.Slots.{Slots}
 use Rattle.commit_protocol.specs.Allowed.{is_prepared}
 use Rattle.world_laws.specs.Nodes.{IsUp}

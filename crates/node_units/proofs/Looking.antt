@@ -26,7 +26,7 @@ use Rattle.directory_model.proofs.Reading.{reads_files}
 use Rattle.recovery_units.specs.Calls.{cause_line, read_said}
 use Rattle.recovery_units.specs.State.{AreLocks}
 use Rattle.recovery_units.proofs.FormLemmas.{lines_first}
-use Rattle.rms_units.specs.Changing as rms
+use Rattle.key_changes.specs.Changing as rms
 use Rattle.rms_units.specs.Reading.{FindsNone, missing}
 use Rattle.node_units.proofs.Locking.{AreOnce}
 use Rattle.node_units.proofs.Refusing.{held_by}

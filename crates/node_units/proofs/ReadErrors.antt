@@ -33,7 +33,7 @@ use Rattle.world_laws.proofs.FewLemmas.{few_in}
 use Rattle.unit_journal.specs.Leaving.{FellIn}
 use Rattle.rms_units.specs.Calls as rms
 use Rattle.rms_units.specs.Calls.{MayLook, MayRead}
-use Rattle.rms_units.specs.Changing.{locks_refuse}
+use Rattle.key_changes.specs.Changing.{locks_refuse}
 use Rattle.rms_units.specs.Reading.{FindsNone, read_keys}
 use Rattle.rms_units.specs.State as state
 use Rattle.rms_units.specs.State.{IsInOrder}

@@ -17,7 +17,7 @@ use Rattle.directory_model.specs.Files.{IsHeadOf, head_at}
 use Rattle.recovery_units.specs.Calls.{cause_line}
 use Rattle.recovery_units.specs.State.{AreLocks}
 use Rattle.recovery_units.proofs.FormLemmas.{line_if, lines_first}
-use Rattle.rms_units.specs.Changing as rms
+use Rattle.key_changes.specs.Changing as rms
 use Rattle.node_units.proofs.Locking.{AreOnce, holder_alike, many_alike, not_locked_alike}
 
 pub held_alike : (asking holder : Option Id) → option_map cause_line (rms.held_against asking holder) ≡ held_against asking holder

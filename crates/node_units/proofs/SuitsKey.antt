@@ -19,11 +19,10 @@ use Rattle.record_operations.specs.Forms as form
 use Rattle.record_operations.specs.declared.ops.RecordOp.{RecordOp}
 use Rattle.record_operations.specs.declared.ops.RecordOp.TheVariants as op
 use Rattle.recovery_units.specs.Calls.{IsNumber, IsNumbered}
-use Rattle.rms_units.specs.declared.asked.KeyChange.TheVariants as how
-use Rattle.rms_units.specs.Changing as rms
-use Rattle.rms_units.specs.Changing.{after_change, found_refused, key_within}
-use Rattle.rms_units.specs.Keys.{change_in, key_in, key_put}
-use Rattle.rms_units.specs.Making as making
+use Rattle.key_changes.specs.declared.asked.KeyChange.TheVariants as how
+use Rattle.key_changes.specs.Changing as rms
+use Rattle.key_changes.specs.Changing.{after_change, found_refused, key_within}
+use Rattle.key_changes.specs.Keys.{change_in, key_in, key_put}
 use Rattle.rms_units.proofs.RoomLemmas.{not_refused}
 use Rattle.node_units.proofs.AskedKey.{Content, behind_last}
 use Rattle.node_units.proofs.ReadLemmas.{first_none}
@@ -123,7 +122,7 @@ replaced h k None r none = let never : ⊥ = cc in absurd never
 replaced h k (Some old) r none = (old, refl, none)
 
 module _ (h : FileHead) (a : Content) (is : IsFile h) (few : h.organization ≡ kept.Sequential → h.count < 4294967295) where
-  may_put : (f : ℕ) (key : Option VmsKey) (r : List ℕ) → IsNumber (option_map key_of key) → form.form_refused h (op.Put f key) (length r) ≡ None → rms.file_refused h (making.need_of h a how.Put (length r)) ≡ None →
+  may_put : (f : ℕ) (key : Option VmsKey) (r : List ℕ) → IsNumber (option_map key_of key) → form.form_refused h (op.Put f key) (length r) ≡ None → rms.file_refused h (rms.need_of h a how.Put (length r)) ≡ None →
       Suits h (key_put h.organization h (option_map key_of key) r) (Some r) × Takes h a (key_put h.organization h (option_map key_of key) r) (Some r)
   may_put f key r number none full =
       let k = option_map key_of key in
@@ -131,7 +130,7 @@ module _ (h : FileHead) (a : Content) (is : IsFile h) (few : h.organization ≡ 
       let size = sizes h.organization h (length r) refl parts.1 in
       put_by h.organization h a k r refl is few parts.0 number size.0 size.1 (room h (asks h a (length r)) full)
 
-  may_replace : (f : ℕ) (key : VmsKey) (r : List ℕ) → form.form_refused h (op.Update f key) (length r) ≡ None → found_refused h how.Replace (key_of key) (map_of h a (key_of key)) r ≡ None → rms.file_refused h (making.need_of h a how.Replace (length r)) ≡ None →
+  may_replace : (f : ℕ) (key : VmsKey) (r : List ℕ) → form.form_refused h (op.Update f key) (length r) ≡ None → found_refused h how.Replace (key_of key) (map_of h a (key_of key)) r ≡ None → rms.file_refused h (rms.need_of h a how.Replace (length r)) ≡ None →
       Suits h (key_of key) (Some r) × Takes h a (key_of key) (Some r)
   may_replace f key r none found full =
       let k = key_of key in
@@ -139,14 +138,14 @@ module _ (h : FileHead) (a : Content) (is : IsFile h) (few : h.organization ≡ 
       let size = sizes h.organization h (length r) refl parts.1 in
       let at = replaced h k (map_of h a k) r found in
       update_by h.organization h a k at.0 r refl is parts.0 at.1 at.2 size.0 size.1
-      (λ e. subst (λ need. need ≤ h.alloc - h.used) (ap (λ q. if rms.asks_by q how.Replace then asks h a (length r) else 0) e) (room h (making.need_of h a how.Replace (length r)) full))
+      (λ e. subst (λ need. need ≤ h.alloc - h.used) (ap (λ q. if rms.asks_by q how.Replace then asks h a (length r) else 0) e) (room h (rms.need_of h a how.Replace (length r)) full))
 
   may_remove : (f : ℕ) (key : VmsKey) → form.form_refused h (op.Delete f key) 0 ≡ None → Suits h (key_of key) None × Takes h a (key_of key) None
   may_remove f key none = let parts = first_none (form.key_refused h (key_of key)) (form.delete_refused h) none in delete_by h.organization h a (key_of key) parts.0 parts.1
 
   -- a change of one key that nothing refuses
   pub may_set : (o : RecordOp) (bytes : List ℕ) → is_of_key o ≡ true → IsNumbered o → form.form_refused h o (length (written o bytes)) ≡ None →
-      found_refused h (change_in o) (key_in h o (written o bytes)) (map_of h a (key_in h o (written o bytes))) (written o bytes) ≡ None → rms.file_refused h (making.need_of h a (change_in o) (length (written o bytes))) ≡ None →
+      found_refused h (change_in o) (key_in h o (written o bytes)) (map_of h a (key_in h o (written o bytes))) (written o bytes) ≡ None → rms.file_refused h (rms.need_of h a (change_in o) (length (written o bytes))) ≡ None →
       Suits h (key_in h o (written o bytes)) (after_change (change_in o) (written o bytes)) × Takes h a (key_in h o (written o bytes)) (after_change (change_in o) (written o bytes))
   may_set (op.Put f key) bytes one number none found full = may_put f key bytes number none full
   may_set (op.Update f key) bytes one number none found full = may_replace f key bytes none found full

@@ -1,10 +1,10 @@
 //! A transaction of two nodes whose messages are lost, doubled or late, one of eight nodes, an abort of a prepared branch that is stopped at each of its writes,
 //! and the last message that gets a number.
-use dtm_run::Rack;
 use reference_run::{Ending, reference_transcript_of};
 use std::alloc::Global;
 use std::process::Abort;
 use std::test::Fail;
+use test_scripts::Rack;
 use test_scripts::racks::{place, shown_by, shown_by_one, shown_by_pair, with_node, zeros};
 use test_scripts::texts::{filled, has, joined};
 

@@ -1,9 +1,9 @@
 //! Scripts of several nodes. Where no disk fails, the run shows for them what the plain program shows, byte for byte; where one stops, a transaction
 //! ends alike everywhere.
-use dtm_run::Rack;
 use std::alloc::Global;
 use std::process::Abort;
 use std::test::Fail;
+use test_scripts::Rack;
 use test_scripts::racks::{
     NAMES, OPENING, rack_of, show_the_same, shown, shown_by, with_node, zeros,
 };

@@ -13,7 +13,7 @@ use Rattle.run_laws.proofs.Deciding.{any_in, in_any}
 use Rattle.run_laws.proofs.SoundWorlds.{legal_sound, opening_sound}
 use Rattle.recovery_runs.specs.Runs.{CommittedOnly}
 
-is_committed : (o : Outcome) → is_commit o ≡ true → o ≡ Commit
+pub is_committed : (o : Outcome) → is_commit o ≡ true → o ≡ Commit
 is_committed Commit e = refl
 is_committed Abort e = let none : ⊥ = cc in absurd none
 

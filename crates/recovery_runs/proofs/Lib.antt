@@ -1,6 +1,7 @@
-mod CommittedLemmas
+pub mod Awaited
+pub mod CommittedLemmas
 mod ToldKept
-mod RunLemmas
+pub mod RunLemmas
 mod ShownLemmas
 mod AnsweredLemmas
-mod PromiseLemmas
+pub mod PromiseLemmas

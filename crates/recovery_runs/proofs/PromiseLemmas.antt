@@ -1,24 +1,36 @@
 -- What a run promises of its recoveries, from the laws of these.
 use Rattle.std.proofs.Common.{[], ◌∷◌, ◌++◌, subst}
-use Rattle.run_model.specs.World.{opened}
-use Rattle.run_model.specs.Transcript.{Legal}
+use Rattle.std.specs.Prelude.{List}
+use Rattle.run_model.specs.World.{DiskCounts, Node, World, opened}
+use Rattle.run_model.specs.Transcript.{AreOpening, Entry, Legal}
+use Rattle.run_agreement.specs.Laws.{opening_told}
+use Rattle.run_laws.specs.Laws.{AgreedPromisesAreKept}
 use Rattle.run_laws.specs.Promises.{AbortsStand}
 use Rattle.run_laws.proofs.AbortsStand.{legal_parts}
-use Rattle.recovery_runs.specs.Runs.{MayOnly, committed_in}
-use Rattle.recovery_runs.specs.Promises.{RecoveryPromisesHold}
+use Rattle.recovery_runs.specs.Runs.{AreLawful, MayOnly, committed_in}
+use Rattle.recovery_runs.specs.Promises.{RecoveriesGive, RecoveryPromisesHold, may_yet_commit}
 use Rattle.recovery_runs.proofs.AnsweredLemmas.{is_answered}
+use Rattle.recovery_runs.proofs.Awaited.{lawful}
 use Rattle.recovery_runs.proofs.CommittedLemmas.{committed_only}
 use Rattle.recovery_runs.proofs.RunLemmas.{next_files_hold}
 use Rattle.recovery_runs.proofs.ShownLemmas.{shown_recoveries_hold}
 
-pub recovery_promises_hold : RecoveryPromisesHold
-recovery_promises_hold nodes disks es closing opens legal = record {
-  give = λ stand waits lawful before node file way count there lines.
-      let whole : Legal (opened nodes disks) (there.later ++ there.entry ∷ before) closing = subst (λ xs. Legal (opened nodes disks) xs closing) there.stands legal in
-      let split = legal_parts (opened nodes disks) there.later (there.entry ∷ before) closing whole in
-      let only : MayOnly (committed_in closing) (opened nodes disks) ([] ++ (there.later ++ there.entry ∷ before)) closing = committed_only nodes disks (there.later ++ there.entry ∷ before) closing opens whole (subst (AbortsStand (opened nodes disks)) there.stands stand) in
-      let shown = shown_recoveries_hold nodes disks [] there.later before there.entry split.0 closing (committed_in closing) waits node file way count opens lawful only there.said lines split.1 split.2 in
-      (shown.0, split.0, shown.1, split.1, split.2, shown.2);
+-- those that are shown gave what they were to, where aborts stand
+given : (nodes : List Node) (disks : List DiskCounts) (es : List Entry) (closing : World) → AreOpening nodes → Legal (opened nodes disks) es closing → AbortsStand (opened nodes disks) es → RecoveriesGive (opened nodes disks) es closing
+given nodes disks es closing opens legal stand waits lawful before node file way count there lines =
+    let whole : Legal (opened nodes disks) (there.later ++ there.entry ∷ before) closing = subst (λ xs. Legal (opened nodes disks) xs closing) there.stands legal in
+    let split = legal_parts (opened nodes disks) there.later (there.entry ∷ before) closing whole in
+    let only : MayOnly (committed_in closing) (opened nodes disks) ([] ++ (there.later ++ there.entry ∷ before)) closing = committed_only nodes disks (there.later ++ there.entry ∷ before) closing opens whole (subst (AbortsStand (opened nodes disks)) there.stands stand) in
+    let of : AreLawful (committed_in closing) waits (opened nodes disks) (there.later ++ there.entry ∷ before) = subst (AreLawful (committed_in closing) waits (opened nodes disks)) there.stands lawful in
+    let shown = shown_recoveries_hold nodes disks [] there.later before there.entry split.0 closing (committed_in closing) waits node file way count opens of only there.said lines split.1 split.2 in
+    (shown.0, split.0, shown.1, split.1, split.2, shown.2)
+
+pub recovery_promises_hold : AgreedPromisesAreKept → RecoveryPromisesHold
+recovery_promises_hold promised nodes disks es closing opens legal = record {
+  give = given nodes disks es closing opens legal;
+  agree = λ apart known agrees files.
+      let a = promised nodes disks es closing opens apart known agrees legal in
+      given nodes disks es closing opens legal a.stand (may_yet_commit (opening_told nodes es)) (lawful nodes disks es closing opens apart legal a files);
   answered = λ before node file way there.
       let split = legal_parts (opened nodes disks) there.later (there.entry ∷ before) closing (subst (λ xs. Legal (opened nodes disks) xs closing) there.stands legal) in
       (split.1.0, split.0, split.1.1, split.1, is_answered split.1.0 split.0 node file way _ there.entry.lines there.said split.1.2);

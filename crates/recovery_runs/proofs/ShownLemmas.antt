@@ -1,8 +1,10 @@
 -- Recoveries that a transcript shows to have succeeded.
-use Rattle.std.proofs.Common.{◌≡◌, ℕ, List, [], ◌∷◌, ◌++◌, true, false, not, ◌||◌, Option, Some, None, refl, sym, ◌∙◌, ap, subst}
-use Rattle.std.proofs.lemmas.Bool.{both_ways}
+use Rattle.std.proofs.Common.{◌≡◌, ℕ, inl, inr, if◌then◌else◌, List, [], ◌∷◌, ◌++◌, true, false, not, ◌||◌, Option, Some, None, refl, sym, ◌∙◌, ap, subst}
+use Rattle.std.specs.List.{last_or}
+use Rattle.std.proofs.lemmas.Bool.{both_ways, cases_Bool, false_from_ne_true}
 use Rattle.transcript_model.specs.Lines as line
 use Rattle.transcript_model.specs.Lines.{Line, Cause}
+use Rattle.script_model.specs.Grammar.{reading}
 use Rattle.script_model.specs.Statements.{At, Recover, Recovery}
 use Rattle.run_model.specs.World.{File, Node, World, find_file, find_node, loaded_map, opened}
 use Rattle.run_model.specs.Answers.{Service, Serves, refused_before_reading, service, there_is_file}
@@ -10,7 +12,7 @@ use Rattle.run_model.specs.Operations.{first_of, refused_if}
 use Rattle.run_model.specs.Steps.{Choice, Cut, TaskAllowed, TaskEffect, Unpowered, Whole, WithoutMemory, begun, node_after_rows, task_effect, whole}
 use Rattle.run_model.specs.Statements.{Begins, Phases, RoseAt, Step, begun_with, phases_of, refused_at_once, stops_at}
 use Rattle.run_model.specs.StepLaws.{IsTask, is_refusal}
-use Rattle.run_model.specs.Transcript.{Turn as LineTurn}
+use Rattle.run_model.specs.Transcript.{Entry, Legal, Turn as LineTurn}
 use Rattle.run_model.proofs.CauseLemmas.{refuses_first, refuses_then}
 use Rattle.run_model.proofs.Failing.{once_refuses}
 use Rattle.run_model.proofs.NodeLists.{put_node}
@@ -19,10 +21,16 @@ use Rattle.run_model.proofs.TaskLemmas.{effect_name}
 use Rattle.world_laws.proofs.AnswerLemmas.{neither}
 use Rattle.world_laws.proofs.FindLemmas.{some_is}
 use Rattle.world_laws.proofs.ServedLemmas.{there_is as there_is_one}
+use Rattle.run_laws.specs.Accounts.{made_anew}
+use Rattle.run_laws.specs.Promises.{left_at}
+use Rattle.run_laws.proofs.Anewed.{used_makes}
 use Rattle.run_laws.proofs.DumpsShown.{ends_alike, legal_on, split_on}
+use Rattle.run_laws.proofs.Dying.{runs_used}
 use Rattle.run_laws.proofs.Labelling.{served_up}
+use Rattle.run_laws.proofs.MadeAnew.{made_says}
+use Rattle.run_laws.proofs.SoundWorlds.{IsSound, legal_sound, opening_sound}
 use Rattle.recovery_laws.specs.Recovering.{IsRecovered}
-use Rattle.recovery_runs.specs.Runs.{HasRecovered, MayOnly, ShownRecoveriesHold}
+use Rattle.recovery_runs.specs.Runs.{AreLawful, HasRecovered, MayOnly, ShownRecoveriesHold}
 use Rattle.recovery_runs.proofs.RunLemmas.{recoveries_hold}
 
 -- what was done: the file was there, nothing refused, the answer is that of the service, and its rows were done
@@ -98,14 +106,30 @@ module _ (w v : World) (node file : List ℕ) (way : Recovery) (count : ℕ) (st
       go (Some n) found = at n found
       go None found = absurd (no_refusal (Some line.NoSuchNode) line.NoSuchNode refl (ap (λ (o : Option Node). first_of (elim o as (λ x. Option Line) [ Some m ↦ None | None ↦ Some line.NoSuchNode ]) None) found))
 
+-- behind a world in which a node may be in use no volume is made
+left_stays : (node : List ℕ) (opening w v : World) (after es : List Entry) → Legal w after v → w.shared.in_use ≡ true → left_at node (after ++ es) opening ≡ left_at node es opening
+left_stays node opening w v [] es legal used = refl
+left_stays node opening w v (e ∷ after) es legal used =
+    ap (λ b. if b then None else left_at node (after ++ es) opening) (false_from_ne_true _ (λ made.
+    let x = made_says node (reading e.source.text) e.lines made in
+    used_makes legal.0 v e node (runs_used w legal.0 after legal.1 used).1 legal.2 (record { slots = x.0; journal = x.1; says = x.2; answered = ap (last_or None) x.3 })))
+    ∙ left_stays node opening w legal.0 after es legal.1 used
+
+-- a node that is up may have been in use
+up_used : (w : World) → IsSound w → (node : List ℕ) (n : Node) → find_node node w.nodes ≡ Some n → n.up ≡ true → w.shared.in_use ≡ true
+up_used w sound node n found up = elim (cases_Bool w.shared.in_use) [ inl on ↦ on | inr off ↦ absurd (both_ways n.up ((sound.kept node n found).unused off).0 up) ]
+
 pub shown_recoveries_hold : ShownRecoveriesHold
 shown_recoveries_hold nodes disks later after es e v closing may waits node file way count opens lawful only said lines legal on =
     let w = legal.0 in
     let step : Step w (At node (Recover file way)) (line.NormalCount count ∷ []) v = subst (λ ls. Step w (At node (Recover file way)) ls v) lines (subst (λ r. LineTurn w r e.lines v) said legal.2) in
     let same = ap (λ xs. later ++ xs) (split_on after e es) in
-    let before = subst (λ xs. MayOnly may (opened nodes disks) xs closing) (sym same) only in (
+    let before = subst (λ xs. MayOnly may (opened nodes disks) xs closing) (sym same) only in
+    let behind = legal_on w v closing e after legal.2 on in
+    let sound = legal_sound (opened nodes disks) w es (opening_sound nodes disks opens) legal.1 in
+    let stay : w.shared.in_use ≡ true → AreLawful may waits (opened nodes disks) es = λ used name n left. lawful name n (ap (λ xs. left_at name xs (opened nodes disks)) (sym (split_on after e es)) ∙ left_stays name (opened nodes disks) w closing (after ++ e ∷ []) es behind used ∙ left) in (
       w,
       legal.1,
       shown w v node file way count step (λ n f found up there first.
-          recoveries_hold nodes disks later (after ++ e ∷ []) es w closing may waits opens lawful before legal.1 (legal_on w v closing e after legal.2 on) node n found up file way f there first),
+          recoveries_hold nodes disks later (after ++ e ∷ []) es w closing may waits opens (stay (up_used w sound node n found up)) before legal.1 behind node n found up file way f there first),
     )

@@ -1,14 +1,19 @@
 -- What a run promises of its recoveries.
-use Rattle.std.specs.Prelude.{◌≡◌, ℕ, List, [], ◌∷◌, ◌++◌, Bool, true, Some}
+use Rattle.std.specs.List.{list_any}
+use Rattle.std.specs.Prelude.{◌≡◌, ℕ, List, [], ◌∷◌, ◌++◌, Bool, true, Some, ◌&&◌}
 use Rattle.vms_model.specs.Ids.{Id}
 use Rattle.transcript_model.specs.Lines.{NormalCount}
 use Rattle.script_model.specs.Grammar.{reading}
 use Rattle.script_model.specs.Statements.{At, Recover, Recovery, Says}
+use Rattle.commit_protocol.specs.Messages.{LogRecord, same_id}
+use Rattle.commit_protocol.specs.Opening.{IsAgreeing, Opening, commits_in, image_at}
 use Rattle.recovery_model.specs.Opening.{IsOpening}
 use Rattle.run_model.specs.World.{Node, Sound, World, find_node, state_of}
 use Rattle.run_model.specs.Transcript.{Entry, InAllRuns, Legal}
 use Rattle.world_laws.specs.Running.{AllFound}
-use Rattle.run_laws.specs.Promises.{AbortsStand}
+use Rattle.run_agreement.specs.Laws.{NamesApart, opening_told}
+use Rattle.run_laws.specs.Anew.{AreKnownOrAnew}
+use Rattle.run_laws.specs.Promises.{AbortsStand, left_at}
 use Rattle.run_chains.specs.Reopenings.{IsReopened}
 use Rattle.recovery_runs.specs.Runs.{AreLawful, EndMay, HasRecovered, MayOnly, committed_in}
 use Rattle.recovery_runs.specs.Answered.{IsAnswered}
@@ -20,11 +25,25 @@ pub record RecoversThere (es before : List Entry) (node file : List ℕ) (way : 
   pub stands : es ≡ later ++ entry ∷ before
   pub said : reading entry.source.text ≡ Says (At node (Recover file way))
 
--- Let each file that the run finds agree with its journals and its save, and with what the run commits, whichever unsettled branches may yet commit. Then a recovery
--- that shows to have succeeded gave the file just the records of its moment, as they are loaded, and showed their number.
-abbrev pub RecoveriesGive : World → List Entry → World → Type 0
-RecoveriesGive opening es closing = (waits : Id → Bool) → AreLawful (committed_in closing) waits opening.nodes → (before : List Entry) (node file : List ℕ) (way : Recovery) (count : ℕ) (there : RecoversThere es before node file way) → there.entry.lines ≡ NormalCount count ∷ [] →
+-- A recovery that shows to have succeeded gave the file just the records of its moment, as they are loaded, and showed their number.
+abbrev pub RecoveriesGiven : World → List Entry → World → Type 0
+RecoveriesGiven opening es closing = (before : List Entry) (node file : List ℕ) (way : Recovery) (count : ℕ) (there : RecoversThere es before node file way) → there.entry.lines ≡ NormalCount count ∷ [] →
     (w : World) × (v : World) × Legal opening before w × Legal opening (there.entry ∷ before) v × Legal v there.later closing × HasRecovered w v node file way count
+
+-- So it is where each file that the run finds agrees with its journals and its save, and with what the run commits, whichever unsettled branches may yet commit.
+abbrev pub RecoveriesGive : World → List Entry → World → Type 0
+RecoveriesGive opening es closing = (waits : Id → Bool) → AreLawful (committed_in closing) waits opening es → RecoveriesGiven opening es closing
+
+-- And so it is where the images agree with which the run begins, and the journals and saves with the files, of which nothing is asked but by these images: of the unsettled
+-- branches those may yet commit of whose transaction an image shows a commit. Of a volume that the run makes anew nothing is asked.
+abbrev pub may_yet_commit : Opening → Id → Bool
+may_yet_commit o x = list_any (λ (r : LogRecord). same_id x r.serial && list_any (same_id r.tid) (commits_in o)) (image_at o x.node).prepared
+
+abbrev pub FilesAgree : World → List Entry → Type 0
+FilesAgree opening es = (node : List ℕ) (n : Node) → left_at node es opening ≡ Some n → AllFound (λ file f. IsOpening (may_yet_commit (opening_told opening.nodes es)) n.durable.greatest (state_of f)) n.durable.directory
+
+abbrev pub RecoveriesAgree : World → List Entry → World → Type 0
+RecoveriesAgree opening es closing = NamesApart opening.nodes → AreKnownOrAnew es opening.nodes → IsAgreeing (opening_told opening.nodes es) → FilesAgree opening es → RecoveriesGiven opening es closing
 
 -- Each recovery succeeds, or is refused for the cause that its line names, or memory is missing, or the disk of its node fails.
 abbrev pub RecoveriesAreAnswered : World → List Entry → Type 0
@@ -35,12 +54,13 @@ RecoveriesAreAnswered opening es = (before : List Entry) (node file : List ℕ) 
 -- commit in the next run. Then the files that this one finds agree with their journals and saves again, whatever turned out of such an act: it took place, it did not, or a
 -- part of an abort did.
 abbrev pub RecoveriesGoOn : World → List Entry → World → Type 0
-RecoveriesGoOn opening es closing = (may waits next : Id → Bool) → AreLawful may waits opening.nodes → MayOnly may opening es closing → EndMay may closing → ((x : Id) → next x ≡ true → may x ≡ true) → (node : List ℕ) (n m : Node) →
+RecoveriesGoOn opening es closing = (may waits next : Id → Bool) → AreLawful may waits opening es → MayOnly may opening es closing → EndMay may closing → ((x : Id) → next x ≡ true → may x ≡ true) → (node : List ℕ) (n m : Node) →
     find_node node closing.nodes ≡ Some n → n.durable.volume ≡ Sound → IsReopened n m → AllFound (λ file f. IsOpening next m.durable.greatest (state_of f)) m.durable.directory
 
--- What a run promises: the first where aborts stand that a fall cut short.
+-- What a run promises: the first where aborts stand that a fall cut short, and besides where the images agree with which it begins.
 pub record RecoveryPromises (opening : World) (es : List Entry) (closing : World) : Type 0 where
   pub give : AbortsStand opening es → RecoveriesGive opening es closing
+  pub agree : RecoveriesAgree opening es closing
   pub answered : RecoveriesAreAnswered opening es
   pub leaves : RecoveriesGoOn opening es closing
 

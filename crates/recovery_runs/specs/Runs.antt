@@ -18,7 +18,7 @@ use Rattle.run_model.specs.World.{Act, DiskCounts, File, Node, Settlement, Sound
 use Rattle.run_model.specs.Answers.{refused_before_reading, service, way_of}
 use Rattle.run_model.specs.Transcript.{AreOpening, Entry, Legal}
 use Rattle.world_laws.specs.Running.{AllFound}
-use Rattle.run_laws.specs.Promises.{AbortsStand, settlements_of}
+use Rattle.run_laws.specs.Promises.{AbortsStand, left_at, settlements_of}
 use Rattle.run_chains.specs.Reopenings.{IsReopened}
 use Rattle.recovery_laws.specs.Led.{IsTold}
 use Rattle.recovery_laws.specs.Recovering.{IsRecovered}
@@ -37,25 +37,25 @@ pub record MayOnly (may : Id → Bool) (opening : World) (es : List Entry) (clos
 abbrev pub CommittedOnly : Type 0
 CommittedOnly = (nodes : List Node) (disks : List DiskCounts) (es : List Entry) (closing : World) → AreOpening nodes → Legal (opened nodes disks) es closing → AbortsStand (opened nodes disks) es → MayOnly (committed_in closing) (opened nodes disks) es closing
 
--- Each file that the run finds agrees with its journals and its save, and with the branches that may commit: of unsettled ones these may yet commit, and a branch that
--- may commit in the run is one of them, or had changed nothing in the file before.
-abbrev pub AreLawful : (may waits : Id → Bool) → List Node → Type 0
-AreLawful may waits nodes = (node : List ℕ) (n : Node) → find_node node nodes ≡ Some n → AllFound (λ file f. IsOpening waits n.durable.greatest (state_of f) × MayCommit may waits (state_of f)) n.durable.directory
+-- Each file that a run with these entries finds, on a volume that none of them makes anew, agrees with its journals and its save, and with the branches that may commit: of
+-- unsettled ones these may yet commit, and a branch that may commit in the run is one of them, or had changed nothing in the file before.
+abbrev pub AreLawful : (may waits : Id → Bool) → World → List Entry → Type 0
+AreLawful may waits opening es = (node : List ℕ) (n : Node) → left_at node es opening ≡ Some n → AllFound (λ file f. IsOpening waits n.durable.greatest (state_of f) × MayCommit may waits (state_of f)) n.durable.directory
 
 -- So recovery can tell of each file in each world of the run.
 abbrev pub FilesStayTold : Type 0
-FilesStayTold = (nodes : List Node) (disks : List DiskCounts) (later after es : List Entry) (w closing : World) (may waits : Id → Bool) → AreOpening nodes → AreLawful may waits nodes → MayOnly may (opened nodes disks) (later ++ (after ++ es)) closing →
+FilesStayTold = (nodes : List Node) (disks : List DiskCounts) (later after es : List Entry) (w closing : World) (may waits : Id → Bool) → AreOpening nodes → AreLawful may waits (opened nodes disks) es → MayOnly may (opened nodes disks) (later ++ (after ++ es)) closing →
     Legal (opened nodes disks) es w → Legal w after closing → (node : List ℕ) (n : Node) → find_node node w.nodes ≡ Some n → AllFound (λ file f. IsTold may waits n.durable.greatest f) n.durable.directory
 
 -- So each recovery that nothing refuses gives the records of its moment.
 abbrev pub RecoveriesHold : Type 0
-RecoveriesHold = (nodes : List Node) (disks : List DiskCounts) (later after es : List Entry) (w closing : World) (may waits : Id → Bool) → AreOpening nodes → AreLawful may waits nodes → MayOnly may (opened nodes disks) (later ++ (after ++ es)) closing →
+RecoveriesHold = (nodes : List Node) (disks : List DiskCounts) (later after es : List Entry) (w closing : World) (may waits : Id → Bool) → AreOpening nodes → AreLawful may waits (opened nodes disks) es → MayOnly may (opened nodes disks) (later ++ (after ++ es)) closing →
     Legal (opened nodes disks) es w → Legal w after closing → (node : List ℕ) (n : Node) → find_node node w.nodes ≡ Some n → n.up ≡ true → (file : List ℕ) (way : Recovery) (f : File) → find_file file n.durable.directory ≡ Some f →
     refused_before_reading w.shared n (service (Recover file way)) ≡ None → IsRecovered w.shared n file way f
 
 -- And what the run leaves is what the next run may find, as far as recovery asks, with those branches that may yet commit then.
 abbrev pub LeftFilesHold : Type 0
-LeftFilesHold = (nodes : List Node) (disks : List DiskCounts) (es : List Entry) (closing : World) (may waits next : Id → Bool) → AreOpening nodes → AreLawful may waits nodes → MayOnly may (opened nodes disks) es closing → Legal (opened nodes disks) es closing →
+LeftFilesHold = (nodes : List Node) (disks : List DiskCounts) (es : List Entry) (closing : World) (may waits next : Id → Bool) → AreOpening nodes → AreLawful may waits (opened nodes disks) es → MayOnly may (opened nodes disks) es closing → Legal (opened nodes disks) es closing →
     ((x : Id) → next x ≡ true → may x ≡ true) → (node : List ℕ) (n : Node) → find_node node closing.nodes ≡ Some n → AllFound (λ file f. IsOpening next n.durable.greatest (as_found n.durable.greatest (state_of f))) n.durable.directory
 
 -- A recovery that a line shows to have succeeded: the file was there in the world before it; in the one behind it the file has just the records of the moment, as they
@@ -74,7 +74,7 @@ pub record HasRecovered (w v : World) (node file : List ℕ) (way : Recovery) (c
 
 -- So it is of each in a transcript.
 abbrev pub ShownRecoveriesHold : Type 0
-ShownRecoveriesHold = (nodes : List Node) (disks : List DiskCounts) (later after es : List Entry) (e : Entry) (v closing : World) (may waits : Id → Bool) (node file : List ℕ) (way : Recovery) (count : ℕ) → AreOpening nodes → AreLawful may waits nodes →
+ShownRecoveriesHold = (nodes : List Node) (disks : List DiskCounts) (later after es : List Entry) (e : Entry) (v closing : World) (may waits : Id → Bool) (node file : List ℕ) (way : Recovery) (count : ℕ) → AreOpening nodes → AreLawful may waits (opened nodes disks) (after ++ e ∷ es) →
     MayOnly may (opened nodes disks) (later ++ (after ++ e ∷ es)) closing → reading e.source.text ≡ Says (At node (Recover file way)) → e.lines ≡ NormalCount count ∷ [] → Legal (opened nodes disks) (e ∷ es) v → Legal v after closing →
     (w : World) × Legal (opened nodes disks) es w × HasRecovered w v node file way count
 
@@ -84,6 +84,6 @@ EndMay may closing = (node : List ℕ) (n : Node) (act : Act) (s : Settlement) �
 
 -- So the files agree again that the next run finds on a disk, whatever turned out of an act that was under way: it took place, it did not, or a part of an abort did.
 abbrev pub NextFilesHold : Type 0
-NextFilesHold = (nodes : List Node) (disks : List DiskCounts) (es : List Entry) (closing : World) (may waits next : Id → Bool) → AreOpening nodes → AreLawful may waits nodes → MayOnly may (opened nodes disks) es closing → EndMay may closing →
+NextFilesHold = (nodes : List Node) (disks : List DiskCounts) (es : List Entry) (closing : World) (may waits next : Id → Bool) → AreOpening nodes → AreLawful may waits (opened nodes disks) es → MayOnly may (opened nodes disks) es closing → EndMay may closing →
     Legal (opened nodes disks) es closing → ((x : Id) → next x ≡ true → may x ≡ true) → (node : List ℕ) (n m : Node) → find_node node closing.nodes ≡ Some n → n.durable.volume ≡ Sound → IsReopened n m →
     AllFound (λ file f. IsOpening next m.durable.greatest (state_of f)) m.durable.directory

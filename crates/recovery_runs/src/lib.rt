@@ -25,7 +25,10 @@ pub fn shown_recoveries_hold()
 {}
 
 /// What a run promises of its recoveries: such a one gave the records of its moment, where aborts stand that a fall cut short; and each succeeds, or is refused
-/// for the cause that its line names, with its numbers, or memory is missing, or the disk of its node fails. And the files that the run leaves agree again.
+/// for the cause that its line names, with its numbers, or memory is missing, or the disk of its node fails. Where the images agree with which the run
+/// begins, and the files with their journals and saves, that asks for no more than these images. And the files that the run leaves agree again.
 pub fn recovery_promises_hold()
     ensures { RecoveryPromisesHold }
-{}
+{
+    run_laws::promises::promises_hold();
+}

@@ -1,8 +1,8 @@
 //! Calls that fail: of a platter, which puts its node down, and of the source and the sink, which ends the run.
 use block_disk::MemPlatter;
-use dtm_run::Exit;
 use std::alloc::Global;
 use std::test::Fail;
+use test_scripts::Exit;
 use test_scripts::one_node::{COMMITTING, OPENING, run_over, shown};
 use test_scripts::texts::{filled, joined};
 use transcript::{MemSink, MemSource};

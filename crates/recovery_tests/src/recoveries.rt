@@ -1,8 +1,8 @@
 //! Recoveries of a file that are stopped at each of their writes: a boot behind the stop finds the old file or the new one.
-use dtm_run::Exit;
 use std::alloc::Global;
 use std::process::Abort;
 use std::test::Fail;
+use test_scripts::Exit;
 use test_scripts::one_node::shown;
 use test_scripts::texts::{has, joined};
 

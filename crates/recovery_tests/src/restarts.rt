@@ -1,11 +1,11 @@
 //! An image that is booted again, transactions beside each other, a node that falls before they are settled, and stops at each write of it and of
 //! its boots.
 use block_disk::{CrashDisk, Disk, MemPlatter};
-use dtm_run::Exit;
 use reference_run::{Ending, reference_transcript};
 use std::alloc::Global;
 use std::process::Abort;
 use std::test::Fail;
+use test_scripts::Exit;
 use test_scripts::one_node::{COMMITTING, OPENING, disk_of, run_on, shown};
 use test_scripts::texts::{filled, has, joined};
 
@@ -135,9 +135,9 @@ fn a_boot_that_is_stopped_is_begun_again(rt: HostRuntime) -> Result<(), Fail> {
     Ok(())
 }
 
-// A boot is stopped after each of these numbers of writes, and the next one after each number.
-fn undone_twice(rt: &impl Abort, alloc: Global, firsts: [u32; 5], choice: u64) -> Result<(), Fail> {
-    for first in firsts {
+// A boot is stopped after each number of writes, and the next one after each number.
+fn undone_twice(rt: &impl Abort, alloc: Global, choice: u64) -> Result<(), Fail> {
+    for first in 0..WRITES + 1 {
         for second in 0..WRITES + 1 {
             undone(rt, alloc, first, second, choice)?;
         }
@@ -147,22 +147,22 @@ fn undone_twice(rt: &impl Abort, alloc: Global, firsts: [u32; 5], choice: u64) -
 
 #[test]
 fn a_boot_behind_a_stopped_one_is_stopped_with_old_blocks(rt: HostRuntime) -> Result<(), Fail> {
-    undone_twice(&rt, rt.alloc(), [3, 9, 14, 20, 26], 0)
+    undone_twice(&rt, rt.alloc(), 0)
 }
 
 #[test]
 fn a_boot_behind_a_stopped_one_is_stopped_with_new_blocks(rt: HostRuntime) -> Result<(), Fail> {
-    undone_twice(&rt, rt.alloc(), [7, 12, 22, 33, 38], 5)
+    undone_twice(&rt, rt.alloc(), 5)
 }
 
 #[test]
 fn a_boot_behind_a_stopped_one_is_stopped_with_torn_blocks(rt: HostRuntime) -> Result<(), Fail> {
-    undone_twice(&rt, rt.alloc(), [5, 16, 25, 30, 36], 10)
+    undone_twice(&rt, rt.alloc(), 10)
 }
 
 #[test]
 fn a_boot_behind_a_stopped_one_is_stopped_with_other_bytes(rt: HostRuntime) -> Result<(), Fail> {
-    undone_twice(&rt, rt.alloc(), [10, 18, 28, 35, 37], 15)
+    undone_twice(&rt, rt.alloc(), 15)
 }
 
 // Two transactions change one indexed file in turn, and part its buckets.

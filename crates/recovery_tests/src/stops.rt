@@ -1,8 +1,8 @@
 //! Statements that are stopped at each of their writes: a boot behind the stop finds each of them whole or undone.
-use dtm_run::Exit;
 use std::alloc::Global;
 use std::process::Abort;
 use std::test::Fail;
+use test_scripts::Exit;
 use test_scripts::one_node::shown;
 use test_scripts::texts::{filled, has, joined};
 

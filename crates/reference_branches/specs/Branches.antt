@@ -1,11 +1,12 @@
 -- What nodes share, and branches by their states.
 use Rattle.std.specs.Prelude.{List, [], ◌∷◌, Bool, false, Option, Some, None, if◌then◌else◌, map}
 use Rattle.vms_model.specs.Ids.{Id}
+use Rattle.records_model.specs.History.{same_id}
 use Rattle.commit_protocol.specs.Allowed as allowed
 use Rattle.commit_protocol.specs.Allowed.{is_prepared}
 use Rattle.commit_protocol.specs.Effects.{Effect, SendEffect}
 use Rattle.commit_protocol.specs.Messages.{Message}
-use Rattle.commit_protocol.specs.Table.{Branch}
+use Rattle.commit_protocol.specs.Table.{Branch, Key}
 use Rattle.run_model.specs.Answers.{is_first_active, is_open, is_in_doubt}
 use Rattle.run_model.specs.World as world
 use Rattle.net_wire.specs.Messages.{message_of}
@@ -30,6 +31,11 @@ is_wanted wanted.Working b = allowed.is_working b
 is_wanted wanted.Open b = is_open b
 is_wanted wanted.InDoubt b = is_in_doubt b
 is_wanted wanted.Nowhere b = false
+
+-- the transaction of a serial among these branches, or else the serial
+abbrev pub tid_among : Id → List Key → Id
+tid_among serial [] = serial
+tid_among serial (k ∷ ks) = if same_id serial k.serial then k.tid else tid_among serial ks
 
 -- the serials of prepared branches, in their order
 abbrev pub serials_in_doubt : List Branch → List Id

@@ -14,8 +14,10 @@ use Rattle.run_model.specs.World.{Node, Shared, next_moment, posted, settlement}
 use Rattle.reference_world.specs.Standing.{line_of}
 use Rattle.reference_world.specs.declared.line.Line.{Line}
 use Rattle.reference_disk.specs.Disks.{logged_tid, one_line}
-use Rattle.reference_node.specs.Nodes.{key_line, released_by, settlement_line}
-use Rattle.reference_node.specs.Telling.{Applies, IsTellable, prepared_by, settled_logged, settlement_so, tid_among, with_log}
+use Rattle.reference_node.specs.Nodes.{released_by}
+use Rattle.reference_branches.specs.Branches.{tid_among}
+use Rattle.reference_branches.specs.Lines.{key_line, settlement_line}
+use Rattle.reference_node.specs.Telling.{Applies, IsTellable, prepared_by, settled_logged, settlement_so, with_log}
 use Rattle.reference_node.proofs.Viewing.{IsOfRecords, shows_forgotten, shows_kept, view}
 
 -- a branch whose parts are these

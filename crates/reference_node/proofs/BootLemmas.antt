@@ -28,7 +28,8 @@ use Rattle.world_laws.proofs.RestartLemmas.{are_active}
 use Rattle.world_laws.proofs.UnitSets.{found_active}
 use Rattle.reference_world.specs.Standing.{line_of}
 use Rattle.reference_world.specs.declared.line.Line.{Line}
-use Rattle.reference_node.specs.Nodes.{AreUnknown, key_line}
+use Rattle.reference_node.specs.Nodes.{AreUnknown}
+use Rattle.reference_branches.specs.Lines.{key_line}
 use Rattle.reference_node.specs.Telling.{HasTime, Restarts}
 
 -- Units that are undone are no branches.

@@ -19,7 +19,8 @@ use Rattle.log_laws.specs.Slots.{Slots, records_in, slots_after}
 use Rattle.row_laws.specs.May.{IsOfMessage, IsTold, MayDo, MayDoAll}
 use Rattle.row_laws.proofs.MayLemmas.{may_row, told_after}
 use Rattle.reference_disk.specs.Disks.{logged_tid}
-use Rattle.reference_node.specs.Telling.{AllTellable, AreLogged, IsTellable, tid_among}
+use Rattle.reference_node.specs.Telling.{AllTellable, AreLogged, IsTellable}
+use Rattle.reference_branches.specs.Branches.{tid_among}
 
 -- Branches that stood before.
 

@@ -21,7 +21,8 @@ use Rattle.run_model.specs.World.{Node, Shared, Tables, acted, next_moment, shar
 use Rattle.reference_world.specs.Standing.{line_of}
 use Rattle.reference_world.specs.declared.line.Line.{Line}
 use Rattle.reference_node.specs.Nodes.{Does}
-use Rattle.reference_node.specs.Telling.{CanTell, HasTime, Tells, TellsThen, answer_else, answer_shown}
+use Rattle.reference_node.specs.Telling.{CanTell, HasTime, Tells, TellsThen}
+use Rattle.reference_branches.specs.Lines.{answer_else, answer_shown}
 
 -- What is drawn before an event.
 

@@ -1,7 +1,6 @@
 -- The node that the code's values stand for, and what nodes share.
 use Rattle.std.specs.Prelude.{◌≡◌, ◌++◌, List, [], ◌∷◌, Some, None, map}
 use Rattle.vms_model.specs.Ids.{Id}
-use Rattle.transcript_model.specs.Lines as model
 use Rattle.commit_protocol.specs.Table.{Branch, Key, cut}
 use Rattle.run_model.specs.Answers.{Service}
 use Rattle.run_model.specs.Steps.{lines_of_rows, node_after, node_after_rows, shared_then, shared_after_rows}
@@ -83,14 +82,6 @@ released_by serial n = record n { volatile = record n.volatile { locks = release
 -- a node whose branch is settled, where its table and its log are seen to apart
 abbrev pub settled_by : world.Settlement → world.Node → world.Node
 settled_by s n = record (released_by s.serial n) { durable = world.with_settlement (Some s) n.durable; settled = s ∷ n.settled }
-
--- a settlement as it is shown
-abbrev pub settlement_line : world.Settlement → model.Line
-settlement_line s = elim s.reason [ Some reason ↦ model.Aborted s.tid s.serial reason s.moment | None ↦ model.Committed s.tid s.serial s.moment ]
-
--- a prepared branch as it is shown
-abbrev pub key_line : Key → model.Line
-key_line k = model.Prepared k.tid k.serial
 
 -- none of these branches is in a table
 abbrev pub AreUnknown : List Key → List Branch → Type 0

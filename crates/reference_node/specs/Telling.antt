@@ -1,9 +1,8 @@
 -- What the acts of a table come to at the node that is kept, effect by effect.
-use Rattle.std.specs.Prelude.{◌≡◌, ℕ, ◌+◌, ◌*◌, ◌^◌, ◌<◌, List, [], ◌∷◌, ◌++◌, Option, Some, None, if◌then◌else◌, map, option_map}
+use Rattle.std.specs.Prelude.{◌≡◌, ℕ, ◌+◌, ◌*◌, ◌^◌, ◌<◌, List, [], ◌∷◌, ◌++◌, Option, map, option_map}
 use Rattle.vms_model.specs.Ids.{Id}
 use Rattle.vms_model.specs.Times.{CanBeWritten}
 use Rattle.vms_model.specs.Transactions.{Outcome, Reason}
-use Rattle.records_model.specs.History.{same_id}
 use Rattle.transcript_model.specs.Lines as line
 use Rattle.unit_laws.specs.Journal.{end_of}
 use Rattle.commit_protocol.specs.Limits.{TmWithin}
@@ -21,12 +20,8 @@ use Rattle.run_model.specs.World.{Node, Shared, Tables, next_moment, shared_afte
 use Rattle.reference_world.specs.Standing.{line_of}
 use Rattle.reference_world.specs.declared.line.Line.{Line}
 use Rattle.reference_disk.specs.Disks.{logged_tid, one_line}
+use Rattle.reference_branches.specs.Branches.{tid_among}
 use Rattle.reference_node.specs.Nodes.{settled_by}
-
--- the transaction of a serial among these branches, or else the serial
-abbrev pub tid_among : Id → List Key → Id
-tid_among serial [] = serial
-tid_among serial (k ∷ ks) = if same_id serial k.serial then k.tid else tid_among serial ks
 
 -- so many settlements may follow at a node: its moments can be written, and its journal's positions do not leave their type
 pub record HasTime (count : ℕ) (n : Node) : Type 0 where
@@ -132,18 +127,6 @@ pub record TellsThen (e : Event) (answer : line.Line) (s : Shared) (n : Node) (s
   pub shows : map line_of shown ≡ lines_of_rows (table_rows (row (tm_of n) e) s n) ++ answer ∷ []
   pub shared : t ≡ shared_after_rows (table_rows (row (tm_of n) e) s n) s
   pub node : m ≡ node_after_rows (table_rows (row (tm_of n) e) s n) n
-
--- what END_TRANS is answered by the first of its lines that settles a branch
-abbrev pub answer_shown : List line.Line → Option line.Line
-answer_shown [] = None
-answer_shown (line.Committed tid serial moment ∷ ls) = Some line.Normal
-answer_shown (line.Aborted tid serial reason moment ∷ ls) = Some (line.TransactionAborted reason)
-answer_shown (_ ∷ ls) = answer_shown ls
-
--- an answer, or else this
-abbrev pub answer_else : Option line.Line → line.Line → line.Line
-answer_else (Some answer) other = answer
-answer_else None other = other
 
 -- A boot.
 

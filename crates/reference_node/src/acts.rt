@@ -19,36 +19,17 @@ ghost use Rattle.reference_branches.specs.Branches.{shared_of};
 ghost use Rattle.reference_node.specs.Telling.{HasTime};
 
 use crate::node::Node;
-use reference_branches::{Shared, key_of};
+use reference_branches::{Shared, alone, key_of, line_before};
 use reference_index::{Change, Key, push_front};
 use reference_records::Asked;
 use reference_recovery::side_for;
 use reference_units::with_locks;
-use reference_world::{BranchKey, DiskCall, Line, Settlement, one};
+use reference_world::{DiskCall, Line, Settlement, one};
 use script_lang::{Form, Recovery, Setting, Side};
 use std::alloc::{AllocError, Global};
 use std::mem::replace;
 use tm_types::{BranchState, Effects, Event};
 use vms_base::{FileName, Id, Label, Serial};
-
-// A line, and others behind it.
-fn line_before(lines: Vec<Line>, line: Line) -> Result<Vec<Line>, AllocError>
-    ensures { IfOk result (λ v. map line_of v.items ≡ line_of line ∷ map line_of lines.items) }
-{
-    let mut all = lines;
-    push_front(&mut all, line)?;
-    Ok(all)
-}
-
-// A branch of its own.
-fn alone(id: &Id) -> BranchKey
-    ensures { branch_key_of result ≡ first (id_of id.now) }
-{
-    BranchKey {
-        tid: *id,
-        serial: *id,
-    }
-}
 
 impl Node {
     // A branch makes changes of a file, and holds these keys of it.

@@ -11,31 +11,19 @@ ghost use Rattle.reference_world.specs.Standing.{branch_key_of, line_of};
 ghost use Rattle.world_laws.specs.Nodes.{IsKeptDisk};
 ghost use Rattle.reference_units.specs.Entries.{units_of};
 ghost use Rattle.reference_disk.specs.Disks.{durable_of};
-ghost use Rattle.reference_node.specs.Nodes.{node_of, key_line, AreUnknown, Does};
+ghost use Rattle.reference_node.specs.Nodes.{node_of, AreUnknown, Does};
+ghost use Rattle.reference_branches.specs.Lines.{key_line};
 ghost use Rattle.reference_node.specs.Telling.{HasTime, Restarts};
 
 use crate::node::Node;
 use crate::table::with_line;
+use reference_branches::prepared_lines;
 use reference_disk::keys_of_records;
 use reference_index::{append, push_back, push_front};
 use reference_units::Unit;
-use reference_world::{BranchKey, Line};
+use reference_world::Line;
 use std::alloc::{AllocError, Global};
 use world_laws::nodes_stay_kept;
-
-// A line for each of these prepared branches.
-fn prepared_lines(alloc: Global, keys: &[BranchKey]) -> Result<Vec<Line>, AllocError>
-    ensures { IfOk result (λ v. map line_of v.items ≡ map key_line (map branch_key_of keys.now)) }
-{
-    match keys {
-        [] => Ok(Vec::new(alloc)),
-        [key, rest @ ..] => {
-            let mut lines = prepared_lines(alloc, rest)?;
-            push_front(&mut lines, Line::Prepared(*key))?;
-            Ok(lines)
-        }
-    }
-}
 
 impl Node {
     // The node is booted once more, with the prepared branches and the committed records of its disk.

@@ -19,8 +19,8 @@ ghost use Rattle.reference_node.specs.Telling.{CanTell, HasTime};
 
 use crate::node::Node;
 use reference_branches::{
-    Known, Shared, awaited_reply, has_joined, is_among, join_refused, known_branch, known_manager,
-    names_without, owed_lines, standing,
+    Known, Shared, awaited_reply, has_joined, is_among, join_refused, joins, known_branch,
+    known_manager, names_without, owed_lines, standing,
 };
 use reference_index::push_back;
 use reference_records::{first_of, refused_if};
@@ -28,18 +28,8 @@ use reference_world::{Line, Quota, one};
 use script_lang::Named;
 use std::alloc::{AllocError, Global};
 use std::mem::replace;
-use tm_types::{BranchState, Event};
+use tm_types::Event;
 use vms_base::{Id, Label, Reply, RmName, Serial};
-
-// The event that a manager joins a branch.
-fn joins(b: &BranchState, rm: &RmName) -> Event
-    ensures { event_of result ≡ rows.JoinRm (branch_said b.now).key.serial rm.now }
-{
-    Event::JoinRm {
-        serial: b.serial,
-        rm: *rm,
-    }
-}
 
 impl Node {
     /// Whether a manager is declared.

@@ -19,55 +19,20 @@ ghost use Rattle.tm_types.specs.Events.{event_of};
 ghost use Rattle.tm_types.specs.Parts.{log_record_of, rm_event_of};
 ghost use Rattle.reference_world.specs.Standing.{branch_key_of, outcome_by, settlement_of, line_of};
 ghost use Rattle.reference_disk.specs.Disks.{logged_tid, one_line};
-ghost use Rattle.reference_node.specs.Nodes.{node_of, released_by, settled_by, settlement_line, key_line};
-ghost use Rattle.reference_branches.specs.Branches.{shared_of};
-ghost use Rattle.reference_node.specs.Telling.{AllTellable, Applies, AppliesAll, CanTell, HasTime, IsTellable, MayApply, Tells, prepared_by, settled_logged, settlement_so, tid_among, with_log};
+ghost use Rattle.reference_node.specs.Nodes.{node_of, released_by, settled_by};
+ghost use Rattle.reference_branches.specs.Branches.{shared_of, tid_among};
+ghost use Rattle.reference_branches.specs.Lines.{key_line, settlement_line};
+ghost use Rattle.reference_node.specs.Telling.{AllTellable, Applies, AppliesAll, CanTell, HasTime, IsTellable, MayApply, Tells, prepared_by, settled_logged, settlement_so, with_log};
 
 use crate::node::Node;
-use reference_branches::Shared;
+use reference_branches::{Shared, branch_among, branch_in, reason_for, settled_line};
 use reference_index::{push_back, push_front};
 use reference_units::released;
-use reference_world::{BranchKey, Line, Settlement, WrittenMoment, same_id};
+use reference_world::{BranchKey, Line, Settlement, WrittenMoment};
 use std::alloc::{AllocError, Global};
 use std::mem::replace;
 use tm_types::{Effect, Effects, Event};
-use vms_base::{Id, LogRec, NodeName, Outcome, Reason, RmEvent, RmList, RmName};
-
-// The transaction of a serial among these branches, or else the serial.
-fn transaction_of(keys: &[BranchKey], serial: &Id) -> Id
-    ensures { id_of result ≡ tid_among (id_of serial.now) (map branch_key_of keys.now) }
-{
-    match keys {
-        [] => *serial,
-        [k, rest @ ..] => {
-            if same_id(serial, &k.serial) {
-                k.tid
-            } else {
-                transaction_of(rest, serial)
-            }
-        }
-    }
-}
-
-// The branch of a serial among these.
-fn branch_among(keys: &[BranchKey], serial: &Id) -> BranchKey
-    ensures { branch_key_of result ≡ record { tid = tid_among (id_of serial.now) (map branch_key_of keys.now); serial = id_of serial.now } }
-{
-    BranchKey {
-        tid: transaction_of(keys, serial),
-        serial: *serial,
-    }
-}
-
-// The branch of a transaction.
-fn branch_in(tid: &Id, serial: &Id) -> BranchKey
-    ensures { branch_key_of result ≡ record { tid = id_of tid.now; serial = id_of serial.now } }
-{
-    BranchKey {
-        tid: *tid,
-        serial: *serial,
-    }
-}
+use vms_base::{Id, LogRec, NodeName, Reason, RmEvent, RmList, RmName};
 
 // The transaction of a message; no other event tells of a branch that joins or starts.
 fn transaction_told(event: &Event) -> Id
@@ -83,17 +48,6 @@ fn transaction_told(event: &Event) -> Id
     }
 }
 
-// Why a branch is settled so: a commit has no reason.
-fn reason_for(outcome: Outcome, reason: Reason) -> Option<Reason>
-    ensures outcome { outcome_by result ≡ outcome_of outcome }
-    ensures reason { option_map reason_of result ≡ world.reason_of (outcome_of outcome) (reason_of reason) }
-{
-    match outcome {
-        Outcome::Commit => None,
-        Outcome::Abort => Some(reason),
-    }
-}
-
 /// Lines, and perhaps one before them.
 pub fn with_line(line: Option<Line>, lines: Vec<Line>) -> Result<Vec<Line>, AllocError>
     ensures { IfOk result (λ v. map line_of v.items ≡ one_line (option_map line_of line) ++ map line_of lines.items) }
@@ -103,20 +57,6 @@ pub fn with_line(line: Option<Line>, lines: Vec<Line>) -> Result<Vec<Line>, Allo
         push_front(&mut all, first)?;
     }
     Ok(all)
-}
-
-// The line of a settlement.
-fn settled_line(s: &Settlement) -> Line
-    ensures { line_of result ≡ settlement_line (settlement_of s.now) }
-{
-    let branch = BranchKey {
-        tid: s.tid,
-        serial: s.serial,
-    };
-    match s.reason {
-        None => Line::Committed(branch, s.moment),
-        Some(reason) => Line::Aborted(branch, reason, s.moment),
-    }
 }
 
 impl Node {

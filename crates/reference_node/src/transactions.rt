@@ -18,107 +18,17 @@ ghost use Rattle.tm_types.specs.Parts.{child_of, manager_of};
 ghost use Rattle.reference_world.specs.Standing.{label_of, line_of};
 ghost use Rattle.reference_node.specs.Nodes.{node_of, Does};
 ghost use Rattle.reference_branches.specs.Branches.{shared_of};
-ghost use Rattle.reference_node.specs.Telling.{CanTell, HasTime, TellsThen, answer_shown, answer_else};
+ghost use Rattle.reference_branches.specs.Lines.{answer_else, answer_shown};
+ghost use Rattle.reference_node.specs.Telling.{CanTell, HasTime, TellsThen};
 
 use crate::node::Node;
-use reference_branches::Shared;
+use reference_branches::{Shared, authorises, begins, branch_label, end_answer};
 use reference_index::{push_back, push_front};
 use reference_world::{LabelEntry, Line, one};
 use script_lang::Named;
 use std::alloc::{AllocError, Global};
-use tm_types::{BranchState, Child, Event, Manager};
-use vms_base::{Bid, Id, Label, Moment, NodeName, Reason, RmName, Serial, Tid};
-
-// The serials among these whose votes are missing.
-fn missing(alloc: Global, children: &[Child]) -> Result<Vec<Id>, AllocError>
-    ensures { IfOk result (λ v. map id_of v.items ≡ answers.missing (map child_of children.now)) }
-{
-    match children {
-        [] => Ok(Vec::new(alloc)),
-        [c, rest @ ..] => {
-            let mut all = missing(alloc, rest)?;
-            if c.vote.is_none() {
-                push_front(&mut all, c.serial.0)?;
-            }
-            Ok(all)
-        }
-    }
-}
-
-// The names of managers.
-fn names(alloc: Global, managers: &[Manager]) -> Result<Vec<RmName>, AllocError>
-    ensures { IfOk result (λ v. v.items ≡ rows.joined (map manager_of managers.now)) }
-{
-    match managers {
-        [] => Ok(Vec::new(alloc)),
-        [m, rest @ ..] => {
-            let mut all = names(alloc, rest)?;
-            push_front(&mut all, m.rm)?;
-            Ok(all)
-        }
-    }
-}
-
-// What END_TRANS is answered that showed these lines, where they settle a branch.
-fn settled_shown(lines: &[Line]) -> Option<Line>
-    ensures { option_map line_of result ≡ answer_shown (map line_of lines.now) }
-{
-    match lines {
-        [] => None,
-        [line, rest @ ..] => match line {
-            Line::Committed(_, _) => Some(Line::Normal),
-            Line::Aborted(_, reason, _) => Some(Line::TransactionAborted(*reason)),
-            _ => settled_shown(rest),
-        },
-    }
-}
-
-// The label of a branch that is authorised by this identifier for the other node.
-fn branch_label(name: &Label, other: &NodeName, b: &BranchState, bid: &Id) -> LabelEntry
-    ensures { label_of result ≡ record { name = name.now; node = other.now; tid = (branch_said b.now).key.tid; bid = Some (id_of bid.now); serial = None } }
-{
-    LabelEntry {
-        name: *name,
-        node: *other,
-        tid: b.tid.0,
-        bid: Some(*bid),
-        serial: None,
-    }
-}
-
-// A branch is authorised by this identifier.
-fn authorises(b: &BranchState, bid: &Id) -> Event
-    ensures { event_of result ≡ rows.Authorise (branch_said b.now).key.tid (id_of bid.now) }
-{
-    Event::Authorise {
-        tid: Tid(b.tid.0),
-        bid: Bid(*bid),
-    }
-}
-
-// The branch of a label begins.
-fn begins(l: &LabelEntry, serial: &Id, bid: &Id) -> Event
-    ensures { event_of result ≡ rows.Begin (id_of l.now.tid) (id_of serial.now) (id_of bid.now) }
-{
-    Event::Begin {
-        tid: Tid(l.tid),
-        serial: Serial(*serial),
-        bid: Bid(*bid),
-    }
-}
-
-// What END_TRANS of this branch is answered where it showed these lines. Each of its managers is asked then, and none has replied.
-fn end_answer(alloc: Global, lines: &[Line], b: &BranchState) -> Result<Line, AllocError>
-    ensures { IfOk result (λ l. line_of l ≡ answer_else (answer_shown (map line_of lines.now)) (model.Pending (answers.missing (branch_said b.now).accepted) (rows.joined (branch_said b.now).managers))) }
-{
-    match settled_shown(lines) {
-        Some(answer) => Ok(answer),
-        None => {
-            let serials = missing(alloc, b.accepted.items())?;
-            Ok(Line::Pending(serials, names(alloc, b.managers.items())?))
-        }
-    }
-}
+use tm_types::Event;
+use vms_base::{Id, Label, Moment, NodeName, Reason, Tid};
 
 impl Node {
     // The label of the first branch of a transaction.

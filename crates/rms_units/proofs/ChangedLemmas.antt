@@ -24,10 +24,10 @@ use Rattle.volume.specs.State.{SameVolume, VolumeState}
 use Rattle.volume_files.specs.Staging.{TellsSet}
 use Rattle.volume_files.proofs.StagingLemmas.{stages_read}
 use Rattle.unit_votes.proofs.Settled.{breaks_from}
-use Rattle.rms_units.specs.declared.asked.KeyChange.{KeyChange}
+use Rattle.key_changes.specs.declared.asked.KeyChange.{KeyChange}
 use Rattle.rms_units.specs.Calls.{ChangesKey, CommitsChange, KeyBroke, MakesEntry, MakesKey, change_late, direct_late}
 use Rattle.unit_journal.specs.Entries.{change_entry}
-use Rattle.rms_units.specs.Changing.{after_change, before_change, keys_asked, locks_refuse}
+use Rattle.key_changes.specs.Changing.{after_change, before_change, keys_asked, locks_refuse}
 use Rattle.kept_files.specs.Own.{own_change}
 use Rattle.rms_units.specs.Making.{CommitsKey, EntersKey}
 use Rattle.unit_cuts.specs.Records.{OfRecords}

@@ -15,7 +15,7 @@ use Rattle.records_model.specs.Records.{key_cmp}
 use Rattle.record_operations.specs.Causes.{Cause, Locked, Locks, first_cause}
 use Rattle.vms_model.specs.Ids.{Id}
 use Rattle.vms_model.specs.Keys.{Key, Number, End}
-use Rattle.rms_units.specs.Changing.{held_against, keys_refused, locks_refuse}
+use Rattle.key_changes.specs.Changing.{held_against, keys_refused, locks_refuse}
 use Rattle.rms_units.proofs.RoomLemmas.{not_refused}
 use Rattle.unit_cuts.specs.Truncating.{keys_down}
 

@@ -6,12 +6,11 @@ use Rattle.record_files.specs.Any.{map_of}
 use Rattle.unit_table.specs.Units.{OpenUnit, has_changed}
 use Rattle.vms_model.specs.Keys.{Key}
 use Rattle.volume.specs.State.{VolumeState}
-use Rattle.rms_units.specs.declared.asked.KeyChange.{KeyChange}
+use Rattle.key_changes.specs.declared.asked.KeyChange.{KeyChange}
 use Rattle.image_room.specs.Room.{images_refused}
 use Rattle.rms_units.specs.Calls.{change_late, direct_late}
 use Rattle.record_operations.specs.Causes.{Cause, first_cause}
-use Rattle.rms_units.specs.Changing.{after_change, before_change, changes_refused, file_refused, found_refused, keys_asked, keys_refused}
-use Rattle.rms_units.specs.Making.{need_of}
+use Rattle.key_changes.specs.Changing.{after_change, before_change, changes_refused, file_refused, found_refused, keys_asked, keys_refused, need_of}
 use Rattle.rms_units.specs.State.{UnitsState}
 use Rattle.unit_journal.specs.Room.{entry_size, journal_refused}
 use Rattle.rms_units.proofs.Refusing.{first_is, second_is}

@@ -18,9 +18,9 @@ use Rattle.volume.specs.State.{VolumeState}
 use Rattle.volume_files.specs.Staging.{StagesFile, TellsSet}
 use Rattle.record_locks.specs.Locks.{Lock, holder}
 use Rattle.vms_model.specs.Ids.{Id}
-use Rattle.rms_units.specs.declared.asked.KeyChange.{KeyChange}
+use Rattle.key_changes.specs.declared.asked.KeyChange.{KeyChange}
 use Rattle.rms_units.specs.Calls.{MakesEntry}
-use Rattle.rms_units.specs.Changing.{after_change, before_change}
+use Rattle.key_changes.specs.Changing.{after_change, before_change}
 use Rattle.rms_units.specs.Making.{CommitsBranch, CommitsKey, EntersImages, EntersKey}
 use Rattle.unit_journal.specs.Entries.{change_entry, settled_entry}
 use Rattle.file_settlements.specs.Settling.{EntersSettled}

@@ -15,10 +15,10 @@ use Rattle.volume.specs.Catalogs.{IsSound, head_at}
 use Rattle.volume.specs.Limits.{KeysFit}
 use Rattle.volume.specs.State.{VolumeState}
 use Rattle.volume_files.proofs.Places.{fits_at}
-use Rattle.rms_units.specs.declared.asked.KeyChange.{KeyChange}
-use Rattle.rms_units.specs.declared.asked.KeyChange.TheVariants as change
+use Rattle.key_changes.specs.declared.asked.KeyChange.{KeyChange}
+use Rattle.key_changes.specs.declared.asked.KeyChange.TheVariants as change
 use Rattle.rms_units.specs.Calls.{change_early, direct_early}
-use Rattle.rms_units.specs.Keys.{change_in, key_in, position_by}
+use Rattle.key_changes.specs.Keys.{change_in, key_in, position_by}
 use Rattle.rms_units.specs.State.{IsInOrder, UnitsState}
 use Rattle.rms_units.proofs.Refusing.{second_is}
 use Rattle.rms_units.proofs.RoomLemmas.{not_refused}

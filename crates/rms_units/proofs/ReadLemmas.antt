@@ -14,7 +14,7 @@ use Rattle.unit_table.specs.Units.{OpenUnit, Units}
 use Rattle.vms_model.specs.Keys.{Key}
 use Rattle.volume.specs.State.{SameVolume, VolumeState}
 use Rattle.rms_units.specs.Calls.{ReadRefused, read_early}
-use Rattle.rms_units.specs.Changing.{keys_refused}
+use Rattle.key_changes.specs.Changing.{keys_refused}
 use Rattle.rms_units.specs.Reading.{Finds}
 use Rattle.unit_cuts.specs.Records.{OfRecords}
 use Rattle.rms_units.specs.State.{IsInOrder, UnitsState}

@@ -19,17 +19,17 @@ use Rattle.record_operations.specs.declared.ops.RecordOp.{RecordOp}
 use Rattle.record_operations.specs.declared.ops.RecordOp.TheVariants as op
 use Rattle.record_operations.specs.declared.ops.ReadOp.{ReadOp}
 use Rattle.record_operations.specs.declared.ops.ReadOp.TheVariants as read
-use Rattle.rms_units.specs.declared.asked.KeyChange.{KeyChange}
-use Rattle.rms_units.specs.declared.asked.KeyChange.TheVariants as change
+use Rattle.key_changes.specs.declared.asked.KeyChange.{KeyChange}
+use Rattle.key_changes.specs.declared.asked.KeyChange.TheVariants as change
 use Rattle.record_operations.specs.declared.errors.RecErr.{RecErr}
 use Rattle.record_operations.specs.Asking.{file_in, is_of_key, read_file_in, written}
 use Rattle.record_operations.specs.Causes.{Cause, NotMarked, NeedsUnit, cause_of, cause_if, first_cause, IfRefused}
-use Rattle.rms_units.specs.Changing.{after_change, before_change, file_refused, found_refused, changes_refused, keys_asked, keys_refused, locks_refuse}
+use Rattle.key_changes.specs.Changing.{after_change, before_change, file_refused, found_refused, changes_refused, keys_asked, keys_refused, locks_refuse, need_of}
 use Rattle.unit_journal.specs.Entries.{change_entry, settled_entry}
-use Rattle.rms_units.specs.Keys.{change_in, key_in, position_by}
+use Rattle.key_changes.specs.Keys.{change_in, key_in, position_by}
 use Rattle.image_room.specs.Room.{images_refused}
 use Rattle.kept_files.specs.Own.{own_change}
-use Rattle.rms_units.specs.Making.{CommitsKey, EntersKey, need_of}
+use Rattle.rms_units.specs.Making.{CommitsKey, EntersKey}
 use Rattle.record_operations.specs.Forms.{form_refused, read_form_refused}
 use Rattle.unit_journal.specs.Groups.{Breaks}
 use Rattle.unit_journal.specs.Leaving.{FellIn}

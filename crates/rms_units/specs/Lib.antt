@@ -1,6 +1,4 @@
 pub mod Aborting
-pub mod Changing
-pub mod Keys
 pub mod Making
 pub mod State
 pub mod Reading

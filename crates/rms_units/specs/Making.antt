@@ -1,8 +1,7 @@
 -- What a change of one key makes of a volume.
-use Rattle.std.specs.Prelude.{◌≡◌, ◌≤◌, ◌+◌, ◌^◌, ℕ, List, Bool, true, Option, Some, None, length, option_map, if◌then◌else◌}
+use Rattle.std.specs.Prelude.{◌≡◌, ◌≤◌, ◌+◌, ◌^◌, ℕ, List, Bool, true, Option, Some, None, length, option_map}
 use Rattle.file_base.specs.declared.head.FileHead.{FileHead}
 use Rattle.journal_model.specs.Entries.{Entry, IsEntry, spelling}
-use Rattle.record_files.specs.Any.{asks}
 use Rattle.vms_model.specs.Keys.{Key}
 use Rattle.vms_base.specs.Ids.{serial_of, tid_of}
 use Rattle.vms_base.specs.declared.ids.Serial.{Serial}
@@ -11,8 +10,6 @@ use Rattle.vms_model.specs.Transactions.{Commit}
 use Rattle.unit_table.specs.Units.{OpenUnit}
 use Rattle.volume.specs.State.{VolumeState}
 use Rattle.volume_files.specs.Staging.{StagesFile, TellsSet}
-use Rattle.rms_units.specs.declared.asked.KeyChange.{KeyChange}
-use Rattle.rms_units.specs.Changing.{asks_by}
 use Rattle.volume_format.specs.declared.home.Ending.TheVariants as ending
 use Rattle.file_settlements.specs.Settling.{EntersSettled}
 use Rattle.kept_files.specs.Own.{only}
@@ -22,10 +19,6 @@ use Rattle.image_appends.specs.Images.{content_with_both, heads_with_both, is_ke
 use Rattle.volume.specs.Catalogs.{head_at}
 use Rattle.unit_journal.specs.Settling.{MakesSettlement}
 use Rattle.unit_journal.specs.Spans.{entered, longer}
-
--- how many free buckets a change wants
-abbrev pub need_of : FileHead → List (List ℕ) → KeyChange → (size : ℕ) → ℕ
-need_of h content change size = if asks_by h.organization change then asks h content size else 0
 
 -- positions in the journals of images of a file, where it keeps them, stay low with so many bytes more
 abbrev pub AreLow : (after before : ℕ) → (file : ℕ) → List (Option FileHead) → Type 0

@@ -1,22 +1,14 @@
 -- What a read finds, by the file's head, the records that stand and the keys that are held.
-use Rattle.std.specs.Prelude.{◌≡◌, ◌⊎◌, ℕ, List, [], ◌∷◌, Option, Some, None, IfSome, option_map}
+use Rattle.std.specs.Prelude.{◌≡◌, ◌⊎◌, ℕ, List, [], ◌∷◌, Option, Some, None, option_map}
 use Rattle.change_set.specs.Maps.{Map, EndsAfter, IsNext}
-use Rattle.change_set.specs.declared.walk.Place.{Place}
-use Rattle.file_base.specs.declared.head.FileHead.{FileHead}
-use Rattle.record_files.specs.Any.{Begins, IsFile, IsLaidOut, map_of}
 use Rattle.record_locks.specs.Locks.{Lock, holder}
 use Rattle.vms_base.specs.Keys.{key_of}
 use Rattle.vms_model.specs.Ids.{Id}
 use Rattle.vms_model.specs.Keys.{Key}
-use Rattle.volume.specs.State.{VolumeState}
 use Rattle.record_operations.specs.declared.ops.ReadOp.{ReadOp}
 use Rattle.record_operations.specs.declared.ops.ReadOp.TheVariants.{Get, Next}
 use Rattle.record_operations.specs.Causes.{Cause, RecordNotFound, EndOfFile, first_cause}
-use Rattle.rms_units.specs.Changing.{held_against}
-
--- a walk to a key of a file may begin at a place
-abbrev pub MayBegin : FileHead → VolumeState → Key → Place → Type 0
-MayBegin h v key place = IfSome v.store.current (λ a. IsFile h → IsLaidOut h a → Begins h a (Some key) place)
+use Rattle.key_changes.specs.Changing.{held_against}
 
 -- the keys that a read asks for before a record is read
 abbrev pub read_keys : ReadOp → List Key

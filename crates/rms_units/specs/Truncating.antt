@@ -12,7 +12,7 @@ use Rattle.unit_table.specs.Units.{OpenUnit, has_changed, with_position, with_un
 use Rattle.vms_base.specs.declared.ids.Tid.{Tid}
 use Rattle.vms_model.specs.Keys.{Key, End}
 use Rattle.volume.specs.State.{SameVolume, VolumeState}
-use Rattle.rms_units.specs.Changing.{keys_refused, locks_refuse}
+use Rattle.key_changes.specs.Changing.{keys_refused, locks_refuse}
 use Rattle.rms_units.specs.State.{UnitsState}
 use Rattle.unit_cuts.specs.Records.{OfRecords}
 use Rattle.unit_cuts.specs.Truncating.{BreaksCut, CommitsCut, CutEntries, MakesCut, begins_at, entry_sizes, keys_cut, removed_from}

@@ -15,15 +15,11 @@ ghost use Rattle.image_room.specs.Room.{SettlementsFit, images_refused, kept_spa
 ghost use Rattle.unit_cuts.specs.Records.{OfRecords};
 ghost use Rattle.unit_journal.specs.Room.{entry_size as entry_said};
 ghost use Rattle.rms_units.specs.Calls.{DirectKeyRefused, direct_late};
-ghost use Rattle.rms_units.specs.Changing.{IsFormed, after_change, before_change, keys_asked, locks_refuse};
+ghost use Rattle.key_changes.specs.Changing.{IsFormed, MayBegin, after_change, before_change, keys_asked, locks_refuse};
 ghost use Rattle.kept_files.specs.Own.{own_change};
 ghost use Rattle.rms_units.specs.Making.{CommitsKey};
-ghost use Rattle.rms_units.specs.Reading.{MayBegin};
 ghost use Rattle.rms_units.specs.State.{IsEarly, IsInOrder, UnitsState};
 
-use crate::asked::Asked;
-use crate::changing::{read_before, room_in_file};
-use crate::locking::{HeldIn, locks_refusal};
 use crate::making::commit_key;
 use crate::one_key::after_size;
 use block_disk::Disk;
@@ -31,6 +27,7 @@ use careful_write::Down;
 use change_set::Place;
 use image_room::images_refusal;
 use journal_format::EntryBuf;
+use key_changes::{Asked, HeldIn, locks_refusal, read_before, room_in_file};
 use record_locks::Locks;
 use record_operations::RecErr;
 use unit_cuts::own_branch;

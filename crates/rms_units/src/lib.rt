@@ -2,10 +2,7 @@
 #![tactic(auto)]
 
 mod aborting;
-mod asked;
-mod changing;
 mod directly;
-mod locking;
 mod making;
 mod one_key;
 mod reading;
@@ -14,8 +11,7 @@ mod truncating;
 mod units;
 mod voting;
 
-pub use asked::KeyChange;
-pub use locking::is_same;
+pub use key_changes::{KeyChange, is_same};
 pub use record_operations::{ReadOp, RecErr, RecordOp, form_refusal, read_refusal};
 pub use tokens::{ActiveUnit, BeginErr, PreparedUnit, SettledUnit, Vote, next_prepared};
 pub use unit_restarts::{AbortedUnit, Restarted};

@@ -20,15 +20,15 @@ ghost use Rattle.image_appends.specs.declared.side.Side.TheVariants as sides;
 ghost use Rattle.image_appends.specs.Images.{FileHasRoom};
 ghost use Rattle.rms_units.specs.Making.{CommitsBranch, EntersKey};
 ghost use Rattle.image_room.specs.Room.{ImagesAreLow};
-ghost use Rattle.rms_units.specs.Reading.{MayBegin};
+ghost use Rattle.key_changes.specs.Changing.{MayBegin};
 
-use crate::asked::Asked;
 use block_disk::Disk;
 use careful_write::{Down, one_content};
 use change_set::{Held, Place};
 use file_base::FileHead;
 use image_appends::append_change;
 use journal_format::EntryBuf;
+use key_changes::Asked;
 use unit_cuts::settle_own;
 use unit_journal::{encode_change, enter, stage_settlement};
 use unit_table::{Branch, UnitTable};

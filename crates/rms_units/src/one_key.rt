@@ -16,23 +16,22 @@ ghost use Rattle.image_appends.specs.declared.side.Side.TheVariants as sides;
 ghost use Rattle.image_room.specs.Room.{SettlementsFit, images_refused, kept_span};
 ghost use Rattle.rms_units.specs.Calls.{KeyRefused, MakesEntry, change_late};
 ghost use Rattle.record_operations.specs.Causes.{IfRefused, IsRefusal, cause_of, first_cause};
-ghost use Rattle.rms_units.specs.Changing.{IsFormed, after_change, before_change, changes_refused, keys_asked, keys_refused, locks_refuse};
+ghost use Rattle.key_changes.specs.Changing.{IsFormed, MayBegin, after_change, before_change, changes_refused, keys_asked, keys_refused, locks_refuse};
 ghost use Rattle.unit_journal.specs.Groups.{Breaks, Grows};
 ghost use Rattle.unit_journal.specs.Leaving.{FellIn};
 ghost use Rattle.unit_journal.specs.Room.{entry_size as entry_said, journal_refused};
-ghost use Rattle.rms_units.specs.Reading.{MayBegin};
 ghost use Rattle.unit_cuts.specs.Records.{OfRecords};
 ghost use Rattle.rms_units.specs.State.{IsEarly, IsInOrder, UnitsState};
 
-use crate::asked::Asked;
-use crate::changing::{read_before, room_in_file};
-use crate::locking::{HeldIn, MOST_LOCKS, asks_end, free_keys, locks_refusal};
 use crate::making::set_key;
 use block_disk::Disk;
 use careful_write::Down;
 use change_set::Place;
 use image_room::images_refusal;
 use journal_format::EntryBuf;
+use key_changes::{
+    Asked, HeldIn, MOST_LOCKS, asks_end, free_keys, locks_refusal, read_before, room_in_file,
+};
 use record_locks::Locks;
 use record_operations::RecErr;
 use unit_journal::{entry_size, journal_refusal};

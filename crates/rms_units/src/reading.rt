@@ -12,13 +12,13 @@ ghost use Rattle.record_operations.specs.Causes.{IfRefused, first_cause};
 ghost use Rattle.volume.specs.State.{SameVolume};
 ghost use Rattle.record_files.specs.Any.{reads_of};
 ghost use Rattle.rms_units.specs.Calls.{ReadsFew};
-ghost use Rattle.rms_units.specs.Changing.{held_against, locks_refuse};
+ghost use Rattle.key_changes.specs.Changing.{held_against, locks_refuse};
 ghost use Rattle.rms_units.specs.Reading.{Finds, FindsNone, NextIsNot, missing, read_keys};
 ghost use Rattle.unit_cuts.specs.Records.{OfRecords};
 
-use crate::locking::lock_refusal;
 use block_disk::Disk;
 use file_base::FileHead;
+use key_changes::lock_refusal;
 use record_locks::Locks;
 use record_operations::{ReadOp, RecErr};
 use vms_base::{Key, Record, Serial};

@@ -130,7 +130,7 @@ disk_image d y i h boot last prepared committed units j jb jl jp jc ju =
           });
     }
 
-face_image : (taken : Bool) (x : Node) (f : Face) → IsFace taken x f → SameImage (image_left f.node) (image_of (landed taken x))
+pub face_image : (taken : Bool) (x : Node) (f : Face) → IsFace taken x f → SameImage (image_left f.node) (image_of (landed taken x))
 face_image taken x f is = elim (cases_Bool x.up) [
   | inl up ↦
       let u = up_of_face taken x f up is in
@@ -147,7 +147,7 @@ face_image taken x f is = elim (cases_Bool x.up) [
 
 -- The images of the nodes of a rack.
 
-after_in : (r : Resolution) (v : World) (is : List (Name × Image)) (n : Name) → image_in n (images_after r v is) ≡ (if is_some (image_in n is) then Some (image_after (r n) (find_node n v.nodes)) else None)
+pub after_in : (r : Resolution) (v : World) (is : List (Name × Image)) (n : Name) → image_in n (images_after r v is) ≡ (if is_some (image_in n is) then Some (image_after (r n) (find_node n v.nodes)) else None)
 after_in r v [] n = refl
 after_in r v (i ∷ is) n = go (same_name i.0 n) refl (after_in r v is n)
   where

@@ -16,6 +16,7 @@ pub mod Going
 pub mod Runs
 pub mod Openings
 pub mod Staying
+pub mod Absent
 pub mod Resting
 pub mod Ending
 pub mod Images

@@ -74,7 +74,7 @@ image_left_is x h = record {
   volume = h.volume;
 }
 
-sound_of : (x : Node) → has_volume x ≡ true → x.durable.volume ≡ Sound
+pub sound_of : (x : Node) → has_volume x ≡ true → x.durable.volume ≡ Sound
 sound_of x e = by x.durable.volume refl
   where
     by : (v : world.Volume) → x.durable.volume ≡ v → x.durable.volume ≡ Sound

@@ -46,6 +46,7 @@ stays base v u fs agrees reached after r =
 pub stay_settled : (base v u : World) (es fs : List Entry) → IsRun base es v → RunsFrom v fs u → (r : Resolution) → (q : Resolution) × ((k : Key) (out : Outcome) → HasOutcome base q v k out → HasOutcome base r u k out)
 stay_settled base v u es fs h after = stays base v u fs h.agrees (λ r. reached_by base v es h r) after
 
+-- so it is where the node of the branch is in the rack
 pub at_rest_whole : ((o : Opening) → IsAgreeing o → (steps : List Step) → Agrees (view (run steps (opened o)))) → (base v : World) (es : List Entry) → IsRun base es v → IsAtRest v → (r : Resolution) (k : Key) (z : Node) → find_node (home_of k) v.nodes ≡ Some z
     → IsBranch base v k → (k ≡ first k.tid → ⊥) → IsCommitted base r v k.tid → HasOutcome base r v k ToCommit ⊎ In k v.shared.read_only
 at_rest_whole law base v es h rest r k z found branch other commits =

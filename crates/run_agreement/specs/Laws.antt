@@ -9,7 +9,7 @@ use Rattle.transcript_model.specs.Lines.{Line, Cause, Down, Normal, Broken, NoMe
 use Rattle.script_model.specs.Statements.{At, Settle, Init, EndTrans, Reading, Blank, Says, Bad}
 use Rattle.script_model.specs.Grammar.{reading}
 use Rattle.commit_protocol.specs.Messages.{Name}
-use Rattle.commit_protocol.specs.Table.{Key, Branch, first, home_of, coordinator_of}
+use Rattle.commit_protocol.specs.Table.{Key, Branch, first, coordinator_of}
 use Rattle.commit_protocol.specs.Allowed.{is_prepared}
 use Rattle.commit_protocol.specs.World as protocol
 use Rattle.commit_protocol.specs.World.{In, run}
@@ -154,9 +154,9 @@ EndsFor w u events _ = ⊥
 abbrev pub SettlingEnds : Type 0
 SettlingEnds = (base v u : World) (es : List Entry) (events : List Line) (answer : Line) → IsRun base es v → NamesApart v.nodes → Step v Settle (events ++ answer ∷ []) u → (answer ≡ Normal) ⊎ EndsFor v u events answer
 
--- In a world at rest each accepted branch of a committed transaction, whose node is in the rack, is committed or read-only.
+-- In a world at rest each accepted branch of a committed transaction is committed or read-only.
 abbrev pub RestingAreWhole : Type 0
-RestingAreWhole = (base v : World) (es : List Entry) → IsRun base es v → IsAtRest v → (r : Resolution) (k : Key) (x : Node) → find_node (home_of k) v.nodes ≡ Some x →
+RestingAreWhole = (base v : World) (es : List Entry) → IsRun base es v → IsAtRest v → (r : Resolution) (k : Key) →
     IsBranch base v k → (k ≡ first k.tid → ⊥) → IsCommitted base r v k.tid → HasOutcome base r v k ToCommit ⊎ In k v.shared.read_only
 
 -- An END_TRANS that is answered SS$_NORMAL committed the transaction that its label names, and it is so from then on, whatever turns out of the acts under way.

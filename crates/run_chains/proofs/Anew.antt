@@ -26,7 +26,7 @@ module _ (o p : Opening) (turns : (n : Name) → Turns o p n) where
       nothing : image_at p n ≡ no_image → ⊥
       nothing e = subst (λ (xs : List A). In x xs) (ap part e ∙ none) i
 
-  prepared_before : (n : Name) (r : LogRecord) → In r (image_at p n).prepared → In r (image_at o n).prepared
+  pub prepared_before : (n : Name) (r : LogRecord) → In r (image_at p n).prepared → In r (image_at o n).prepared
   prepared_before n r i = fewer (λ j. j.prepared) refl n r i
 
   committed_before : (n : Name) (r : LogRecord) → In r (image_at p n).committed → In r (image_at o n).committed
@@ -54,7 +54,7 @@ module _ (o p : Opening) (turns : (n : Name) → Turns o p n) where
   last_in : (k : Key) (out : Outcome) → LastIn p k out → LastIn o k out
   last_in k out x = (x.0, last_at x.0 (k, out) x.1)
 
-  shows_in : (t : Id) → Shows p t → Shows o t
+  pub shows_in : (t : Id) → Shows p t → Shows o t
   shows_in t x = elim x [
     | inl a ↦ inl (a.0, last_in a.0 ToCommit a.1, a.2)
     | inr a ↦ inr (a.0, (a.1.0, committed_before a.0 a.1.0 a.1.1, a.1.2))

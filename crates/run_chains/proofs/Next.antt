@@ -8,13 +8,12 @@ use Rattle.std.proofs.lemmas.Bool.{both_ways}
 use Rattle.vms_model.specs.Ids.{Id}
 use Rattle.vms_model.specs.Transactions.{Outcome}
 use Rattle.unit_laws.specs.Units.{Map}
-use Rattle.commit_protocol.specs.Messages.{Name, same_name}
+use Rattle.commit_protocol.specs.Messages.{Name}
 use Rattle.commit_protocol.specs.Table.{Key}
 use Rattle.commit_protocol.specs.World.{In}
 use Rattle.commit_protocol.specs.Opening.{Image, IsAgreeing, OldIn, image_at, image_in, new_volumes, no_image, or_none}
 use Rattle.commit_protocol.specs.Opening as opening
 use Rattle.commit_protocol.proofs.Gathered.{is_shown}
-use Rattle.commit_protocol.proofs.Lists.{same_name-true}
 use Rattle.commit_protocol.proofs.NewVolumes.{new_agree}
 use Rattle.commit_protocol.proofs.Opened.{good_opened}
 use Rattle.commit_protocol.proofs.Running.{goes_run}
@@ -23,8 +22,9 @@ use Rattle.run_model.specs.Transcript.{AreOpening, Entry, Legal}
 use Rattle.run_model.proofs.NodeLists.{some_is}
 use Rattle.run_agreement.specs.Seen.{Face, IsFace, IsKnown, Resolution, has_volume, image_of, landed, outcome_of}
 use Rattle.run_agreement.specs.Following.{opening_of}
-use Rattle.run_agreement.specs.Laws.{IsReachedBy, IsRun, NamesApart, image_after, image_told, images_after, next_opening, opening_told, volume_image}
+use Rattle.run_agreement.specs.Laws.{IsReachedBy, IsRun, NamesApart, image_after, image_told, next_opening, opening_told, volume_image}
 use Rattle.run_agreement.proofs.Events.{down_of_face, up_of_face}
+use Rattle.run_agreement.proofs.Images.{after_in}
 use Rattle.run_agreement.proofs.Openings.{reached_by}
 use Rattle.run_laws.specs.Anew.{AreKnownOrAnew, IsMadeAnew}
 use Rattle.run_laws.specs.Promises.{AreLastApart, IsLastApart}
@@ -44,7 +44,7 @@ abbrev beside_files : Durable → Durable
 beside_files d = record d { directory = [] }
 
 -- A node without a volume has none again; of another the disk has, besides its files, what the node has whose act under way turned out so.
-abbrev Lands : Node → Node → Bool → Type 0
+abbrev pub Lands : Node → Node → Bool → Type 0
 Lands n m taken = ((has_volume n ≡ true) × (beside_files m.durable ≡ beside_files (landed taken n).durable)) ⊎ ((has_volume n ≡ false) × (has_volume m ≡ false))
 
 -- an abort that is done in part changes files alone
@@ -108,10 +108,10 @@ landed_apart true n h way = go n.under_way refl
 -- All nodes.
 
 -- the acts under way of these nodes turned out so, as those of the next run show
-abbrev Turned : List Node → List Node → Resolution → Type 0
+abbrev pub Turned : List Node → List Node → Resolution → Type 0
 Turned ns ms r = (name : Name) (n m : Node) → find_node name ns ≡ Some n → find_node name ms ≡ Some m → Lands n m (r name)
 
-turned : (ns ms : List Node) → AreNext ns ms → (r : Resolution) × Turned ns ms r
+pub turned : (ns ms : List Node) → AreNext ns ms → (r : Resolution) × Turned ns ms r
 turned [] [] h = (λ name. false, λ name n m e. let no : ⊥ = cc in absurd no)
 turned [] (m ∷ ms) h = absurd h
 turned (n ∷ ns) [] h = absurd h
@@ -127,16 +127,6 @@ turned (n ∷ ns) (m ∷ ms) h = both (lands n m h.0.reopened) (turned ns ms h.1
         go name x y true e f = subst (λ z. Lands z y taken) (some_is n x e) (subst (λ z. Lands n z taken) (some_is m y f) own)
         go name x y false e f = others name x y e f
 
--- the image that a run leaves of a node
-after_in : (r : Resolution) (v : World) (is : List (Name × Image)) (n : Name) → image_in n (images_after r v is) ≡ (if is_some (image_in n is) then Some (image_after (r n) (find_node n v.nodes)) else None)
-after_in r v [] n = refl
-after_in r v (i ∷ is) n = go (same_name i.0 n) refl (after_in r v is n)
-  where
-    go : (b : Bool) → same_name i.0 n ≡ b → image_in n (images_after r v is) ≡ (if is_some (image_in n is) then Some (image_after (r n) (find_node n v.nodes)) else None) →
-        ◌≡◌ {A = Option Image} (if b then Some (image_after (r i.0) (find_node i.0 v.nodes)) else image_in n (images_after r v is)) (if is_some (if b then Some i.1 else image_in n is) then Some (image_after (r n) (find_node n v.nodes)) else None)
-    go true e more = ap (λ m. Some (image_after (r m) (find_node m v.nodes))) (same_name-true i.0 n e)
-    go false e more = more
-
 -- a node with a volume had one in the base, and has one however its act under way turns out
 module _ (base v : World) (es : List Entry) (is_run : IsRun base es v) (r : Resolution) (name : Name) (x : Node) (found : find_node name v.nodes ≡ Some x) (has : has_volume x ≡ true) where
   reached : IsReachedBy base r v
@@ -145,7 +135,7 @@ module _ (base v : World) (es : List Entry) (is_run : IsRun base es v) (r : Reso
   face : (f : Face) × (reached.shows.faces name ≡ Some f) × IsFace (r name) x f
   face = reached.shows.are.there name x found has
 
-  in_base : is_some (image_in name (opening_of base).images) ≡ true
+  pub in_base : is_some (image_in name (opening_of base).images) ≡ true
   in_base = sym (ap (λ (g : Name → Bool). g name) (goes_run reached.steps (opening.opened (opening_of base)) (good_opened (opening_of base) is_run.agrees (is_shown (opening_of base) is_run.agrees))).rack) ∙ reached.shows.follows.rack name ∙ ap is_some face.1
 
   left_image : image_in name (next_opening base r v).images ≡ Some (image_of (landed (r name) x))
@@ -166,10 +156,10 @@ module _ (base v : World) (es : List Entry) (is_run : IsRun base es v) (r : Reso
 
 -- the images of the next run, by those that this one leaves, where the acts under way turned out so
 module _ (base closing : World) (since : List Entry) (is_run : IsRun base since closing) (leaves : (r : Resolution) → IsAgreeing (next_opening base r closing)) (next : List Node) (are : AreNext closing.nodes next) (names : NamesApart next) where
-  abbrev r : Resolution
+  abbrev pub r : Resolution
   r = (turned closing.nodes next are).0
 
-  turns : (es : List Entry) → MadeAreNew next es → (name : Name) → Turns (next_opening base r closing) (opening_told next es) name
+  pub turns : (es : List Entry) → MadeAreNew next es → (name : Name) → Turns (next_opening base r closing) (opening_told next es) name
   turns es new name = go (place name closing.nodes next are)
     where
       go : Place name closing.nodes next → Turns (next_opening base r closing) (opening_told next es) name

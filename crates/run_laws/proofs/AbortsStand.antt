@@ -52,14 +52,57 @@ turn_leaves k reason r moment w v Blank lines sound turn = same_leaves k reason 
 turn_leaves k reason r moment w v (Says s) lines sound turn = step_leaves k reason r moment w v s lines sound turn
 turn_leaves k reason r moment w v (Bad column) lines sound turn = absurd turn
 
+-- Of a branch whose abort is under way at a node that is down: it has no prepared record; or such records are of its transaction alone, and that is dead in each world of the
+-- protocol that shows this one with the abort not taken.
+pub data Fate (w : World) (n : Node) (k : BranchKey) : Type 0 where
+  Bare : NoRecord n k.serial → Fate w n k
+  Dead : RecordsOf n k → (base : World) (since : List Entry) → IsRun base since w → ((q : Resolution) (p : protocol.World) → q k.serial.node ≡ false → Good p → Shows (opening_of base) q w p → IsDead (view p) k.tid) → Fate w n k
+
+-- So it was in a world from which entries lead to this one.
+pub record IsDoomed (k : BranchKey) (closing : World) : Type 0 where
+  pub world : World
+  pub sound : IsSound world
+  pub node : Node
+  pub found : find_node k.serial.node world.nodes ≡ Some node
+  pub reason : Reason
+  pub noted : Option LogRecord
+  pub moment : ℕ
+  pub under : node.under_way ≡ Some (aborting k reason noted moment)
+  pub after : List Entry
+  pub leads : Legal world after closing
+  pub fate : Fate world node k
+
+-- Such a branch is never committed.
+doomed_never : (k : BranchKey) (closing : World) → IsDoomed k closing → IsNeverCommitted k.serial closing
+doomed_never k closing d = by d.fate
+  where
+    by : Fate d.world d.node k → IsNeverCommitted k.serial closing
+    by (Bare none) = gone d.world d.sound k.serial.node d.node d.found k d.reason d.noted d.moment d.under none d.after closing d.leads
+    by (Dead records base since is_run dead) = never_of k.serial closing (λ s i e commit.
+        dies base d.world since is_run k.serial.node d.node d.found k refl d.reason d.noted d.moment d.under (down d.world d.sound k.serial.node d.node d.found k d.reason d.noted d.moment d.under) dead d.after closing
+        (runs_used d.world closing d.after d.leads (used d.world d.sound k.serial.node d.node d.found k d.reason d.noted d.moment d.under)).0 s i e
+        (of_its d.world d.sound k.serial.node d.node d.found k d.reason d.noted d.moment d.under records d.after closing d.leads s i e commit) commit)
+
 module _ (nodes : List Node) (disks : List DiskCounts) (es : List Entry) (opening : AreOpening nodes) (apart : NamesApart nodes) (known : (name : List ℕ) (n : Node) → find_node name nodes ≡ Some n → IsKnown n) (agree : AllAgree nodes disks es)
     (k : BranchKey) (reason : Reason) (r : Option LogRecord) (moment : ℕ) where
   abbrev first : World
   first = opened nodes disks
 
   -- what is known in the world after some entries, of a branch that was told to abort
-  told_stands : (later before : List Entry) (w : World) → es ≡ later ++ before → Legal first before w → IsSound w → (node : List ℕ) (n : Node) → IsAborting k reason r moment w node n → Told k reason r moment w node n → (after : List Entry) (closing : World) → Legal w after closing → IsNeverCommitted k.serial closing
-  told_stands later before w split legal sound node n at told after closing path = by told
+  told_doomed : (later before : List Entry) (w : World) → es ≡ later ++ before → Legal first before w → IsSound w → (node : List ℕ) (n : Node) → IsAborting k reason r moment w node n → Told k reason r moment w node n → (after : List Entry) (closing : World) → Legal w after closing → IsDoomed k closing
+  told_doomed later before w split legal sound node n at told after closing path = record {
+    world = w;
+    sound = sound;
+    node = n;
+    found = subst (λ y. find_node y w.nodes ≡ Some n) (sym h) at.0;
+    reason = reason;
+    noted = r;
+    moment = moment;
+    under = at.1;
+    after = after;
+    leads = path;
+    fate = by told;
+  }
     where
       h : k.serial.node ≡ node
       h = home w sound node n at.0 k reason r moment at.1
@@ -70,47 +113,49 @@ module _ (nodes : List Node) (disks : List DiskCounts) (es : List Entry) (openin
       is_down : n.up ≡ false
       is_down = down w sound node n at.0 k reason r moment at.1
 
-      bare : NoRecord n k.serial → IsNeverCommitted k.serial closing
-      bare none = gone w sound node n at.0 k reason r moment at.1 none after closing path
-
       dead : RecordsOf n k → ((base : World) (since : List Entry) (is_run : IsRun base since w) (c : LogRecord) → In c (prepared_of (records_in n.durable.log)) → c.serial ≡ k.serial →
-          (q : Resolution) (p : protocol.World) → q node ≡ false → Good p → Shows (opening_of base) q w p → IsDead (view p) k.tid) → IsNeverCommitted k.serial closing
+          (q : Resolution) (p : protocol.World) → q node ≡ false → Good p → Shows (opening_of base) q w p → IsDead (view p) k.tid) → Fate w n k
       dead records dying = go (found_or_none k.serial (prepared_of (records_in n.durable.log)))
         where
-          go : ((c : LogRecord) × In c (prepared_of (records_in n.durable.log)) × (c.serial ≡ k.serial)) ⊎ ((c : LogRecord) → In c (prepared_of (records_in n.durable.log)) → c.serial ≡ k.serial → ⊥) → IsNeverCommitted k.serial closing
-          go (inr none) = bare none
+          go : ((c : LogRecord) × In c (prepared_of (records_in n.durable.log)) × (c.serial ≡ k.serial)) ⊎ ((c : LogRecord) → In c (prepared_of (records_in n.durable.log)) → c.serial ≡ k.serial → ⊥) → Fate w n k
+          go (inr none) = Bare none
           go (inl c) =
               let b = runs_begin nodes disks before w opening apart known legal in
               let is_run : IsRun b.0 b.2 w = record { base_is = b.5; agrees = agree later b.2 b.1 b.0 w (split ∙ ap (λ xs. later ++ xs) b.3) b.4 b.5 b.7 b.6 in_use; runs = b.6 } in
-              never_of k.serial closing (λ s i e commit.
-              dies b.0 w b.2 is_run node n at.0 k h reason r moment at.1 is_down (dying b.0 b.2 is_run c.0 c.1 c.2) after closing (runs_used w closing after path in_use).0 s i e
-              (of_its w sound node n at.0 k reason r moment at.1 records after closing path s i e commit) commit)
+              Dead records b.0 b.2 is_run (λ q p off. dying b.0 b.2 is_run c.0 c.1 c.2 q p (ap q (sym h) ∙ off))
 
-      by : Told k reason r moment w node n → IsNeverCommitted k.serial closing
-      by (inl none) = bare none
+      by : Told k reason r moment w node n → Fate w n k
+      by (inl none) = Bare none
       by (inr (inl sent)) = dead sent.records (λ base since is_run c i e. dead_told base w since is_run node n at.0 k h reason r moment at.1 is_down sent.records c i e sent.message sent.sent sent.kind sent.key)
       by (inr (inr answered)) = dead answered.records (λ base since is_run c i e q p off good shows. elim answered.answered [
         | inl y ↦ dead_other base w since is_run node n at.0 k h reason r moment at.1 is_down answered.records c i e y.0 y.1 y.2 y.3 q p off good shows
         | inr own ↦ dead_own base w since is_run node n at.0 k h reason r moment at.1 is_down answered.records c i e own.0 own.2 own.1 q p off good shows
       ])
 
-  stands : (later before : List Entry) (w : World) → es ≡ later ++ before → Legal first before w → (node : List ℕ) (n : Node) → IsAborting k reason r moment w node n → (after : List Entry) (closing : World) → Legal w after closing → IsNeverCommitted k.serial closing
-  stands later [] w split legal node n at after closing path =
+  doomed : (later before : List Entry) (w : World) → es ≡ later ++ before → Legal first before w → (node : List ℕ) (n : Node) → IsAborting k reason r moment w node n → (after : List Entry) (closing : World) → Legal w after closing → IsDoomed k closing
+  doomed later [] w split legal node n at after closing path =
       let o = each_opening nodes opening node n (subst (λ (x : World). find_node node x.nodes ≡ Some n) legal at.0) in
       let clash : ◌≡◌ {A = Option Act} None (Some (aborting k reason r moment)) = sym o.under_way ∙ at.1 in
       let no : ⊥ = cc in
       absurd no
-  stands later (e ∷ before) w split legal node n at after closing path =
+  doomed later (e ∷ before) w split legal node n at after closing path =
       let sound = legal_sound first legal.0 before (opening_sound nodes disks opening) legal.1 in
       let sound_w = legal_sound first w (e ∷ before) (opening_sound nodes disks opening) legal in
       elim (turn_leaves k reason r moment legal.0 w (reading e.source.text) e.lines sound legal.2 node n at) [
-        | inl was ↦ stands (later ++ e ∷ []) before legal.0 (split ∙ sym (append_assoc later (e ∷ []) before)) legal.1 node was.0 was.1 (after ++ e ∷ []) closing (legal_on legal.0 w closing e after legal.2 path)
-        | inr told ↦ told_stands later (e ∷ before) w split legal sound_w node n at told after closing path
+        | inl was ↦ doomed (later ++ e ∷ []) before legal.0 (split ∙ sym (append_assoc later (e ∷ []) before)) legal.1 node was.0 was.1 (after ++ e ∷ []) closing (legal_on legal.0 w closing e after legal.2 path)
+        | inr told ↦ told_doomed later (e ∷ before) w split legal sound_w node n at told after closing path
       ]
+
+-- Each branch whose abort a fall found under way is such a one.
+pub agreed_doomed : (nodes : List Node) (disks : List DiskCounts) (es : List Entry) → AreOpening nodes → NamesApart nodes → ((name : List ℕ) (n : Node) → find_node name nodes ≡ Some n → IsKnown n) → AllAgree nodes disks es →
+    (later after before : List Entry) (w closing : World) (n : Node) (k : BranchKey) (reason : Reason) (r : Option LogRecord) (moment : ℕ) → es ≡ later ++ (after ++ before) → Legal (opened nodes disks) before w → Legal w after closing →
+    find_node k.serial.node w.nodes ≡ Some n → n.under_way ≡ Some (aborting k reason r moment) → IsDoomed k closing
+agreed_doomed nodes disks es opening apart known agree later after before w closing n k reason r moment split legal path found under =
+    doomed nodes disks es opening apart known agree k reason r moment (later ++ after) before w (split ∙ sym (append_assoc later after before)) legal k.serial.node n (found, under) after closing path
 
 pub agreed_aborts_stand : AgreedAbortsStand
 agreed_aborts_stand nodes disks es opening apart known agree later after before w closing n k reason r moment split legal path found under =
-    stands nodes disks es opening apart known agree k reason r moment (later ++ after) before w (split ∙ sym (append_assoc later after before)) legal k.serial.node n (found, under) after closing path
+    doomed_never k closing (agreed_doomed nodes disks es opening apart known agree later after before w closing n k reason r moment split legal path found under)
 
 pub agreed_dumps_hold : AgreedDumpsHold
 agreed_dumps_hold nodes disks es closing opening apart known lasts agree legal = dumps_hold nodes disks es closing opening lasts legal (agreed_aborts_stand nodes disks es opening apart known agree)

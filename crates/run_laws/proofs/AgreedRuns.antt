@@ -15,7 +15,7 @@ use Rattle.run_model.specs.Statements.{Begins, Part, PartEffect, Phases, Step, b
 use Rattle.run_model.specs.Transcript.{Entry, Legal, AreOpening, Turn}
 use Rattle.run_agreement.specs.Seen.{IsKnown, Resolution, landed, outcome_of}
 use Rattle.run_agreement.specs.Following.{opening_of}
-use Rattle.run_agreement.specs.Laws.{Agree, CommittedAreOfCommitted, HasOutcome, IsRun, IsSettled, LeaveAgreement, NamesApart, RestingAreWhole, SettleAlike, SettlingEnds, SettlingLeavesNone, image_here, opening_told}
+use Rattle.run_agreement.specs.Laws.{CommittedAreOfCommitted, HasOutcome, IsRun, IsSettled, LeaveAgreement, NamesApart, RestingAreWhole, SettleAlike, SettlingEnds, SettlingLeavesNone, image_here, opening_told}
 use Rattle.run_model.proofs.NodeLists.{found_name}
 use Rattle.run_model.proofs.PartLemmas.{phases_fold}
 use Rattle.run_model.proofs.PartTasks.{View, Doing, Fixed, view}
@@ -26,7 +26,6 @@ use Rattle.run_agreement.proofs.Told.{quiet_images, runs_tell_no_more, unused_ar
 use Rattle.run_laws.specs.Agreed.{AgreedRun, EndsHoldAll, SettlesWhole}
 use Rattle.run_laws.specs.Promises.{EndsCommit, IsSettledSo, settlements_of}
 use Rattle.run_laws.proofs.AbortsStand.{legal_parts}
-use Rattle.run_laws.proofs.Absent.{resting_whole}
 use Rattle.run_laws.proofs.Staying.{after_grows}
 
 -- such a run
@@ -37,6 +36,7 @@ pub record RunOf (start : World) (es : List Entry) (closing : World) : Type 0 wh
   pub parts : es ≡ since ++ before
   pub begins : Legal start before base
   pub unused : base.shared.in_use ≡ false
+  pub told : opening_of base ≡ opening_told start.nodes es
   pub is_run : IsRun base since closing
 
 module _ (nodes : List Node) (disks : List DiskCounts) (es : List Entry) (closing : World) (opening : AreOpening nodes) (apart : NamesApart nodes) (known : (name : List ℕ) (n : Node) → find_node name nodes ≡ Some n → IsKnown n) (legal : Legal (opened nodes disks) es closing) (agrees : IsAgreeing (opening_told nodes es)) where
@@ -44,15 +44,15 @@ module _ (nodes : List Node) (disks : List DiskCounts) (es : List Entry) (closin
   run_of =
       let b = runs_begin nodes disks es closing opening apart known legal in
       let same : opening_of b.0 ≡ opening_told nodes es = (unused_are_told nodes disks b.1 b.0 opening apart known b.4 b.7).1 ∙ sym (runs_tell_no_more nodes b.0 closing b.1 b.2 b.6) ∙ ap (opening_told nodes) (sym b.3) in
-      record { base = b.0; before = b.1; since = b.2; parts = b.3; begins = b.4; unused = b.7; is_run = record { base_is = b.5; agrees = subst IsAgreeing (sym same) agrees; runs = b.6 } }
+      record { base = b.0; before = b.1; since = b.2; parts = b.3; begins = b.4; unused = b.7; told = same; is_run = record { base_is = b.5; agrees = subst IsAgreeing (sym same) agrees; runs = b.6 } }
 
-pub agreed_run : SettleAlike → CommittedAreOfCommitted → LeaveAgreement → RestingAreWhole → Agree → (base : World) (since : List Entry) (closing : World) → IsRun base since closing → AgreedRun base since closing
-agreed_run alike committed leave whole agree base since closing is_run = record {
+pub agreed_run : SettleAlike → CommittedAreOfCommitted → LeaveAgreement → RestingAreWhole → (base : World) (since : List Entry) (closing : World) → IsRun base since closing → AgreedRun base since closing
+agreed_run alike committed leave whole base since closing is_run = record {
   is_run = is_run;
   alike = λ r k of aborted. alike base closing since is_run r k of aborted;
   committed = λ r k done. committed base closing since is_run r k done;
   leaves = λ r. leave base closing since is_run r;
-  whole = λ rests r k of other done. resting_whole whole agree base closing since is_run rests r k of other done;
+  whole = λ rests r k of other done. whole base closing since is_run rests r k of other done;
 }
 
 -- what a node settled it has settled however its act under way turns out

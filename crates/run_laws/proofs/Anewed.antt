@@ -52,7 +52,7 @@ made_split node (e ∷ since) before made = go (made_by node e (since ++ before)
     go (inr other) more = elim (more other) [ inl m ↦ inl (made_later node e since m) | inr m ↦ inr m ]
 
 -- none is made where a node may be in use
-used_makes : (w v : World) (e : Entry) (node : Name) → w.shared.in_use ≡ true → Turn w (reading e.source.text) e.lines v → Makes node e → ⊥
+pub used_makes : (w v : World) (e : Entry) (node : Name) → w.shared.in_use ≡ true → Turn w (reading e.source.text) e.lines v → Makes node e → ⊥
 used_makes w v e node used turn m =
     let none : image_here node (reading e.source.text) (last_or None e.lines) None ≡ None = (used_tell_no_more w v (reading e.source.text) e.lines turn used).1 node None in
     let made : image_here node (Says (At node (Init m.slots m.journal))) (Some Normal) None ≡ Some no_image = ap (λ (b : Bool). if b then Some no_image else None) (bytes_itself node node refl) in
@@ -86,7 +86,7 @@ last_behind [] x = refl
 last_behind (y ∷ []) x = refl
 last_behind (y ∷ z ∷ xs) x = last_behind (z ∷ xs) x
 
-init_lines : (w v : World) (node : Name) (slots journal : ℕ) (lines : List Line) → Step w (At node (Init slots journal)) lines v → last_or None lines ≡ Some Normal → lines ≡ Normal ∷ []
+pub init_lines : (w v : World) (node : Name) (slots journal : ℕ) (lines : List Line) → Step w (At node (Init slots journal)) lines v → last_or None lines ≡ Some Normal → lines ≡ Normal ∷ []
 init_lines w v node slots journal lines step answered = step.shows ∙ (λ i. quiet (refused_at_once w (At node (Init slots journal))) step.does i ++ normal i ∷ [])
   where
     normal : step.answer ≡ Normal

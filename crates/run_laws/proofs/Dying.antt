@@ -17,7 +17,7 @@ use Rattle.commit_protocol.specs.World as protocol
 use Rattle.commit_protocol.specs.World.{In, run}
 use Rattle.commit_protocol.specs.Agreement.{Gone, IsDead, IsReady, Once, Ready, Running, phase, phase_of, view}
 use Rattle.commit_protocol.specs.Opening.{IsAgreeing, opened}
-use Rattle.commit_protocol.proofs.Acting.{Good}
+use Rattle.commit_protocol.proofs.Acting.{Goes, Good, goes_trans}
 use Rattle.commit_protocol.proofs.Gathered.{is_shown}
 use Rattle.commit_protocol.proofs.Lists.{same_id-refl}
 use Rattle.commit_protocol.proofs.Opened.{good_opened, prepared_found}
@@ -99,14 +99,39 @@ module _ (base v : World) (since : List Entry) (is_run : IsRun base since v) (no
       let ready = prepared_found left.records k c there key in
       subst (λ (name : List ℕ). phase (find k (p.nodes name).table) ≡ Ready) (sym home) (ap (λ (y : protocol.Node). phase (find k y.table)) (h.follows.nodes node f.0 f.1) ∙ ap (λ bs. phase (find k bs)) left.table ∙ ready)
 
-  -- The branch is never committed of its transaction, where that is dead once the abort has not taken place.
-  pub dies : ((q : Resolution) (p : protocol.World) → q node ≡ false → Good p → Shows (opening_of base) q v p → IsDead (view p) k.tid) →
-      (after : List Entry) (closing : World) → RunsFrom v after closing → (s : Settlement) → In s (settlements_of k.serial.node closing) → s.serial ≡ k.serial → s.tid ≡ k.tid → s.outcome ≡ Commit → ⊥
-  dies dead after closing runs s i serial tid commit = go (find_node k.serial.node closing.nodes) refl i
+  -- Let its transaction be dead once the abort has not taken place. Then, however the acts turn out that are under way later, a world of the protocol shows the later one in
+  -- which the branch is aborted, or its transaction dead.
+  pub ends_dead : ((q : Resolution) (p : protocol.World) → q node ≡ false → Good p → Shows (opening_of base) q v p → IsDead (view p) k.tid) →
+      (after : List Entry) (closing : World) → RunsFrom v after closing → (last : Resolution) →
+      (p : protocol.World) × Goes (opened (opening_of base)) p × Shows (opening_of base) last closing p × (In (k, Abort) p.settled ⊎ IsDead (view p) k.tid)
+  ends_dead dead after closing runs last =
+      let sim = runs_sim o after v closing runs last in
+      let x = reached_by base v since is_run sim.0 in
+      let p : protocol.World = run x.steps (opened o) in
+      let first_goes = goes_run x.steps (opened o) (good_opened o is_run.agrees (is_shown o is_run.agrees)) in
+      let reached : IsReached o p = record { agrees = is_run.agrees; steps = x.steps; is = refl } in
+      let y = sim.1 p tt reached x.shows in
+      let goes = goes_run y.0 p first_goes.good in (
+        run y.0 p,
+        goes_trans (opened o) p (run y.0 p) first_goes goes,
+        y.1,
+        elim (cases_Bool (sim.0 node)) [
+          | inl on ↦ inl (
+              let lands : (landed (sim.0 node) n).settled ≡ settlement k Abort reason moment ∷ n.settled = ap (λ b. (landed b n).settled) on ∙ ap (λ (a : Option Act). (let z : Node = elim a [ Some act ↦ acted act n | None ↦ n ] in z).settled) under in
+              goes.later.settled k Abort (told_settled o sim.0 v p x.shows k Abort (node, n, found, (settlement k Abort reason moment, subst (In (settlement k Abort reason moment)) (sym lands) (inl refl), refl)))
+              )
+          | inr off ↦ inr (goes.later.dead k.tid (dead sim.0 p off first_goes.good x.shows))
+        ],
+      )
     where
       o : Rattle.commit_protocol.specs.Opening.Opening
       o = opening_of base
 
+  -- So the branch is never committed of its transaction.
+  pub dies : ((q : Resolution) (p : protocol.World) → q node ≡ false → Good p → Shows (opening_of base) q v p → IsDead (view p) k.tid) →
+      (after : List Entry) (closing : World) → RunsFrom v after closing → (s : Settlement) → In s (settlements_of k.serial.node closing) → s.serial ≡ k.serial → s.tid ≡ k.tid → s.outcome ≡ Commit → ⊥
+  dies dead after closing runs s i serial tid commit = go (find_node k.serial.node closing.nodes) refl i
+    where
       none : Resolution
       none = λ m. false
 
@@ -115,21 +140,11 @@ module _ (base v : World) (since : List Entry) (is_run : IsRun base since v) (no
 
       at : (m : Node) → find_node k.serial.node closing.nodes ≡ Some m → In s m.settled → ⊥
       at m is j =
-          let sim = runs_sim o after v closing runs none in
-          let x = reached_by base v since is_run sim.0 in
-          let p : protocol.World = run x.steps (opened o) in
-          let first_good = (goes_run x.steps (opened o) (good_opened o is_run.agrees (is_shown o is_run.agrees))).good in
-          let reached : IsReached o p = record { agrees = is_run.agrees; steps = x.steps; is = refl } in
-          let y = sim.1 p tt reached x.shows in
-          let goes = goes_run y.0 p first_good in
-          let committed : In (k, Commit) (run y.0 p).settled = told_settled o none closing (run y.0 p) y.1 k Commit (k.serial.node, m, is, (s, j, key)) in
-          elim (cases_Bool (sim.0 node)) [
-            | inl on ↦ (
-                let lands : (landed (sim.0 node) n).settled ≡ settlement k Abort reason moment ∷ n.settled = ap (λ b. (landed b n).settled) on ∙ ap (λ (a : Option Act). (let z : Node = elim a [ Some act ↦ acted act n | None ↦ n ] in z).settled) under in
-                let aborted = told_settled o sim.0 v p x.shows k Abort (node, n, found, (settlement k Abort reason moment, subst (In (settlement k Abort reason moment)) (sym lands) (inl refl), refl)) in
-                not_twice (run y.0 p).settled k goes.good.inv.once (goes.later.settled k Abort aborted) committed
-                )
-            | inr off ↦ (goes.later.dead k.tid (dead sim.0 p off first_good x.shows)).commits (goes.good.inv.upward k committed)
+          let e = ends_dead dead after closing runs none in
+          let committed : In (k, Commit) e.0.settled = told_settled (opening_of base) none closing e.0 e.2 k Commit (k.serial.node, m, is, (s, j, key)) in
+          elim e.3 [
+            | inl aborted ↦ not_twice e.0.settled k e.1.good.inv.once aborted committed
+            | inr gone ↦ gone.commits (e.1.good.inv.upward k committed)
           ]
 
       go : (d : Option Node) → find_node k.serial.node closing.nodes ≡ d → In s (elim d as (λ z. List Settlement) [ Some m ↦ m.settled | None ↦ [] ]) → ⊥

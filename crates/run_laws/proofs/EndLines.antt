@@ -25,15 +25,11 @@ use Rattle.run_model.specs.Answers as answers
 use Rattle.run_model.specs.Answers.{Row, Service, Task, Serves, Ticks, Takes, Hears, LosesLink, RunsDown, Restarts, task_service, service, refused_before_reading, told_if, told_rows, table_rows, begins, just, shown_by, settled_line, branch_labelled, branch_named, powers}
 use Rattle.run_model.specs.Steps.{Choice, Whole, WithoutMemory, Unpowered, Cut, task_effect, ready_node, lines_of_rows, rows_if, rows_to_cut, whole, begun}
 use Rattle.run_model.proofs.Refusing.{not_ready}
+use Rattle.run_laws.specs.Promises.{ended_line}
 use Rattle.run_laws.proofs.EndRows.{ActEnds, AllEnd, IsEndingIn, Seen, SettlesSo, row_ends}
 use Rattle.run_laws.proofs.Labelling.{served_up}
 use Rattle.run_said.proofs.Passing.{AllPass, acknowledged_passes, append_passes, prepared_passes, released_passes, owed_passes, told_passes}
 use Rattle.world_laws.proofs.FileRows.{images_by, recovers_by, saves_by, sets_by, IsEntryLine}
-
--- the line that shows how the first branch of a transaction was settled
-abbrev pub ended_line : Id → Option Reason → ℕ → Line
-ended_line tid None moment = line.Committed tid tid moment
-ended_line tid (Some reason) moment = line.Aborted tid tid reason moment
 
 abbrev pub IsShownIn : List Line → Id → Option Reason → Type 0
 IsShownIn ls tid reason = (moment : ℕ) × In (ended_line tid reason moment) ls

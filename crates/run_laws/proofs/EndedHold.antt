@@ -21,11 +21,11 @@ use Rattle.run_model.proofs.PartLemmas.{EachPhase, phases_fold}
 use Rattle.run_model.proofs.PartTasks.{View, Doing, Fixed, all_asked, each_restart, each_run_down, each_up, view}
 use Rattle.run_model.proofs.Refusing.{same_last}
 use Rattle.run_laws.specs.Causes.{WasEnded}
-use Rattle.run_laws.specs.Promises.{ShownThere, EndsSo}
+use Rattle.run_laws.specs.Promises.{ShownThere, EndsSo, ended_line}
 use Rattle.run_laws.specs.Laws.{EndedHold}
 use Rattle.run_laws.proofs.Answering.{answer_passes}
 use Rattle.run_laws.proofs.CauseRuns.{aborted_hold, commits_hold}
-use Rattle.run_laws.proofs.EndLines.{IsShownIn, effect_ends, ended_line, ending_up, is_unended}
+use Rattle.run_laws.proofs.EndLines.{IsShownIn, effect_ends, ending_up, is_unended}
 use Rattle.run_laws.proofs.EndRows.{IsEndingIn}
 use Rattle.run_laws.proofs.Labelling.{first_none}
 use Rattle.run_laws.proofs.Named.{Ended, Refused, Turned, ended}

@@ -74,6 +74,7 @@ pub record Done (w v : World) (node : List ℕ) (request : Request) (events : Li
   pub shows : events ≡ (succeeded w.shared n (service request)).lines
   pub answers : answer ≡ (succeeded w.shared n (service request)).answer
   pub settled : (l : Line) (x : Settlement) → In l events → shown_in l ≡ Some x → In x (settlements_of node v)
+  pub left : find_node node v.nodes ≡ Some (succeeded w.shared n (service request)).node
 
 pub done : (w v : World) (node : List ℕ) (request : Request) (events : List Line) (answer : Line) → task_of w (At node request) ≡ Some (record { node = node; task = Serves request }) → powers (service request) ≡ false → (service request).goes_on ≡ false → is_refusal answer ≡ false →
     ((cause : Cause) → answer ≡ line.Broken cause → ⊥) → Step w (At node request) (events ++ answer ∷ []) v → Done w v node request events answer
@@ -94,6 +95,7 @@ done w v node request events answer is off ends fine whole_so step = go (ended w
           shows = parts.0 ∙ ap (λ (x : TaskEffect). x.lines) r.2;
           answers = parts.1 ∙ ap (λ (x : TaskEffect). x.answer) r.2;
           settled = λ l x i shown. subst (In x) (sym (found_settled node v e.node there)) (effect_shows w.shared (stops_at node w) n (Serves request) c l x (subst (In l) parts.0 i) shown);
+          left = there ∙ ap (λ (x : TaskEffect). Some x.node) r.2;
         }
 
 -- Acts that settle, and what they show.
@@ -250,6 +252,26 @@ end_waits b serials rms e = go (all_taken b.bids b.accepted) e
     go true k = refl
     go false k = let no : ⊥ = cc in absurd no
 
+-- the lists of the answer are those of the votes and of the replies that are missing, and something is
+pub end_lists : (b : Branch) (serials : List Id) (rms : List (List ℕ)) → end_answer (end_row b) line.Normal ≡ line.Pending serials rms →
+    (serials ≡ answers.missing b.accepted) × (rms ≡ answers.unreplied (ending b).managers) × (all_voted b.accepted ≡ true → all_replied (ending b).managers ≡ true → ⊥)
+end_lists b serials rms e = go (all_taken b.bids b.accepted) e
+  where
+    lists : line.Pending (answers.missing b.accepted) (answers.unreplied (ending b).managers) ≡ line.Pending serials rms → (serials ≡ answers.missing b.accepted) × (rms ≡ answers.unreplied (ending b).managers)
+    lists k = (cc, cc)
+
+    all : (t u : Bool) → all_voted b.accepted ≡ t → all_replied (ending b).managers ≡ u → end_answer (if t && u then rows.commits (ending b) [] else []) (line.Pending (answers.missing b.accepted) (answers.unreplied (ending b).managers)) ≡ line.Pending serials rms →
+        (serials ≡ answers.missing b.accepted) × (rms ≡ answers.unreplied (ending b).managers) × (all_voted b.accepted ≡ true → all_replied (ending b).managers ≡ true → ⊥)
+    all true true v r k = let no : ⊥ = cc in absurd no
+    all false u v r k = ((lists k).0, (lists k).1, λ q p. clash _ q v)
+    all true false v r k = ((lists k).0, (lists k).1, λ q p. clash _ p r)
+
+    go : (t : Bool) → end_answer (if t then begins_ending b else rows.aborts SyncFail b) line.Normal ≡ line.Pending serials rms →
+        (serials ≡ answers.missing b.accepted) × (rms ≡ answers.unreplied (ending b).managers) × (all_voted b.accepted ≡ true → all_replied (ending b).managers ≡ true → ⊥)
+    go true k = all (all_voted b.accepted) (all_replied (ending b).managers) refl refl
+        (sym (sends_answer (to_each message.Prepare b.key.tid (rows.serials b.accepted)) (tells (which_event b.changed b.accepted b.managers) b.key (joined b.managers) ++ commits_if_all (ending b) []) (line.Pending (answers.missing b.accepted) (answers.unreplied (ending b).managers)) ∙ tells_answer (which_event b.changed b.accepted b.managers) b.key (joined b.managers) (commits_if_all (ending b) []) (line.Pending (answers.missing b.accepted) (answers.unreplied (ending b).managers))) ∙ k)
+    go false k = let no : ⊥ = cc in absurd no
+
 -- What a line shows of a branch.
 
 pub shown_so : (k : BranchKey) (o : Outcome) (reason : Reason) (moment : ℕ) (node : List ℕ) (v : World) (events : List Line) → k.serial.node ≡ node → In (settled_line k o reason moment) events → ((l : Line) (x : Settlement) → In l events → shown_in l ≡ Some x → In x (settlements_of node v)) →
@@ -314,11 +336,12 @@ module _ (before : List Entry) (w v : World) (node label : List ℕ) (events : L
 
   -- it is answered that something is missing where no branch is
   pub ends_waiting : (serials : List Id) (rms : List (List ℕ)) → answer ≡ line.Pending serials rms → (b : Branch) × (branch_labelled w.shared n label ≡ Some b) × (is_first_active b ≡ true) × WasBegun before node label b.key.tid × (all_taken b.bids b.accepted ≡ true)
+      × (end_answer (end_row b) line.Normal ≡ line.Pending serials rms)
   ends_waiting serials rms e =
       let b = branch_there (branch_labelled w.shared n label) branches.0 in
       let a = active_is b.0 (active b.0 b.1) in
       let nb = named_branch before w node label n b.0 h d.found b.1 (active_unprepared b.0 a.1) in
-      (b.0, b.1, active b.0 b.1, nb.begun (sym (ap (λ (k : BranchKey). k.serial) a.0)), end_waits b.0 serials rms (sym (answer_so b.0 b.1) ∙ e))
+      (b.0, b.1, active b.0 b.1, nb.begun (sym (ap (λ (k : BranchKey). k.serial) a.0)), end_waits b.0 serials rms (sym (answer_so b.0 b.1) ∙ e), sym (answer_so b.0 b.1) ∙ e)
 
 -- ABORT_TRANS.
 

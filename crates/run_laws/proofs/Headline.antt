@@ -5,7 +5,7 @@ use Rattle.commit_protocol.specs.Opening.{IsAgreeing}
 use Rattle.run_model.specs.World.{DiskCounts, Node, World, find_node, opened}
 use Rattle.run_model.specs.Transcript.{AreOpening, Entry, Legal}
 use Rattle.run_agreement.specs.Seen.{IsKnown}
-use Rattle.run_agreement.specs.Laws.{Agree, NamesApart, opening_told, CommittedAreOfCommitted, LeaveAgreement, RestingAreWhole, SettleAlike, SettlingEnds, SettlingLeavesNone}
+use Rattle.run_agreement.specs.Laws.{NamesApart, opening_told, CommittedAreOfCommitted, LeaveAgreement, RestingAreWhole, SettleAlike, SettlingEnds, SettlingLeavesNone}
 use Rattle.run_laws.specs.Laws.{AgreedPromises, AgreedPromisesAreKept, PromisesAreKept}
 use Rattle.run_laws.specs.Promises.{AreLastApart}
 use Rattle.run_laws.proofs.AgreedRuns.{agreed_run, ends_for_all, legal_names, run_of, settles_whole}
@@ -19,6 +19,7 @@ use Rattle.run_laws.proofs.BootLines.{boots_show_last}
 use Rattle.run_laws.proofs.RecordedRuns.{booted_hold}
 use Rattle.run_laws.proofs.CauseRuns.{aborted_hold, commits_hold}
 use Rattle.run_laws.proofs.DownsHeld.{downs_end, downs_have_causes, failures_show_down}
+use Rattle.run_laws.proofs.EndedComes.{ended_comes_hold}
 use Rattle.run_laws.proofs.EndedHold.{ended_hold}
 use Rattle.run_laws.proofs.Ending.{aborts_hold, ends_hold, fails_hold}
 use Rattle.run_laws.proofs.FallsRuns.{falls_begun}
@@ -26,7 +27,7 @@ use Rattle.run_laws.proofs.Interrupted.{interrupted_hold}
 use Rattle.run_laws.proofs.LastBoots.{lasts_hold}
 use Rattle.run_laws.proofs.LastFalls.{last_falls_begun}
 use Rattle.run_laws.proofs.LastFirst.{lasts_first}
-use Rattle.run_laws.proofs.Missing.{missing_hold, waits_hold}
+use Rattle.run_laws.proofs.Missing.{missing_hold, pending_hold, waits_hold}
 use Rattle.run_laws.proofs.NewIds.{directs_hold, ids_are_new}
 use Rattle.run_laws.proofs.OthersPrepared.{others_hold}
 use Rattle.run_laws.proofs.PreparedCaused.{leaves_caused_hold, votes_caused_hold}
@@ -42,7 +43,9 @@ kept_promises nodes disks es closing opening legal = record {
   fails = fails_hold nodes disks es closing opening legal;
   missing = missing_hold nodes disks es closing opening legal;
   waits = waits_hold nodes disks es closing opening legal;
+  pending = pending_hold nodes disks es closing opening legal;
   ended = ended_hold nodes disks es closing opening legal;
+  ended_comes = ended_comes_hold nodes disks es closing opening legal;
   aborts = aborts_hold nodes disks es closing opening legal;
   directs = directs_hold nodes disks es closing opening legal;
   end_shows = ends_show nodes disks es closing opening legal;
@@ -74,7 +77,7 @@ kept_promises nodes disks es closing opening legal = record {
 }
 
 -- where something is known of each disk
-module _ (alike : SettleAlike) (committed : CommittedAreOfCommitted) (leave : LeaveAgreement) (whole : RestingAreWhole) (agreement : Agree) (none : SettlingLeavesNone) (ends : SettlingEnds) where
+module _ (alike : SettleAlike) (committed : CommittedAreOfCommitted) (leave : LeaveAgreement) (whole : RestingAreWhole) (none : SettlingLeavesNone) (ends : SettlingEnds) where
   known_promises : (nodes : List Node) (disks : List DiskCounts) (es : List Entry) (closing : World) → AreOpening nodes → NamesApart nodes → ((name : List ℕ) (n : Node) → find_node name nodes ≡ Some n → IsKnown n) → AreLastApart nodes → IsAgreeing (opening_told nodes es) →
       Legal (opened nodes disks) es closing → AgreedPromises (opened nodes disks) es closing
   known_promises nodes disks es closing opening apart known last_apart agrees legal =
@@ -89,7 +92,8 @@ module _ (alike : SettleAlike) (committed : CommittedAreOfCommitted) (leave : Le
         parts = b.parts;
         begins = b.begins;
         unused = b.unused;
-        run = agreed_run alike committed leave whole agreement b.base b.since closing b.is_run;
+        told = b.told;
+        run = agreed_run alike committed leave whole b.base b.since closing b.is_run;
         ends = ends_for_all b.base es closing kept.ends;
         settles = settles_whole none ends nodes disks es closing opening apart known legal agrees;
         dumps = agreed_dumps_hold nodes disks es closing opening apart known last_apart agree legal;
@@ -113,6 +117,7 @@ module _ (alike : SettleAlike) (committed : CommittedAreOfCommitted) (leave : Le
         parts = a.parts;
         begins = same_world es ms nodes disks opens opening apart_too (back_again es nodes ms forget) a.since a.before a.base a.parts (made_by_then es a.since a.before a.base closing a.parts a.run.is_run.runs) a.run.is_run.base_is.apart a.begins;
         unused = a.unused;
+        told = a.told ∙ told_alike es nodes ms forget;
         run = a.run;
         ends = a.ends;
         settles = λ before events answer there.

@@ -47,12 +47,17 @@ pub mod CausesHold
 pub mod CauseRuns
 pub mod UnmadeSaid
 pub mod EndRows
+pub mod EndingRows
+pub mod EndingTasks
 pub mod EndLines
+pub mod BegunNames
 pub mod EndedHold
+pub mod EndedComes
 pub mod Answering
 pub mod DownShown
 pub mod DownsHeld
 pub mod OneBranch
+pub mod EndingStays
 pub mod Retold
 pub mod AskedHold
 pub mod Asking
@@ -76,7 +81,6 @@ pub mod RecordedRuns
 pub mod OthersPrepared
 pub mod PreparedCaused
 pub mod Headline
-pub mod Absent
 pub mod AgreedRuns
 pub mod OneNode
 pub mod FallsBegun

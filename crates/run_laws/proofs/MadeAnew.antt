@@ -6,7 +6,7 @@ use Rattle.transcript_model.specs.Lines as line
 use Rattle.transcript_model.specs.Lines.{Line}
 use Rattle.script_model.specs.Statements.{At, Bad, Blank, Deliver, Init, LinkDown, Reading, Request, Says, Settle}
 use Rattle.run_model.specs.World as world
-use Rattle.run_model.specs.World.{Node, Outturn, World, acted, find_node, powered}
+use Rattle.run_model.specs.World.{Node, Outturn, World, acted, empty_directory, find_node, powered}
 use Rattle.run_model.specs.Answers.{Serves, refused_before_reading, service}
 use Rattle.run_model.specs.Statements.{Step, stops_at}
 use Rattle.run_model.specs.StepLaws.{is_refusal}
@@ -42,6 +42,7 @@ record IsNew (n : Node) : Type 0 where
   before : Node
   slots : ℕ
   journal : ℕ
+  quiet : before.under_way ≡ None
   is : acted (world.Formats slots journal) before ≡ n
 
 init_new : (w v : World) (node : List ℕ) (slots journal : ℕ) → Step w (At node (Init slots journal)) (line.Normal ∷ []) v → (m : Node) → find_node node v.nodes ≡ Some m → IsNew m
@@ -61,7 +62,7 @@ init_new w v node slots journal step m now = go (ended w v (At node (Init slots 
         whole_done o (Some refusal) first k =
             let same : line.Normal ≡ refusal = (same_last [] [] line.Normal refusal k).1 in
             let clash : true ≡ false = sym ((refuses_first w.shared n (Serves (Init slots journal))).says refusal first) ∙ ap is_refusal (sym same) in let no : ⊥ = cc in absurd no
-        whole_done o None first k = record { before = spoilt true (powered o (stops_at node w) n); slots = slots; journal = journal; is = refl }
+        whole_done o None first k = record { before = spoilt true (powered o (stops_at node w) n); slots = slots; journal = journal; quiet = refl; is = refl }
 
         done : (c : Choice) → line.Normal ∷ [] ≡ (task_effect w.shared (stops_at node w) n (Serves (Init slots journal)) c).lines ++ (task_effect w.shared (stops_at node w) n (Serves (Init slots journal)) c).answer ∷ [] → IsNew (task_effect w.shared (stops_at node w) n (Serves (Init slots journal)) c).node
         done (Whole o) k = whole_done o (refused_before_reading w.shared n (service (Init slots journal))) refl k
@@ -75,3 +76,10 @@ made_last w v node r lines turn made m now =
     let x = made_says node r lines made in
     let new = init_new w v node x.0 x.1 (subst (λ ls. Step w (At node (Init x.0 x.1)) ls v) x.3 (subst (λ y. Turn w y lines v) x.2 turn)) m now in
     subst (λ (y : Node). y.durable.last ≡ None) new.is refl
+
+-- and no file; and nothing is under way there
+pub made_empty : (w v : World) (node : List ℕ) (r : Reading) (lines : List Line) → Turn w r lines v → made_anew node r lines ≡ true → (m : Node) → find_node node v.nodes ≡ Some m → (m.durable.directory ≡ empty_directory) × (m.under_way ≡ None)
+made_empty w v node r lines turn made m now =
+    let x = made_says node r lines made in
+    let new = init_new w v node x.0 x.1 (subst (λ ls. Step w (At node (Init x.0 x.1)) ls v) x.3 (subst (λ y. Turn w y lines v) x.2 turn)) m now in
+    subst (λ (y : Node). (y.durable.directory ≡ empty_directory) × (y.under_way ≡ None)) new.is (refl, new.quiet)

@@ -12,10 +12,10 @@ use Rattle.commit_protocol.specs.Agreement.{Distinct}
 use Rattle.commit_protocol.specs.Messages as message
 use Rattle.commit_protocol.specs.Messages.{Message, same_id}
 use Rattle.commit_protocol.specs.Table as table
-use Rattle.commit_protocol.specs.Table.{Active, Branch, Child, Key as BranchKey, branch_serials, child, first, put, same_key}
+use Rattle.commit_protocol.specs.Table.{Active, Branch, Child, Manager, Key as BranchKey, branch_serials, child, first, put, same_key}
 use Rattle.commit_protocol.specs.Allowed.{is_prepared}
 use Rattle.commit_protocol.specs.Rows as rows
-use Rattle.commit_protocol.specs.Rows.{Event, Got, all_taken, authorise_row, authorise_state, blank, has_bid, row}
+use Rattle.commit_protocol.specs.Rows.{Event, Got, all_taken, authorise_row, authorise_state, blank, ending, has_bid, row}
 use Rattle.commit_protocol.specs.World.{In}
 use Rattle.commit_protocol.proofs.Lists.{find-key, in_left, in_right, same_id-refl, same_id-true, same_key-refl, same_key-true}
 use Rattle.run_model.specs.World as world
@@ -35,12 +35,12 @@ use Rattle.world_laws.proofs.TableLemmas.{in_serials}
 use Rattle.world_laws.proofs.UpLemmas.{differ}
 use Rattle.run_laws.specs.Naming.{ToldLabel, find_told, ids_here, ids_told, labels_told}
 use Rattle.run_laws.specs.Causes.{HasBegun, HasJoined, HasJoinedBy, IsMissing, IsWhole, JoinsBy, WasAuthorised, WasSent}
-use Rattle.run_laws.specs.Laws.{MissingHold, WaitsHold}
+use Rattle.run_laws.specs.Laws.{MissingHold, PendingHold, WaitsHold}
 use Rattle.run_laws.specs.SaidLaws.{SaidThere}
 use Rattle.run_laws.proofs.Coming.{Came, Never, effect_came}
 use Rattle.run_laws.proofs.Contents.{ArePutting, Comes, From, IsTold, TaskAccepts, TaskNotes, bare, begins_none, rows_come}
 use Rattle.run_laws.proofs.Drawing.{next_new}
-use Rattle.run_laws.proofs.Ending.{active_is, active_unprepared, done, ends_abort, ends_waiting, find_first, named_branch, standing}
+use Rattle.run_laws.proofs.Ending.{active_is, active_unprepared, done, end_lists, ends_abort, ends_waiting, find_first, named_branch, standing}
 use Rattle.run_laws.proofs.EachRow.{is_voteless}
 use Rattle.run_laws.proofs.Joining.{HearsJoin, TakesJoin, accepting, effect_joined, take_joined}
 use Rattle.run_laws.proofs.Directed.{neither}
@@ -49,13 +49,13 @@ use Rattle.run_laws.proofs.Making.{branch_there, state_holds}
 use Rattle.run_laws.proofs.Moments.{opening_found}
 use Rattle.run_laws.proofs.Named.{Ended, Refused, Turned, Named, ended, said_later, told}
 use Rattle.run_laws.proofs.NamedRuns.{legal_named}
-use Rattle.run_laws.proofs.Noting.{find_in}
+use Rattle.run_laws.proofs.Noting.{IsUnvoted, Stays, find_in, stays_like, stays_on}
 use Rattle.run_laws.proofs.PreparedLines.{thin_done}
 use Rattle.run_laws.proofs.ReadOnlyRuns.{ids_behind}
 use Rattle.run_laws.proofs.ShownSettled.{answer_voteless, in_append}
 use Rattle.run_laws.proofs.SoundWorlds.{IsSound, legal_sound, opening_sound}
 use Rattle.run_laws.proofs.ToldParts.{HasHeirs, IsThinPart, IsThinning, Thins, clock_heirs, found_after, heirs_then, link_phases, phases_thin, same_heirs, settle_phases, thins_disks}
-use Rattle.run_laws.proofs.ToldRuns.{ClockEnds, Unset, Set, clock_ends}
+use Rattle.run_laws.proofs.ToldRuns.{ClockEnds, Unset, Set, clock_ends, legal_are_told}
 use Rattle.run_laws.proofs.TurnsTell.{HaveSteps, found_step, last_is, legal_told}
 use Rattle.run_laws.proofs.Wires.{was_sent}
 
@@ -69,6 +69,9 @@ pub record BranchJoins (es : List Entry) (b : Branch) : Type 0 where
   -- and the other way round: it has each that was authorised, and by each that one has a branch was told to have joined
   pub all : (bid : Id) → WasAuthorised es b.key.tid bid → In bid b.bids
   pub by : (bid : Id) → has_bid bid b.accepted ≡ true → HasJoinedBy es b.key.tid bid
+  -- it has each branch that was told to have joined, and no vote while it does not end
+  pub has : (serial : Id) → HasJoined es b.key.tid serial → (c : Child) × In c b.accepted × (c.serial ≡ serial)
+  pub unvoted : IsUnvoted b
 
 pub record AreJoined (es : List Entry) (w : World) : Type 0 where
   pub told : (node : List ℕ) (n : Node) → find_node node w.nodes ≡ Some n → (b : Branch) → In b n.volatile.branches → is_prepared b.state ≡ false → b.key ≡ first b.key.tid → BranchJoins es b
@@ -146,8 +149,9 @@ begun_drawn es tid serial same (inr (before, label, events, l, there, found, of)
 -- a branch that comes of another, and what this entry tells of it
 later_joins : (e : Entry) (es : List Entry) (b x : Branch) → x.key ≡ b.key → ((bid : Id) → has_bid bid b.accepted ≡ true → has_bid bid x.accepted ≡ true) → ((bid : Id) → In bid x.bids → In bid b.bids ⊎ WasAuthorised (e ∷ es) b.key.tid bid) →
     ((s : Statement) (serial : Id) → reading e.source.text ≡ Says s → In (line.Joined x.key.tid serial) e.lines → (given : Id) × JoinsBy es s x.key.tid serial given × (has_bid given x.accepted ≡ true)) → ((bid : Id) → In bid b.bids → In bid x.bids) → ((bid : Id) → AuthorisesNow e es x.key.tid bid → In bid x.bids) →
-    ((bid : Id) → has_bid bid x.accepted ≡ true → (has_bid bid b.accepted ≡ true) ⊎ HasJoinedBy (e ∷ es) x.key.tid bid) → BranchJoins es b → BranchJoins (e ∷ es) x
-later_joins e es b x key taken bids here kept now given t = record {
+    ((bid : Id) → has_bid bid x.accepted ≡ true → (has_bid bid b.accepted ≡ true) ⊎ HasJoinedBy (e ∷ es) x.key.tid bid) → Stays b x →
+    ((serial : Id) → In (line.Joined x.key.tid serial) e.lines → (c : Child) × In c x.accepted × (c.serial ≡ serial)) → BranchJoins es b → BranchJoins (e ∷ es) x
+later_joins e es b x key taken bids here kept now given stays joins_now t = record {
   joins = λ before s events answer serial there i. elim (said_parts e es before s events answer there) [
     | inl this ↦ (
         let r = here s serial this.1 (subst (In (line.Joined x.key.tid serial)) (sym this.2) (in_left (line.Joined x.key.tid serial) events (answer ∷ []) i)) in
@@ -161,6 +165,11 @@ later_joins e es b x key taken bids here kept now given t = record {
   bids = λ bid i. subst (λ (k : BranchKey). WasAuthorised (e ∷ es) k.tid bid) (sym key) (elim (bids bid i) [ inl j ↦ authorised_later e es b.key.tid bid (t.bids bid j) | inr a ↦ a ]);
   all = λ bid a. elim (authorised_parts e es x.key.tid bid a) [ inl new ↦ now bid new | inr old ↦ kept bid (t.all bid (subst (λ (k : BranchKey). WasAuthorised es k.tid bid) key old)) ];
   by = λ bid h. elim (given bid h) [ inl old ↦ subst (λ (k : BranchKey). HasJoinedBy (e ∷ es) k.tid bid) (sym key) (joined_by_later e es b.key.tid bid (t.by bid old)) | inr new ↦ new ];
+  has = λ serial j. elim j.1 [
+    | inl same ↦ joins_now serial (subst (λ (y : Entry). In (line.Joined x.key.tid serial) y.lines) same j.2)
+    | inr i ↦ (let c = t.has serial (j.0, i, subst (λ (k : BranchKey). In (line.Joined k.tid serial) j.0.lines) key j.2) in let d = stays.children c.0 c.1 in (d.0, d.1, d.2 ∙ c.2))
+  ];
+  unvoted = stays.unvoted t.unvoted;
 }
 
 first_key : (b x : Branch) → x.key ≡ b.key → x.key ≡ first x.key.tid → b.key ≡ first b.key.tid
@@ -192,7 +201,7 @@ quiet_joined e es w v none never f h = record {
   told = λ node m found x i u is.
       let y = f.node node m found in
       let b = y.2 x i u in
-      later_joins e es b.0 x b.3.key b.3.taken (λ bid j. inl (b.3.bids bid j)) (λ s serial said j. absurd (none x.key.tid serial j)) b.3.kept (λ bid now. absurd (never x.key.tid bid now)) (λ bid t. inl (b.3.given bid t))
+      later_joins e es b.0 x b.3.key b.3.taken (λ bid j. inl (b.3.bids bid j)) (λ s serial said j. absurd (none x.key.tid serial j)) b.3.kept (λ bid now. absurd (never x.key.tid bid now)) (λ bid t. inl (b.3.given bid t)) b.3.stays (λ serial i. absurd (none x.key.tid serial i))
       (h.told node y.0 y.1 b.0 b.1 b.2 (first_key b.0 x b.3.key is));
   drawn = drawn_later e es w h (λ tid serial i. absurd (none tid serial i));
   authorised = authorised_drawn e es w h (λ tid bid now. absurd (never tid bid now));
@@ -242,7 +251,7 @@ module _ (e : Entry) (es : List Entry) (w v : World) (s : Statement) (step : Ste
 
 -- Branches of a task.
 
-put_one : (b x : Branch) (bs : List Branch) → Distinct (branch_serials bs) → In x (put b bs) → x.key ≡ b.key → x ≡ b
+pub put_one : (b x : Branch) (bs : List Branch) → Distinct (branch_serials bs) → In x (put b bs) → x.key ≡ b.key → x ≡ b
 put_one b x [] d i key = elim i [ inl same ↦ same | inr none ↦ absurd none ]
 put_one b x (y ∷ bs) d i key = go (same_key y.key b.key) refl i (λ j. put_one b x bs d.1 j key)
   where
@@ -290,6 +299,10 @@ record Origin (s : Shared) (n : Node) (t : Task) (ls : List Line) (x : Branch) :
   bids : (bid : Id) → In bid x.bids → In bid b.bids ⊎ IsTold s n t (rows.Authorise b.key.tid bid)
   kept : (bid : Id) → In bid b.bids → In bid x.bids
   given : (bid : Id) → has_bid bid x.accepted ≡ true → (has_bid bid b.accepted ≡ true) ⊎ ((serial : Id) × In (line.Joined x.key.tid serial) ls)
+  stays : Stays b x
+
+bare_stays : (x y : Branch) → bare x ≡ bare y → Stays y x
+bare_stays x y same = stays_like y x (ap (λ (z : Branch). z.accepted) same) (λ e. ap (λ (z : Branch). z.state) same ∙ e)
 
 bare_taken : (x y : Branch) → bare x ≡ bare y → (bid : Id) → has_bid bid y.accepted ≡ true → has_bid bid x.accepted ≡ true
 bare_taken x y same bid h = ap (λ (z : Branch). has_bid bid z.accepted) same ∙ h
@@ -307,6 +320,7 @@ origin s n t ls x u (y, same, inl old) = record {
   bids = λ bid i. inl (bare_bids x y same bid i);
   kept = bare_bids y x (sym same);
   given = λ bid h. inl (bare_taken y x (sym same) bid h);
+  stays = bare_stays x y same;
 }
 origin s n t ls x u (y, same, inr (inl (ev, is, (b, i, open_b, d)))) = record {
   b = b;
@@ -317,6 +331,7 @@ origin s n t ls x u (y, same, inr (inl (ev, is, (b, i, open_b, d)))) = record {
   bids = λ bid j. elim (d.bids bid (bare_bids x y same bid j)) [ inl old ↦ inl old | inr by ↦ inr (subst (IsTold s n t) by is) ];
   kept = λ bid j. bare_bids y x (sym same) bid (d.kept bid j);
   given = λ bid h. inl (d.given bid (bare_taken y x (sym same) bid h));
+  stays = stays_on b y x d.stays (bare_stays x y same);
 }
 origin s n t ls x u (y, same, inr (inr (b, c, (ev, is, a), shown, put_so))) =
     let same_b : bare x ≡ bare (record b { accepted = b.accepted ++ c ∷ [] }) = same ∙ ap bare put_so in
@@ -332,6 +347,16 @@ origin s n t ls x u (y, same, inr (inr (b, c, (ev, is, a), shown, put_so))) =
         | inl old ↦ inl old
         | inr new ↦ inr (c.serial, subst (λ (k : BranchKey). In (line.Joined k.tid c.serial) ls) (sym (ap (λ (z : Branch). z.key) same_b)) shown)
       ];
+      stays = record {
+        children = λ d i. (d, subst (In d) (sym (ap (λ (z : Branch). z.accepted) same_b)) (in_left d b.accepted (c ∷ []) i), refl);
+        unvoted = λ voted. elim voted [
+          | inl ends ↦ inl (ap (λ (z : Branch). z.state) same_b ∙ ends)
+          | inr none ↦ inr (λ d i. elim (in_append d b.accepted (c ∷ []) (subst (In d) (ap (λ (z : Branch). z.accepted) same_b) i)) [
+            | inl j ↦ none d j
+            | inr j ↦ elim j [ inl new ↦ ap (λ (z : Child). z.vote) new ∙ a.8 | inr never ↦ absurd never ]
+          ])
+        ];
+      };
     }
 
 -- Statements.
@@ -428,6 +453,13 @@ module _ (e : Entry) (es : List Entry) (w v : World) (h : AreJoined es w) (named
             ap (λ (y : Branch). has_bid k.joins.bid y.accepted) (left_one name m x is_m i u key_x serial k) ∙ bid_last k.joins.bid (record { bid = k.joins.bid; serial = k.m.serial; vote = None }) k.joins.b.accepted refl,
           )
 
+      -- and the branch that joins
+      child_now : (name : List ℕ) (m : Node) (x : Branch) → find_node name v.nodes ≡ Some m → In x m.volatile.branches → is_prepared x.state ≡ false → x.key ≡ first x.key.tid → (serial : Id) → In (line.Joined x.key.tid serial) e.lines → (c : Child) × In c x.accepted × (c.serial ≡ serial)
+      child_now name m x is_m i u key_x serial i_line =
+          let k = takes_it x.key.tid serial i_line in
+          let c : Child = record { bid = k.joins.bid; serial = k.m.serial; vote = None } in
+          (c, subst (λ (y : Branch). In c y.accepted) (sym (left_one name m x is_m i u key_x serial k)) (in_right c k.joins.b.accepted (c ∷ []) (inl refl)), sym k.joins.is)
+
       -- and each identifier that one has is so of a branch that joined before, or joins now
       given_now : (name : List ℕ) (m : Node) (x : Branch) → find_node name v.nodes ≡ Some m → In x m.volatile.branches → is_prepared x.state ≡ false → x.key ≡ first x.key.tid → (bid : Id) → has_bid bid x.accepted ≡ true → (serial : Id) → In (line.Joined x.key.tid serial) e.lines → HasJoinedBy (e ∷ es) x.key.tid bid
       given_now name m x is_m i u key_x bid has serial i_line =
@@ -453,14 +485,14 @@ module _ (e : Entry) (es : List Entry) (w v : World) (h : AreJoined es w) (named
       turned_joined : AreJoined (e ∷ es) v
       turned_joined = record {
         told = λ name m is_m x i u key. elim (there name m is_m) [
-          | inl old ↦ later_joins e es x x refl (λ bid t. t) (λ bid j. inl j) (λ st serial says j. joins_now name m x is_m i u key st serial says j) (λ bid j. j) (λ bid now. adds name m x is_m i u key bid now) (λ bid t. inl t) (h.told name m old x i u key)
+          | inl old ↦ later_joins e es x x refl (λ bid t. t) (λ bid j. inl j) (λ st serial says j. joins_now name m x is_m i u key st serial says j) (λ bid j. j) (λ bid now. adds name m x is_m i u key bid now) (λ bid t. inl t) (stays_like x x refl (λ q. q)) (λ serial j. child_now name m x is_m i u key serial j) (h.told name m old x i u key)
           | inr both ↦ (
               let j = subst (λ (y : Node). In x y.volatile.branches) both.1 i in
               let o = origin w.shared n t (task_effect w.shared (stops_at node w) n t c).lines x u (came.from x j u) in
               later_joins e es o.b x o.key o.taken
               (λ bid k. elim (o.bids bid k) [ inl old ↦ inl old | inr by ↦ inr (authorised o.b bid n found o.there o.open_still (first_key o.b x o.key key) by) ])
               (λ st serial says k. joins_now name m x is_m i u key st serial says k) o.kept (λ bid now. adds name m x is_m i u key bid now)
-              (λ bid has. elim (o.given bid has) [ inl old ↦ inl old | inr shown ↦ inr (given_now name m x is_m i u key bid has shown.0 (subst (In (line.Joined x.key.tid shown.0)) (sym shows) (in_left (line.Joined x.key.tid shown.0) (task_effect w.shared (stops_at node w) n t c).lines ((task_effect w.shared (stops_at node w) n t c).answer ∷ []) shown.1))) ])
+              (λ bid has. elim (o.given bid has) [ inl old ↦ inl old | inr shown ↦ inr (given_now name m x is_m i u key bid has shown.0 (subst (In (line.Joined x.key.tid shown.0)) (sym shows) (in_left (line.Joined x.key.tid shown.0) (task_effect w.shared (stops_at node w) n t c).lines ((task_effect w.shared (stops_at node w) n t c).answer ∷ []) shown.1))) ]) o.stays (λ serial k. child_now name m x is_m i u key serial k)
               (h.told name n both.0 o.b o.there o.open_still (first_key o.b x o.key key))
               )
         ];
@@ -564,11 +596,11 @@ module _ (e : Entry) (es : List Entry) (w v : World) (h : AreJoined es w) (named
       ((y : Branch) → N y → (y.key.serial ≡ next_id n) × (y.bids ≡ []) × (y.accepted ≡ [])) → AreJoined (e ∷ es) v
   begin_joined node n m ls N none never found name nodes comes new = record {
     told = λ other k is x i u key. elim (found_after w v node n m name found nodes other k is) [
-      | inl old ↦ later_joins e es x x refl (λ bid t. t) (λ bid j. inl j) (λ st serial says j. absurd (none x.key.tid serial j)) (λ bid j. j) (λ bid now. absurd (never x.key.tid bid now)) (λ bid t. inl t) (h.told other k old x i u key)
+      | inl old ↦ later_joins e es x x refl (λ bid t. t) (λ bid j. inl j) (λ st serial says j. absurd (none x.key.tid serial j)) (λ bid j. j) (λ bid now. absurd (never x.key.tid bid now)) (λ bid t. inl t) (stays_like x x refl (λ q. q)) (λ serial j. absurd (none x.key.tid serial j)) (h.told other k old x i u key)
       | inr both ↦ (
           let y = comes.from x (subst (λ (z : Node). In x z.volatile.branches) both.1 i) u in
           elim y.2 [
-            | inl old ↦ later_joins e es y.0 x (ap (λ (z : Branch). z.key) y.1) (bare_taken x y.0 y.1) (λ bid j. inl (bare_bids x y.0 y.1 bid j)) (λ st serial says j. absurd (none x.key.tid serial j)) (bare_bids y.0 x (sym y.1)) (λ bid now. absurd (never x.key.tid bid now)) (λ bid t. inl (bare_taken y.0 x (sym y.1) bid t))
+            | inl old ↦ later_joins e es y.0 x (ap (λ (z : Branch). z.key) y.1) (bare_taken x y.0 y.1) (λ bid j. inl (bare_bids x y.0 y.1 bid j)) (λ st serial says j. absurd (none x.key.tid serial j)) (bare_bids y.0 x (sym y.1)) (λ bid now. absurd (never x.key.tid bid now)) (λ bid t. inl (bare_taken y.0 x (sym y.1) bid t)) (bare_stays x y.0 y.1) (λ serial j. absurd (none x.key.tid serial j))
                 (h.told other n both.0 y.0 old (ap (λ (z : Branch). is_prepared z.state) (sym y.1) ∙ u) (first_key y.0 x (ap (λ (z : Branch). z.key) y.1) key))
             | inr put_so ↦ elim put_so [
               | inl is_new ↦ first_joins x y.0 y.1 (new y.0 is_new).1 (new y.0 is_new).2 (ap (λ (k : BranchKey). k.serial) (sym key) ∙ ap (λ (z : Branch). z.key.serial) y.1 ∙ (new y.0 is_new).0)
@@ -595,6 +627,11 @@ module _ (e : Entry) (es : List Entry) (w v : World) (h : AreJoined es w) (named
         bids = λ bid i. absurd (subst (In bid) empty (bare_bids x y same bid i));
         all = λ bid a. elim (authorised_parts e es x.key.tid bid a) [ inl now ↦ absurd (never x.key.tid bid now) | inr old ↦ absurd (next_new es w node n x.key.tid named found (h.authorised x.key.tid bid old) tid) ];
         by = λ bid has. let clash : false ≡ true = ap (has_bid bid) (sym alone) ∙ bare_taken y x (sym same) bid has in let no : ⊥ = cc in absurd no;
+        has = λ serial j. elim j.1 [
+          | inl this ↦ absurd (none x.key.tid serial (subst (λ (f : Entry). In (line.Joined x.key.tid serial) f.lines) this j.2))
+          | inr i ↦ absurd (next_new es w node n x.key.tid named found (h.drawn x.key.tid serial (j.0, i, j.2)) tid)
+        ];
+        unvoted = inr (λ c i. absurd (subst (In c) (ap (λ (z : Branch). z.accepted) same ∙ alone) i));
       }
 
   request_joined : (node : List ℕ) (request : Request) → reading e.source.text ≡ Says (At node request) → Step w (At node request) e.lines v → AreJoined (e ∷ es) v
@@ -738,6 +775,60 @@ waits_hold nodes disks es closing opening legal before node label events serials
     let a = active_is b r.2 in
     let l = label_of s.w.shared d.n label b r.1 in
     (b.key.tid, r.3, lacks_none before s.w node d.n b (legal_joined nodes disks before s.w opening s.legal) d.found l.branch (active_unprepared b a.1) a.0 r.4)
+
+-- The lists of the answer.
+
+in_missing : (cs : List Child) → ((c : Child) → In c cs → c.vote ≡ None) → (c : Child) → In c cs → In c.serial (answers.missing cs)
+in_missing [] none c i = absurd i
+in_missing (d ∷ cs) none c i = subst (λ o. In c.serial (if rows.is_noted o then answers.missing cs else d.serial ∷ answers.missing cs)) (sym (none d (inl refl))) (elim i [ inl same ↦ inl (ap (λ (z : Child). z.serial) same) | inr j ↦ inr (in_missing cs (λ y k. none y (inr k)) c j) ])
+
+of_missing : (cs : List Child) (serial : Id) → In serial (answers.missing cs) → (c : Child) × In c cs × (c.serial ≡ serial)
+of_missing [] serial i = absurd i
+of_missing (d ∷ cs) serial i = go (rows.is_noted d.vote) i (of_missing cs serial)
+  where
+    go : (t : Bool) → In serial (if t then answers.missing cs else d.serial ∷ answers.missing cs) → (In serial (answers.missing cs) → (c : Child) × In c cs × (c.serial ≡ serial)) → (c : Child) × In c (d ∷ cs) × (c.serial ≡ serial)
+    go true j more = let r = more j in (r.0, inr r.1, r.2)
+    go false (inl same) more = (d, inl refl, sym same)
+    go false (inr j) more = let r = more j in (r.0, inr r.1, r.2)
+
+-- where none is missing, the transaction is committed
+no_vote_missing : (cs : List Child) → answers.missing cs ≡ [] → rows.all_voted cs ≡ true
+no_vote_missing [] e = refl
+no_vote_missing (d ∷ cs) e = go (rows.is_noted d.vote) e (no_vote_missing cs)
+  where
+    go : (t : Bool) → (if t then answers.missing cs else d.serial ∷ answers.missing cs) ≡ [] → (answers.missing cs ≡ [] → rows.all_voted cs ≡ true) → (t && rows.all_voted cs) ≡ true
+    go true k more = more k
+    go false k more = let no : ⊥ = cc in absurd no
+
+no_reply_missing : (ms : List Manager) → answers.unreplied ms ≡ [] → rows.all_replied ms ≡ true
+no_reply_missing [] e = refl
+no_reply_missing (d ∷ ms) e = go (rows.is_replied d.reply) e (no_reply_missing ms)
+  where
+    go : (t : Bool) → (if t then answers.unreplied ms else d.rm ∷ answers.unreplied ms) ≡ [] → (answers.unreplied ms ≡ [] → rows.all_replied ms ≡ true) → (t && rows.all_replied ms) ≡ true
+    go true k more = more k
+    go false k more = let no : ⊥ = cc in absurd no
+
+pub pending_hold : PendingHold
+pending_hold nodes disks es closing opening legal before node label events serials rms there =
+    let s = standing nodes disks es before (At node (EndTrans label)) events (line.Pending serials rms) closing opening legal there in
+    let d = done s.w s.v node (EndTrans label) events (line.Pending serials rms) refl refl refl refl (λ cause e. let no : ⊥ = cc in no) s.step in
+    let r = ends_waiting before s.w s.v node label events (line.Pending serials rms) s.named d serials rms refl in
+    let b = r.0 in
+    let a = active_is b r.2 in
+    let l = label_of s.w.shared d.n label b r.1 in
+    let lists = end_lists b serials rms r.5 in
+    let told = (legal_joined nodes disks before s.w opening s.legal).told node d.n d.found b l.branch (active_unprepared b a.1) a.0 in
+    let joined = ((legal_are_told nodes disks before s.w opening s.legal).told node d.n d.found b l.branch (active_unprepared b a.1)).joined in (
+      b.key.tid,
+      r.3,
+      λ serial i. let c = of_missing b.accepted serial (subst (In serial) lists.0 i) in subst (HasJoined before b.key.tid) c.2 (joined c.0 c.1),
+      λ serial j. let c = told.has serial j in subst (λ y. In y serials) c.2 (subst (In (c.0).serial) (sym lists.0) (in_missing b.accepted (unvoted_active b a.1 told.unvoted) c.0 c.1)),
+      λ none none_too. lists.2 (no_vote_missing b.accepted (sym lists.0 ∙ none)) (no_reply_missing (ending b).managers (sym lists.1 ∙ none_too)),
+    )
+  where
+    unvoted_active : (b : Branch) → b.state ≡ Active → IsUnvoted b → (c : Child) → In c b.accepted → c.vote ≡ None
+    unvoted_active b active (inl ends) c i = let clash : Active ≡ table.Ending = sym active ∙ ends in let no : ⊥ = cc in absurd no
+    unvoted_active b active (inr none) c i = none c i
 
 pub missing_hold : MissingHold
 missing_hold nodes disks es closing opening legal before node label events reason there =

@@ -93,12 +93,12 @@ module _ (N : Branch → Type 0) (A : Branch → Child → Type 0) where
       go Voting bid e named = (tt, tt)
       go Prepared bid e named = (tt, tt)
 
-  join_ok_notes : (o : Option Branch) → FoundIn o (λ b. N (record b { state = Active })) → AllPut N A (join_ok_row o)
+  join_ok_notes : (o : Option Branch) → FoundIn o (λ b. (b.state ≡ Ending → ⊥) → N (record b { state = Active })) → AllPut N A (join_ok_row o)
   join_ok_notes None h = tt
   join_ok_notes (Some b) h = go b.state refl
     where
       go : (s : State) → b.state ≡ s → AllPut N A (join_ok_state b s)
-      go Joining e = (h b refl (ap is_prepared e), (tt, tt))
+      go Joining e = (h b refl (ap is_prepared e) (λ q. let clash : Joining ≡ Ending = sym e ∙ q in let no : ⊥ = cc in no), (tt, tt))
       go _ e = tt
 
   join_no_notes : (o : Option Branch) → AllPut N A (join_no_row o)
@@ -112,7 +112,7 @@ module _ (N : Branch → Type 0) (A : Branch → Child → Type 0) where
       go Ending = tt
       go Prepared = tt
 
-  prepare_notes : (m : Message) (o : Option Branch) → FoundIn o (λ b. N (asked_branch b) × N (voting (asked_branch b))) → AllPut N A (prepare_row m o)
+  prepare_notes : (m : Message) (o : Option Branch) → FoundIn o (λ b. (b.state ≡ Ending → ⊥) → N (asked_branch b) × N (voting (asked_branch b))) → AllPut N A (prepare_row m o)
   prepare_notes m None h = (tt, tt)
   prepare_notes m (Some b) h = go b.state refl
     where
@@ -120,19 +120,19 @@ module _ (N : Branch → Type 0) (A : Branch → Child → Type 0) where
       asked_votes k = if_notes b.ended (begins_vote (asked_branch b)) [] (votes_note (asked_branch b) k) tt
 
       go : (s : State) → b.state ≡ s → AllPut N A (prepare_state b s)
-      go Joining e = let k = h b refl (ap is_prepared e) in (k.0, (tt, asked_votes k.1))
-      go Active e = let k = h b refl (ap is_prepared e) in (k.0, asked_votes k.1)
+      go Joining e = let k = h b refl (ap is_prepared e) (λ q. let clash : Joining ≡ Ending = sym e ∙ q in let no : ⊥ = cc in no) in (k.0, (tt, asked_votes k.1))
+      go Active e = let k = h b refl (ap is_prepared e) (λ q. let clash : Active ≡ Ending = sym e ∙ q in let no : ⊥ = cc in no) in (k.0, asked_votes k.1)
       go Prepared e = (tt, tt)
       go Ending e = tt
       go Voting e = tt
 
-  vote_notes : (s : Id) (v : Kind) (o : Option Branch) → FoundIn o (λ b. N (with_vote s v b)) → AllPut N A (vote_row s v o)
+  vote_notes : (s : Id) (v : Kind) (o : Option Branch) → FoundIn o (λ b. b.state ≡ Ending → N (with_vote s v b)) → AllPut N A (vote_row s v o)
   vote_notes s v None h = tt
   vote_notes s v (Some b) h = go b.state refl
     where
       go : (z : State) → b.state ≡ z → AllPut N A (vote_state s v b z)
       go Ending e = if_notes (list_any (λ c. lacks_vote s c) b.accepted) (Notes (with_vote s v b) ∷ commits_if_all (with_vote s v b) (ended b b.state None)) []
-          (h b refl (ap is_prepared e), commits_note (with_vote s v b) (ended b b.state None) (ended_notes b b.state None)) tt
+          (h b refl (ap is_prepared e) e, commits_note (with_vote s v b) (ended b b.state None) (ended_notes b b.state None)) tt
       go _ e = tt
 
   no_notes : (s : Id) (o : Option Branch) → AllPut N A (no_row s o)
@@ -194,12 +194,12 @@ module _ (N : Branch → Type 0) (A : Branch → Child → Type 0) where
       ) (aborts_note b.accepted SyncFail b)
       go _ e = tt
 
-  end_branch_notes : (o : Option Branch) → FoundIn o (λ b. N (ended_branch b) × N (voting (ended_branch b))) → AllPut N A (end_branch_row o)
+  end_branch_notes : (o : Option Branch) → FoundIn o (λ b. (b.state ≡ Ending → ⊥) → N (ended_branch b) × N (voting (ended_branch b))) → AllPut N A (end_branch_row o)
   end_branch_notes None h = tt
   end_branch_notes (Some b) h = go b.state refl
     where
       go : (s : State) → b.state ≡ s → AllPut N A (end_branch_state b s)
-      go Active e = let k = h b refl (ap is_prepared e) in (k.0, if_notes b.asked (begins_vote (ended_branch b)) [] (votes_note (ended_branch b) k.1) tt)
+      go Active e = let k = h b refl (ap is_prepared e) (λ q. let clash : Active ≡ Ending = sym e ∙ q in let no : ⊥ = cc in no) in (k.0, if_notes b.asked (begins_vote (ended_branch b)) [] (votes_note (ended_branch b) k.1) tt)
       go _ e = tt
 
   reply_notes : (s : Id) (x : Name) (r : Reply) (o : Option Branch) (rs : List LogRecord) → FoundIn o (λ b. N (with_reply x r b)) → AllPut N A (reply_row s x r o rs)
@@ -275,6 +275,27 @@ abbrev pub IsAskedBy : Event → Branch → Type 0
 IsAskedBy (Got m) b = (m.kind ≡ Prepare) × (key_of m ≡ b.key)
 IsAskedBy _ b = ⊥
 
+-- no vote is noted of a branch, unless it is ending
+abbrev pub IsUnvoted : Branch → Type 0
+IsUnvoted b = (b.state ≡ Ending) ⊎ ((c : Child) → In c b.accepted → c.vote ≡ None)
+
+-- those that joined a branch have joined another too, and a vote is noted of that only where one was of this, or where it is ending
+pub record Stays (b new : Branch) : Type 0 where
+  pub children : (c : Child) → In c b.accepted → (d : Child) × In d new.accepted × (d.serial ≡ c.serial)
+  pub unvoted : IsUnvoted b → IsUnvoted new
+
+pub stays_like : (b new : Branch) → new.accepted ≡ b.accepted → (b.state ≡ Ending → new.state ≡ Ending) → Stays b new
+stays_like b new same ends = record {
+  children = λ c i. (c, subst (In c) (sym same) i, refl);
+  unvoted = λ u. elim u [ inl e ↦ inl (ends e) | inr h ↦ inr (λ c i. h c (subst (In c) same i)) ];
+}
+
+pub stays_on : (b y x : Branch) → Stays b y → Stays y x → Stays b x
+stays_on b y x f g = record {
+  children = λ c i. let d = f.children c i in let a = g.children d.0 d.1 in (a.0, a.1, a.2 ∙ d.2);
+  unvoted = λ u. g.unvoted (f.unvoted u);
+}
+
 -- How a branch comes of another by an event: it has its key and its time, has changed something or not as that, the same branches have joined it, and no identifier was authorised for it and END_TRANS was
 -- not called but by that event.
 pub record Derives (e : Event) (b new : Branch) : Type 0 where
@@ -287,6 +308,7 @@ pub record Derives (e : Event) (b new : Branch) : Type 0 where
   pub given : (bid : Id) → has_bid bid new.accepted ≡ true → has_bid bid b.accepted ≡ true
   pub bids : (bid : Id) → In bid new.bids → In bid b.bids ⊎ (e ≡ Authorise b.key.tid bid)
   pub kept : (bid : Id) → In bid b.bids → In bid new.bids
+  pub stays : Stays b new
   pub ends : new.state ≡ Ending → (b.state ≡ Ending) ⊎ ((e ≡ EndTrans b.key.tid) × (b.key ≡ first b.key.tid))
   pub asked : new.asked ≡ true → (b.asked ≡ true) ⊎ IsAskedBy e b
 
@@ -296,7 +318,7 @@ Noted bs e new = (b : Branch) × In b bs × (is_prepared b.state ≡ false) × D
 
 -- a branch accepts another by a Join that names its identifier
 abbrev pub Accepted : List Branch → Event → Branch → Child → Type 0
-Accepted bs e b c = In b bs × (is_prepared b.state ≡ false) × (m : Message) × (e ≡ Got m) × (b.key ≡ first m.tid) × (c.serial ≡ m.serial) × (m.bid ≡ Some c.bid) × (m.kind ≡ Join)
+Accepted bs e b c = In b bs × (is_prepared b.state ≡ false) × (m : Message) × (e ≡ Got m) × (b.key ≡ first m.tid) × (c.serial ≡ m.serial) × (m.bid ≡ Some c.bid) × (m.kind ≡ Join) × (c.vote ≡ None)
 
 in_last : (x y : Id) (xs : List Id) → In x (xs ++ y ∷ []) → In x xs ⊎ (x ≡ y)
 in_last x y [] (inl same) = inr same
@@ -315,6 +337,16 @@ noted_in s v c (x ∷ cs) i = go (lacks_vote s x) i (noted_in s v c cs)
     go false (inl same) more = (c, inl same, refl)
     go false (inr j) more = let r = more j in (r.0, inr r.1, r.2)
 
+noted_stays : (s : Id) (v : Kind) (c : Child) (cs : List Child) → In c cs → (d : Child) × In d (note_vote s v cs) × (d.serial ≡ c.serial)
+noted_stays s v c [] i = absurd i
+noted_stays s v c (x ∷ cs) i = go (lacks_vote s x) i (noted_stays s v c cs)
+  where
+    go : (t : Bool) → In c (x ∷ cs) → (In c cs → (d : Child) × In d (note_vote s v cs) × (d.serial ≡ c.serial)) → (d : Child) × In d (if t then record x { vote = Some v } ∷ cs else x ∷ note_vote s v cs) × (d.serial ≡ c.serial)
+    go true (inl same) more = (record x { vote = Some v }, inl refl, sym (ap (λ (y : Child). y.serial) same))
+    go true (inr j) more = (c, inr j, refl)
+    go false (inl same) more = (x, inl refl, sym (ap (λ (y : Child). y.serial) same))
+    go false (inr j) more = let r = more j in (r.0, inr r.1, r.2)
+
 noted_bids : (s : Id) (v : Kind) (bid : Id) (cs : List Child) → has_bid bid (note_vote s v cs) ≡ has_bid bid cs
 noted_bids s v bid [] = refl
 noted_bids s v bid (x ∷ cs) = go (lacks_vote s x) (noted_bids s v bid cs)
@@ -327,8 +359,8 @@ pub row_puts : (tm : Tm) (e : Event) → BeginsNothing e → AllPut (Noted tm.ta
 row_puts tm e h = go e h
   where
     -- one that changes nothing of these
-    alike : (e : Event) (b new : Branch) → new.key ≡ b.key → new.changed ≡ b.changed → new.due ≡ b.due → new.accepted ≡ b.accepted → new.bids ≡ b.bids → is_prepared new.state ≡ false → (new.state ≡ Ending → b.state ≡ Ending) → (new.asked ≡ true → (b.asked ≡ true) ⊎ IsAskedBy e b) → Derives e b new
-    alike e b new key changed due accepted bids unprepared ends asked = record {
+    alike : (e : Event) (b new : Branch) → new.key ≡ b.key → new.changed ≡ b.changed → new.due ≡ b.due → new.accepted ≡ b.accepted → new.bids ≡ b.bids → is_prepared new.state ≡ false → (new.state ≡ Ending → b.state ≡ Ending) → (new.asked ≡ true → (b.asked ≡ true) ⊎ IsAskedBy e b) → (b.state ≡ Ending → new.state ≡ Ending) → Derives e b new
+    alike e b new key changed due accepted bids unprepared ends asked still = record {
       key = key;
       changed = changed;
       due = due;
@@ -338,6 +370,7 @@ row_puts tm e h = go e h
       given = λ bid t. ap (has_bid bid) (sym accepted) ∙ t;
       bids = λ bid i. inl (subst (In bid) bids i);
       kept = λ bid i. subst (In bid) (sym bids) i;
+      stays = stays_like b new accepted still;
       ends = λ s. inl (ends s);
       asked = asked;
     }
@@ -351,19 +384,19 @@ row_puts tm e h = go e h
     not_ending : (s : State) (b : Branch) → (s ≡ Ending → ⊥) → s ≡ Ending → b.state ≡ Ending
     not_ending s b never e = absurd (never e)
 
-    voted : (e : Event) (s : Id) (v : Kind) (b : Branch) → is_prepared b.state ≡ false → Derives e b (with_vote s v b)
-    voted e s v b u = record { key = refl; changed = refl; due = refl; open_still = u; accepted = λ c i. noted_in s v c b.accepted i; taken = λ bid t. noted_bids s v bid b.accepted ∙ t; given = λ bid t. sym (noted_bids s v bid b.accepted) ∙ t; bids = λ bid i. inl i; kept = λ bid i. i; ends = λ x. inl x; asked = λ a. inl a }
+    voted : (e : Event) (s : Id) (v : Kind) (b : Branch) → is_prepared b.state ≡ false → b.state ≡ Ending → Derives e b (with_vote s v b)
+    voted e s v b u ending_b = record { key = refl; changed = refl; due = refl; open_still = u; accepted = λ c i. noted_in s v c b.accepted i; taken = λ bid t. noted_bids s v bid b.accepted ∙ t; given = λ bid t. sym (noted_bids s v bid b.accepted) ∙ t; bids = λ bid i. inl i; kept = λ bid i. i; stays = record { children = λ c i. noted_stays s v c b.accepted i; unvoted = λ x. inl ending_b }; ends = λ x. inl x; asked = λ a. inl a }
 
     message : (m : Message) (d : Kind) → m.kind ≡ d → AllPut (Noted tm.table (Got m)) (Accepted tm.table (Got m)) (got tm m d)
-    message m Join is = join_notes _ _ m (find (first m.tid) tm.table) (λ b f u bid named. (find_in (first m.tid) tm.table b f, u, m, refl, find-key (first m.tid) tm.table b f, refl, named, is))
-    message m JoinOk is = join_ok_notes _ _ (find (key_of m) tm.table) (λ b f u. found (Got m) (key_of m) b _ f u (alike (Got m) b _ refl refl refl refl refl refl (not_ending Active b (λ e. let no : ⊥ = cc in no)) (λ a. inl a)))
+    message m Join is = join_notes _ _ m (find (first m.tid) tm.table) (λ b f u bid named. (find_in (first m.tid) tm.table b f, u, m, refl, find-key (first m.tid) tm.table b f, refl, named, is, refl))
+    message m JoinOk is = join_ok_notes _ _ (find (key_of m) tm.table) (λ b f u other. found (Got m) (key_of m) b _ f u (alike (Got m) b _ refl refl refl refl refl refl (not_ending Active b (λ e. let no : ⊥ = cc in no)) (λ a. inl a) (λ e. absurd (other e))))
     message m JoinNo is = join_no_notes _ _ (find (key_of m) tm.table)
-    message m Prepare is = prepare_notes _ _ m (find (key_of m) tm.table) (λ b f u. (
-      found (Got m) (key_of m) b _ f u (alike (Got m) b _ refl refl refl refl refl refl (not_ending Active b (λ e. let no : ⊥ = cc in no)) (λ a. inr (is, sym (find-key (key_of m) tm.table b f)))),
-      found (Got m) (key_of m) b _ f u (alike (Got m) b _ refl refl refl refl refl refl (not_ending Voting b (λ e. let no : ⊥ = cc in no)) (λ a. inr (is, sym (find-key (key_of m) tm.table b f)))),
+    message m Prepare is = prepare_notes _ _ m (find (key_of m) tm.table) (λ b f u other. (
+      found (Got m) (key_of m) b _ f u (alike (Got m) b _ refl refl refl refl refl refl (not_ending Active b (λ e. let no : ⊥ = cc in no)) (λ a. inr (is, sym (find-key (key_of m) tm.table b f))) (λ e. absurd (other e))),
+      found (Got m) (key_of m) b _ f u (alike (Got m) b _ refl refl refl refl refl refl (not_ending Voting b (λ e. let no : ⊥ = cc in no)) (λ a. inr (is, sym (find-key (key_of m) tm.table b f))) (λ e. absurd (other e))),
     ))
-    message m Yes is = vote_notes _ _ m.serial Yes (find (first m.tid) tm.table) (λ b f u. found (Got m) (first m.tid) b _ f u (voted (Got m) m.serial Yes b u))
-    message m ReadOnly is = vote_notes _ _ m.serial ReadOnly (find (first m.tid) tm.table) (λ b f u. found (Got m) (first m.tid) b _ f u (voted (Got m) m.serial ReadOnly b u))
+    message m Yes is = vote_notes _ _ m.serial Yes (find (first m.tid) tm.table) (λ b f u q. found (Got m) (first m.tid) b _ f u (voted (Got m) m.serial Yes b u q))
+    message m ReadOnly is = vote_notes _ _ m.serial ReadOnly (find (first m.tid) tm.table) (λ b f u q. found (Got m) (first m.tid) b _ f u (voted (Got m) m.serial ReadOnly b u q))
     message m No is = no_notes _ _ m.serial (find (first m.tid) tm.table)
     message m Commit is = commit_notes _ _ m (find (key_of m) tm.table)
     message m Abort is = abort_notes _ _ (find (key_of m) tm.table)
@@ -381,12 +414,13 @@ row_puts tm e h = go e h
       taken = λ x i. i;
       given = λ x i. i;
       kept = λ x i. in_left x b.bids (bid ∷ []) i;
+      stays = stays_like b (record b { bids = b.bids ++ bid ∷ [] }) refl (λ e. e);
       bids = λ x i. elim (in_last x bid b.bids i) [ inl j ↦ inl j | inr same ↦ inr (λ i. Authorise (sym (ap (λ (k : Key). k.tid) (find-key (first t) tm.table b f)) i) (sym same i)) ];
       ends = λ x. inl x;
       asked = λ a. inl a;
     }))
     go (Begin t s bid) h = absurd h
-    go (JoinRm s x) h = note_notes _ _ (with_manager x) (find_serial s tm.table) (λ b f u. found_serial (JoinRm s x) s b _ f u (alike (JoinRm s x) b _ refl refl refl refl refl u (λ e. e) (λ a. inl a)))
+    go (JoinRm s x) h = note_notes _ _ (with_manager x) (find_serial s tm.table) (λ b f u. found_serial (JoinRm s x) s b _ f u (alike (JoinRm s x) b _ refl refl refl refl refl u (λ e. e) (λ a. inl a) (λ e. e)))
     go (Changed s) h = absurd h
     go (EndTrans t) h = end_trans_notes _ _ (find (first t) tm.table) (λ b f u. found (EndTrans t) (first t) b _ f u (record {
       key = refl;
@@ -398,15 +432,16 @@ row_puts tm e h = go e h
       given = λ x i. i;
       bids = λ x i. inl i;
       kept = λ x i. i;
+      stays = record { children = λ c i. (c, i, refl); unvoted = λ x. inl refl };
       ends = λ x. let key = find-key (first t) tm.table b f in inr (ap EndTrans (sym (ap (λ (k : Key). k.tid) key)), key ∙ ap (λ (k : Key). first k.tid) (sym key));
       asked = λ a. inl a;
     }))
-    go (EndBranch s) h = end_branch_notes _ _ (find_serial s tm.table) (λ b f u. (
-      found_serial (EndBranch s) s b _ f u (alike (EndBranch s) b _ refl refl refl refl refl u (λ e. e) (λ a. inl a)),
-      found_serial (EndBranch s) s b _ f u (alike (EndBranch s) b _ refl refl refl refl refl refl (not_ending Voting b (λ e. let no : ⊥ = cc in no)) (λ a. inl a)),
+    go (EndBranch s) h = end_branch_notes _ _ (find_serial s tm.table) (λ b f u other. (
+      found_serial (EndBranch s) s b _ f u (alike (EndBranch s) b _ refl refl refl refl refl u (λ e. e) (λ a. inl a) (λ e. e)),
+      found_serial (EndBranch s) s b _ f u (alike (EndBranch s) b _ refl refl refl refl refl refl (not_ending Voting b (λ e. let no : ⊥ = cc in no)) (λ a. inl a) (λ e. absurd (other e))),
     ))
     go (AbortBranch s why) h = abort_branch_notes _ _ why (find_serial s tm.table)
-    go (Replied s x r) h = reply_notes _ _ s x r (find_serial s tm.table) tm.records (λ b f u. found_serial (Replied s x r) s b _ f u (alike (Replied s x r) b _ refl refl refl refl refl u (λ e. e) (λ a. inl a)))
+    go (Replied s x r) h = reply_notes _ _ s x r (find_serial s tm.table) tm.records (λ b f u. found_serial (Replied s x r) s b _ f u (alike (Replied s x r) b _ refl refl refl refl refl u (λ e. e) (λ a. inl a) (λ e. e)))
     go (Got m) h = message m m.kind refl
     go (Clock now) h = sweep_notes _ _ Timeout (is_due now) tm.table
     go (LinkDown x) h = append_notes _ _ (sweep CommFail (is_cut_off x) tm.table) (sweep CommFail (is_under x) tm.table) (sweep_notes _ _ CommFail (is_cut_off x) tm.table) (sweep_notes _ _ CommFail (is_under x) tm.table)

@@ -19,16 +19,16 @@ use Rattle.run_said.proofs.Passing.{acknowledged_passes, append_passes, printed_
 use Rattle.run_laws.proofs.Settling.{ActSettles, AllSettle, tells_settle}
 use Rattle.run_laws.proofs.ShownSettled.{here_in, none_shown}
 
--- a line of two lists stands in the first or in the second
+-- a line of two lists stands in the first, and behind it the second, or in the second
 pub split_append : (xs ys front : List Line) (this : Line) (behind : List Line) → xs ++ ys ≡ front ++ this ∷ behind →
-    ((rest : List Line) × (xs ≡ front ++ this ∷ rest)) ⊎ ((more : List Line) × (front ≡ xs ++ more) × (ys ≡ more ++ this ∷ behind))
+    ((rest : List Line) × (xs ≡ front ++ this ∷ rest) × (behind ≡ rest ++ ys)) ⊎ ((more : List Line) × (front ≡ xs ++ more) × (ys ≡ more ++ this ∷ behind))
 split_append [] ys front this behind e = inr (front, refl, e)
-split_append (x ∷ xs) ys [] this behind e = let head : x ≡ this = cc in inl (xs, ap (λ l. l ∷ xs) head)
+split_append (x ∷ xs) ys [] this behind e = let head : x ≡ this = cc in let tail : behind ≡ xs ++ ys = cc in inl (xs, ap (λ l. l ∷ xs) head, tail)
 split_append (x ∷ xs) ys (y ∷ front) this behind e =
     let head : x ≡ y = cc in
     let tail : xs ++ ys ≡ front ++ this ∷ behind = cc in
     elim (split_append xs ys front this behind tail) [
-      | inl r ↦ inl (r.0, λ i. head i ∷ r.1 i)
+      | inl r ↦ inl (r.0, (λ i. head i ∷ r.1 i), r.2)
       | inr r ↦ inr (r.0, (λ i. sym head i ∷ r.1 i), r.2)
     ]
 

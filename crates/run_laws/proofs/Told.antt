@@ -18,7 +18,7 @@ use Rattle.run_laws.specs.Causes.{HasJoined, WasEnded, clock_told}
 use Rattle.run_laws.specs.SaidLaws.{SaidThere}
 use Rattle.run_laws.proofs.Contents.{From, IsTold, TaskAccepts, TaskNotes, bare}
 use Rattle.run_laws.proofs.Named.{said_later}
-use Rattle.run_laws.proofs.Noting.{IsAskedBy}
+use Rattle.run_laws.proofs.Noting.{IsAskedBy, Stays, stays_like, stays_on}
 use Rattle.run_laws.proofs.Preparing.{is_leading}
 
 -- a transaction began with so many seconds that its time is over then
@@ -52,7 +52,7 @@ joined_later e es tid serial j = (j.0, inr j.1, j.2)
 pub ended_later : (e : Entry) (es : List Entry) (tid : Id) → WasEnded es tid → WasEnded (e ∷ es) tid
 ended_later e es tid w = (w.0, w.1, w.2, w.3, w.4, said_later e es w.0 _ w.2 (line.Pending w.3 w.4) w.5, w.6)
 
--- A branch comes of another: it has its key and its time, no more branches have joined it and none less, no more may, and it ends only where that does.
+-- A branch comes of another: it has its key and its time, no more branches have joined it and none less, no more may, it ends only where that does, and no more votes are noted of it unless it does.
 pub record IsHeir (b x : Branch) : Type 0 where
   pub key : x.key ≡ b.key
   pub due : x.due ≡ b.due
@@ -63,6 +63,7 @@ pub record IsHeir (b x : Branch) : Type 0 where
   pub given : (bid : Id) → has_bid bid x.accepted ≡ true → has_bid bid b.accepted ≡ true
   pub bids : (bid : Id) → In bid x.bids → In bid b.bids
   pub kept : (bid : Id) → In bid b.bids → In bid x.bids
+  pub stays : Stays b x
 
 pub heir_of_bare : (b x : Branch) → bare x ≡ bare b → IsHeir b x
 heir_of_bare b x same = record {
@@ -75,6 +76,7 @@ heir_of_bare b x same = record {
   given = λ bid t. ap (λ (y : Branch). has_bid bid y.accepted) (sym same) ∙ t;
   bids = λ bid i. subst (In bid) (ap (λ (y : Branch). y.bids) same) i;
   kept = λ bid i. subst (In bid) (ap (λ (y : Branch). y.bids) (sym same)) i;
+  stays = stays_like b x (ap (λ (y : Branch). y.accepted) same) (λ e. ap (λ (y : Branch). y.state) same ∙ e);
 }
 
 pub heir_on : (b y x : Branch) → IsHeir b y → IsHeir y x → IsHeir b x
@@ -88,6 +90,7 @@ heir_on b y x f g = record {
   given = λ bid t. f.given bid (g.given bid t);
   bids = λ bid i. f.bids bid (g.bids bid i);
   kept = λ bid i. g.kept bid (f.kept bid i);
+  stays = stays_on b y x f.stays g.stays;
 }
 
 first_same : (b x : Branch) → x.key ≡ b.key → is_first x ≡ is_first b

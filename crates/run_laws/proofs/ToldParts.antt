@@ -162,6 +162,7 @@ heir_from s n t ls x h u (y, same, inr (inl (ev, is, (b, i, open_b, d)))) = (
     taken = d.taken;
     given = d.given;
     kept = d.kept;
+    stays = d.stays;
     bids = λ bid q. elim (d.bids bid q) [ inl j ↦ j | inr by ↦ absurd (never_authorises s n t ev b.key.tid bid h is by) ];
   }) (heir_of_bare y x same),
 )

@@ -119,19 +119,19 @@ refused_clock name node now _ clock h = refl
 
 -- Acts that leave the branches.
 
-abbrev tables : List table.Act → List Branch → List Branch
+abbrev pub tables : List table.Act → List Branch → List Branch
 tables [] bs = bs
 tables (a ∷ todo) bs = tables todo (table_after a bs)
 
-rows_tables : (todo : List table.Act) (s : Shared) (n : Node) → (node_after_rows (table_rows todo s n) n).volatile.branches ≡ tables todo n.volatile.branches
+pub rows_tables : (todo : List table.Act) (s : Shared) (n : Node) → (node_after_rows (table_rows todo s n) n).volatile.branches ≡ tables todo n.volatile.branches
 rows_tables [] s n = refl
 rows_tables (a ∷ todo) s n = rows_tables todo (shared_after (Tables a (next_moment n)) s) (acted (Tables a (next_moment n)) n)
 
-sends_tables : (ms : List Message) (more : List table.Act) (bs : List Branch) → tables (sends_all ms ++ more) bs ≡ tables more bs
+pub sends_tables : (ms : List Message) (more : List table.Act) (bs : List Branch) → tables (sends_all ms ++ more) bs ≡ tables more bs
 sends_tables [] more bs = refl
 sends_tables (m ∷ ms) more bs = sends_tables ms more bs
 
-tells_tables : (event : RmEvent) (k : BranchKey) (xs : List Name) (more : List table.Act) (bs : List Branch) → tables (tells event k xs ++ more) bs ≡ tables more bs
+pub tells_tables : (event : RmEvent) (k : BranchKey) (xs : List Name) (more : List table.Act) (bs : List Branch) → tables (tells event k xs ++ more) bs ≡ tables more bs
 tells_tables event k [] more bs = refl
 tells_tables event k (x ∷ xs) more bs = tells_tables event k xs more bs
 

@@ -21,7 +21,7 @@ use Rattle.run_laws.specs.SaidLaws.{SaidThere}
 use Rattle.run_laws.specs.Anew.{AreKnownOrAnew}
 use Rattle.run_laws.specs.Agreed.{AgreedRun, EndsHoldAll, SettlesWhole}
 use Rattle.run_laws.specs.Showing.{AbortsShow, DirectsShow, EndsShow}
-use Rattle.run_laws.specs.Promises.{ShownThere, ReasonFits, WasLast, shown_in, last_in, Descends, SettledOnce, KeptPromises, EndsCommit, EndsAbort, EndedSo, FailsAreMissing, WaitsAreWhole, AbortsAbort, DirectsCommit, IdsAreNew, CommitsAreKept, AbortsAreKept, FailuresAreDecided, RestartsDecide, AllAreShown, IsLastApart, LastsAreKept, LastsFirst, FallsWereBegun, LastFallsWereBegun, BootsShowLast, LastsWereAsked, LastsWereCaused, BootsShowPrepared, OthersWerePrepared, PreparedAreTold, VotesWereCaused, LeavesWereCaused, ReadOnlyChangedNothing, AbortsStand, AreLastApart, DumpPromises, settlements_of}
+use Rattle.run_laws.specs.Promises.{ShownThere, ReasonFits, WasLast, shown_in, last_in, Descends, SettledOnce, KeptPromises, EndsCommit, EndsAbort, EndedComes, EndedSo, FailsAreMissing, PendingIsExact, WaitsAreWhole, AbortsAbort, DirectsCommit, IdsAreNew, CommitsAreKept, AbortsAreKept, FailuresAreDecided, RestartsDecide, AllAreShown, IsLastApart, LastsAreKept, LastsFirst, FallsWereBegun, LastFallsWereBegun, BootsShowLast, LastsWereAsked, LastsWereCaused, BootsShowPrepared, OthersWerePrepared, PreparedAreTold, VotesWereCaused, LeavesWereCaused, ReadOnlyChangedNothing, AbortsStand, AreLastApart, DumpPromises, settlements_of}
 
 -- Each such transcript keeps the promises,
 abbrev pub PromisesAreKept : Type 0
@@ -40,8 +40,14 @@ MissingHold = InAllRuns (λ opening es closing. FailsAreMissing es)
 abbrev pub WaitsHold : Type 0
 WaitsHold = InAllRuns (λ opening es closing. WaitsAreWhole es)
 
+abbrev pub PendingHold : Type 0
+PendingHold = InAllRuns (λ opening es closing. PendingIsExact es)
+
 abbrev pub EndedHold : Type 0
 EndedHold = InAllRuns (λ opening es closing. EndedSo es closing)
+
+abbrev pub EndedComesHold : Type 0
+EndedComesHold = InAllRuns (λ opening es closing. EndedComes es)
 
 abbrev pub AbortsHold : Type 0
 AbortsHold = InAllRuns (λ opening es closing. AbortsAbort es closing)
@@ -141,13 +147,15 @@ AgreedDumpsHold = (nodes : List Node) (disks : List DiskCounts) (es : List Entry
 -- All that is proved of a run where the images agree with which it begins, as its lines tell them.
 pub record AgreedPromises (opening : World) (es : List Entry) (closing : World) : Type 0 where
   pub kept : KeptPromises opening es closing
-  -- the base from which the run leads on, and the entries before it and since: those before it lead there from the opening, and up to there no node may be in use
+  -- the base from which the run leads on, and the entries before it and since: those before it lead there from the opening, up to there no node may be in use, and it has
+  -- the images that the lines tell
   pub base : World
   pub before : List Entry
   pub since : List Entry
   pub parts : es ≡ since ++ before
   pub begins : Legal opening before base
   pub unused : base.shared.in_use ≡ false
+  pub told : opening_of base ≡ opening_told opening.nodes es
   pub run : AgreedRun base since closing
   pub ends : EndsHoldAll base es closing
   pub settles : SettlesWhole opening es closing

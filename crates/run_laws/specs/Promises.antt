@@ -27,7 +27,7 @@ use Rattle.run_model.specs.Statements.{RoseAt, Step}
 use Rattle.run_model.specs.Transcript.{Entry, Legal, Turn}
 use Rattle.run_laws.specs.Accounts.{Account, Tells, broken_id, made_anew}
 use Rattle.run_laws.specs.Naming.{IdsDiffer, IsNamed, ids_told}
-use Rattle.run_laws.specs.Causes.{AbortCause, CommitCause, DeliversTo, HasBegun, IsDirect, IsMissing, IsWhole, Replies, WasAsked, WasBegun, WasEnded, WasSent}
+use Rattle.run_laws.specs.Causes.{AbortCause, CommitCause, DeliversTo, HasBegun, HasJoined, IsDirect, IsMissing, IsWhole, Replies, WasAsked, WasBegun, WasEnded, WasSent}
 use Rattle.run_laws.specs.SaidLaws.{SaidThere}
 use Rattle.run_laws.specs.Showing.{AbortsShow, DirectsShow, EndsShow}
 
@@ -202,6 +202,11 @@ abbrev pub WaitsAreWhole : List Entry → Type 0
 WaitsAreWhole es = (before : List Entry) (node label : List ℕ) (events : List Line) (serials : List Id) (rms : List (List ℕ)) → SaidThere es before (At node (EndTrans label)) events (line.Pending serials rms) →
     (tid : Id) × WasBegun before node label tid × IsWhole before tid
 
+-- The answer names just the branches that joined the transaction, of all of which it waits for the votes; and where none did, it names a resource manager.
+abbrev pub PendingIsExact : List Entry → Type 0
+PendingIsExact es = (before : List Entry) (node label : List ℕ) (events : List Line) (serials : List Id) (rms : List (List ℕ)) → SaidThere es before (At node (EndTrans label)) events (line.Pending serials rms) →
+    (tid : Id) × WasBegun before node label tid × ((serial : Id) → In serial serials → HasJoined before tid serial) × ((serial : Id) → HasJoined before tid serial → In serial serials) × (serials ≡ [] → rms ≡ [] → ⊥)
+
 -- these lines show how a transaction ended, and it is so for good
 abbrev pub EndsSo : Id → Option Reason → List Line → World → Type 0
 EndsSo tid None lines closing = (moment : ℕ) × In (line.Committed tid tid moment) lines × IsSettledSo tid tid Commit None moment closing
@@ -210,6 +215,21 @@ EndsSo tid (Some reason) lines closing = (moment : ℕ) × In (line.Aborted tid 
 -- So did the line ENDED that comes later, behind the line of the settlement, where END_TRANS was answered that something was missing.
 abbrev pub EndedSo : List Entry → World → Type 0
 EndedSo es closing = (before : List Entry) (said : Reading) (front behind : List Line) (tid : Id) (ended : Option Reason) → ShownThere es before said front (line.Ended tid ended) behind → WasEnded before tid × EndsSo tid ended front closing
+
+-- the line that shows how the first branch of a transaction is settled: for no reason where it is committed
+abbrev pub ended_line : Id → Option Reason → ℕ → Line
+ended_line tid None moment = line.Committed tid tid moment
+ended_line tid (Some reason) moment = line.Aborted tid tid reason moment
+
+-- a boot undoes it: a BOOT of its node, or a settling that boots the node
+abbrev pub IsUndoneByBoot : Reading → (behind : List Line) → Id → Option Reason → Type 0
+IsUndoneByBoot said behind tid ended = (ended ≡ Some SegFail) × ((said ≡ Says (At tid.node Boot)) ⊎ ((said ≡ Says Settle) × (count : ℕ) × In (line.Booted tid.node count) behind))
+
+-- And where END_TRANS was answered so, ENDED comes, behind the line that shows how the first branch is settled and in its statement, unless a boot undoes the branch or
+-- a failure puts its node down before.
+abbrev pub EndedComes : List Entry → Type 0
+EndedComes es = (before : List Entry) (said : Reading) (front behind : List Line) (tid : Id) (ended : Option Reason) (moment : ℕ) → ShownThere es before said front (ended_line tid ended moment) behind → WasEnded before tid →
+    In (line.Ended tid ended) behind ⊎ (IsUndoneByBoot said behind tid ended ⊎ ((cause : Cause) × In (line.Down tid.node cause) behind))
 
 -- An ABORT_TRANS that succeeded showed that the branch which its label names is aborted, for that was asked, and it is so from then on and for good.
 abbrev pub AbortsAbort : List Entry → World → Type 0
@@ -446,7 +466,9 @@ pub record KeptPromises (opening : World) (es : List Entry) (closing : World) : 
   pub fails : EndsAbort es closing
   pub missing : FailsAreMissing es
   pub waits : WaitsAreWhole es
+  pub pending : PendingIsExact es
   pub ended : EndedSo es closing
+  pub ended_comes : EndedComes es
   pub aborts : AbortsAbort es closing
   pub directs : DirectsCommit es closing
   pub end_shows : EndsShow es

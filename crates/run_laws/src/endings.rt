@@ -1,20 +1,25 @@
 //! What ends a transaction, as the transcript tells.
 
-ghost use Rattle.run_laws.specs.Laws.{AbortedHold, AbortsHold, CommitmentsHold, EndedHold, EndsHold, FailsHold, MissingHold, WaitsHold};
+ghost use Rattle.run_laws.specs.Laws.{AbortedHold, AbortsHold, CommitmentsHold, EndedComesHold, EndedHold, EndsHold, FailsHold, MissingHold, PendingHold, WaitsHold};
 
 /// In every legal transcript an END_TRANS that was answered with its success showed that the transaction which its label names is committed, and one
 /// that was answered with a reason that it is aborted so; and an ABORT_TRANS that was answered with its success showed that the branch which its
 /// label names is aborted. An END_TRANS is answered with a reason only where a branch is missing: an identifier was authorised for the transaction,
 /// and each branch that was told to join it did so by a delivered Join with another one. It is answered that votes are missing, or replies, only
-/// where none is: by each identifier a branch was told to have joined. A line ENDED comes where an END_TRANS of its transaction stands before, and
-/// behind the line of the settlement that it tells. What they showed is so from then on and for good.
+/// where none is: by each identifier a branch was told to have joined; and then it names just the branches that joined, or else a resource manager.
+/// A line ENDED comes where an END_TRANS of its transaction stands before, and
+/// behind the line of the settlement that it tells. What they showed is so from then on and for good. And where an END_TRANS was answered that something
+/// is missing ENDED does come, in the statement that shows how the first branch is settled and behind that line, unless a boot undoes the branch or a
+/// failure puts its node down before.
 pub fn requests_end()
     ensures ends { EndsHold }
     ensures fails { FailsHold }
     ensures missing { MissingHold }
     ensures waits { WaitsHold }
+    ensures names { PendingHold }
     ensures aborts { AbortsHold }
     ensures ended { EndedHold }
+    ensures comes { EndedComesHold }
 {}
 
 /// In every legal transcript each line of a commitment and each of an abort has its cause in its statement and the entries before it, and is so from

@@ -17,9 +17,9 @@ use Rattle.run_model.specs.Answers.{LosesLink, Serves, Takes, Task, Ticks, servi
 use Rattle.run_model.specs.Statements.{message_at}
 use Rattle.run_model.proofs.NodeLists.{some_is}
 use Rattle.run_shared.specs.Sharing.{SharedState}
-use Rattle.node_requests.specs.Holding.{HoldsAs}
-use Rattle.node_requests.specs.Standing.{Kept, disk_in, is_up}
-use Rattle.node_requests.specs.Telling.{TellsTask, armed_task, powered_task, said_node, said_shared, task_said}
+use Rattle.node_standing.specs.Holding.{HoldsAs}
+use Rattle.node_standing.specs.Standing.{Kept, disk_in, is_up}
+use Rattle.node_standing.specs.Telling.{TellsTask, armed_task, powered_task, said_node, said_shared, task_said}
 use Rattle.dtm_node.proofs.Held.{holds_is}
 use Rattle.said_steps.specs.Answers.{IsSteady, is_answer}
 use Rattle.said_steps.specs.Calls.{armed_by, calls_after, has_powered, is_named, spoken_to, was_down}

@@ -18,7 +18,7 @@ use Rattle.run_model.proofs.NodeLists.{some_is}
 use Rattle.run_model.specs.Statements.{answer_in}
 use Rattle.run_shared.specs.Sharing.{SharedState}
 use Rattle.dtm_node.specs.Asking as node
-use Rattle.node_requests.specs.Standing.{IsDown, IsRunning, Kept, Place, StandsFor, StandsIn, counts_of, disk_in}
+use Rattle.node_standing.specs.Standing.{IsDown, IsRunning, Kept, Place, StandsFor, StandsIn, counts_of, disk_in}
 use Rattle.statement_steps.specs.Doing.{IsWithin, moved}
 use Rattle.statement_steps.specs.Settling.{AreUp, Asking, Through, asks_of, doubts_of, question_in, question_of}
 use Rattle.statement_steps.proofs.Answering.{next_ended, next_hears, next_nobody, next_none, next_vain}

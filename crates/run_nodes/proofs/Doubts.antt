@@ -16,7 +16,7 @@ use Rattle.run_shared.specs.Sharing.{SharedState}
 use Rattle.node_table.specs.Standing.{NamesPrepared, standing}
 use Rattle.dtm_node.specs.Asking.{in_doubt_in}
 use Rattle.dtm_node.specs.Nodes.{IsPlaceOf, kept_of, place_of}
-use Rattle.node_requests.specs.Standing.{IsDown, IsRunning, Kept, Place, StandsFor, StandsIn}
+use Rattle.node_standing.specs.Standing.{IsDown, IsRunning, Kept, Place, StandsFor, StandsIn}
 use Rattle.dtm_node.specs.declared.node.Node as code
 use Rattle.dtm_node.specs.declared.node.Place as code_of
 use Rattle.dtm_node.specs.declared.node.Place.TheVariants as code_place

@@ -21,9 +21,9 @@ use Rattle.run_model.specs.Operations.{refused_if}
 use Rattle.run_model.specs.Answers.{LosesLink, Takes, Ticks}
 use Rattle.run_model.specs.Statements.{message_at, other_node}
 use Rattle.run_shared.specs.Sharing.{SharedState}
-use Rattle.node_requests.specs.Requests.{CanBeTold}
-use Rattle.node_requests.specs.Standing.{Kept}
-use Rattle.node_requests.specs.Telling.{said_node}
+use Rattle.node_standing.specs.Moments.{CanBeTold}
+use Rattle.node_standing.specs.Standing.{Kept}
+use Rattle.node_standing.specs.Telling.{said_node}
 use Rattle.said_steps.proofs.Refusals.{delivery_said_lost, delivery_said_missing, link_said_first, link_said_second, request_said_alone, request_said_missing, there_said_at, there_said_missing}
 use Rattle.statement_steps.specs.Doing.{AllKept}
 use Rattle.statement_steps.specs.TheLaws.{StaysWithin}

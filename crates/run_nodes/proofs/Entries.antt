@@ -7,7 +7,7 @@ use Rattle.run_model.proofs.NodeLists.{some_is}
 use Rattle.run_shared.specs.Sharing.{SharedState}
 use Rattle.indexmap.specs.IndexMap.{set_value_at}
 use Rattle.dtm_node.specs.Nodes.{IsNode, kept_of}
-use Rattle.node_requests.specs.Standing.{Kept}
+use Rattle.node_standing.specs.Standing.{Kept}
 use Rattle.dtm_node.specs.declared.node.Node.{Node}
 use Rattle.run_nodes.specs.Held.{AreNodesIn, clocks_of}
 use Rattle.run_nodes.proofs.Counts.{node_more, node_shared}

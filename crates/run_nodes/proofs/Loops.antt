@@ -9,8 +9,8 @@ use Rattle.run_model.specs.Answers.{Hears, Restarts, RunsDown, Task}
 use Rattle.run_model.proofs.NodeLists.{some_is}
 use Rattle.commit_protocol.specs.Messages.{Message}
 use Rattle.run_shared.specs.Sharing.{SharedState}
-use Rattle.node_requests.specs.Standing.{Kept, is_up}
-use Rattle.node_requests.specs.Telling.{said_node}
+use Rattle.node_standing.specs.Standing.{Kept, is_up}
+use Rattle.node_standing.specs.Telling.{said_node}
 use Rattle.said_steps.specs.Answers.{FallsTold}
 use Rattle.run_nodes.specs.Names.{AreApart}
 use Rattle.run_nodes.specs.Tasks.{DoesTask}

@@ -10,8 +10,8 @@ use Rattle.run_model.proofs.NodeLists.{some_is}
 use Rattle.run_agreement.specs.Laws.{NamesApart}
 use Rattle.run_said.specs.Said.{node_in, with_said}
 use Rattle.run_shared.specs.Sharing.{IsShared, SharedState}
-use Rattle.node_requests.specs.Standing.{Kept, StandsFor, counts_of, disk_in}
-use Rattle.node_requests.specs.Telling.{said_node}
+use Rattle.node_standing.specs.Standing.{Kept, StandsFor, counts_of, disk_in}
+use Rattle.node_standing.specs.Telling.{said_node}
 use Rattle.statement_steps.specs.Doing.{moved}
 use Rattle.statement_steps.proofs.Places.{counts_at, disk_at, find_at, put_at, unnamed}
 use Rattle.run_nodes.specs.Names.{AreApart, is_among}

@@ -21,9 +21,9 @@ use Rattle.run_model.specs.Operations.{refused_if}
 use Rattle.run_model.specs.Steps.{count_of}
 use Rattle.run_model.proofs.NodeLists.{some_is}
 use Rattle.run_shared.specs.Sharing.{SharedState}
-use Rattle.node_requests.specs.Standing.{Kept, counts_of, disk_in, is_up}
-use Rattle.node_requests.specs.Holding.{HoldsAs}
-use Rattle.node_requests.specs.Telling.{RestartTold, TellsTask, calls_after_task, is_unpowered, may_answer_task, refused_task, said_node, said_shared, task_used}
+use Rattle.node_standing.specs.Standing.{Kept, counts_of, disk_in, is_up}
+use Rattle.node_standing.specs.Holding.{HoldsAs}
+use Rattle.node_standing.specs.Telling.{RestartTold, TellsTask, calls_after_task, is_unpowered, may_answer_task, refused_task, said_node, said_shared, task_used}
 use Rattle.dtm_node.proofs.Held.{holds_is}
 use Rattle.said_steps.specs.Answers.{FallsTold, IsSteady, answers_so, ends_at, ends_boot, ends_turns, is_answer, is_broken, is_normal, is_unmade_at, stuck_at}
 use Rattle.said_steps.specs.Calls.{CameUp, NamesDiffer, has_used, is_boot_refusal, is_named, is_tried, restarted, shows_boot, spoken_to}

@@ -15,8 +15,8 @@ use Rattle.run_model.specs.Operations.{refused_if}
 use Rattle.run_model.specs.Statements.{Does, Part, message_at, other_node, refused_at_once, where_up}
 use Rattle.run_model.proofs.NodeLists.{some_is}
 use Rattle.run_shared.specs.Sharing.{SharedState}
-use Rattle.node_requests.specs.Keeping.{IsPromised, Performs, PerformsRequest, PerformsTask}
-use Rattle.node_requests.specs.Standing.{IsDown, IsRunning, Kept, Place, StandsFor, StandsIn, counts_of, disk_in, is_up}
+use Rattle.node_standing.specs.Keeping.{IsPromised, Performs, PerformsRequest, PerformsTask}
+use Rattle.node_standing.specs.Standing.{IsDown, IsRunning, Kept, Place, StandsFor, StandsIn, counts_of, disk_in, is_up}
 use Rattle.statement_steps.specs.Doing.{AllKept, DoesParts, IsPlain, IsWithin, as_begun, moved}
 use Rattle.statement_steps.specs.TheLaws.{StaysWithin}
 use Rattle.statement_steps.proofs.Keeping.{kept_at, within_begun}

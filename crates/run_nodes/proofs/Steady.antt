@@ -11,8 +11,8 @@ use Rattle.run_model.specs.Answers.{Serves, Task, task_service}
 use Rattle.run_shared.specs.Sharing.{SharedState}
 use Rattle.said_steps.specs.Answers.{IsSteady, is_normal}
 use Rattle.said_steps.specs.Own.{alone}
-use Rattle.node_requests.specs.Standing.{Kept}
-use Rattle.node_requests.specs.Telling.{TellsTask, may_answer_task, refused_task, said_node, said_shared}
+use Rattle.node_standing.specs.Standing.{Kept}
+use Rattle.node_standing.specs.Telling.{TellsTask, may_answer_task, refused_task, said_node, said_shared}
 
 -- whether the first node is up
 abbrev first_up : List SaidNode → Bool

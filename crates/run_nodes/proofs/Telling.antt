@@ -17,9 +17,9 @@ use Rattle.run_model.specs.Steps.{count_of}
 use Rattle.run_model.proofs.NodeLists.{some_is}
 use Rattle.recovery_units.specs.Uses.{IsCounted}
 use Rattle.run_shared.specs.Sharing.{SharedState}
-use Rattle.node_requests.specs.Holding.{HoldsAs}
-use Rattle.node_requests.specs.Standing.{Kept, counts_of, disk_in, is_up}
-use Rattle.node_requests.specs.Telling.{Passes, TellsTask, armed_task, powered_task, said_node, said_shared}
+use Rattle.node_standing.specs.Holding.{HoldsAs}
+use Rattle.node_standing.specs.Standing.{Kept, counts_of, disk_in, is_up}
+use Rattle.node_standing.specs.Telling.{Passes, TellsTask, armed_task, powered_task, said_node, said_shared}
 use Rattle.dtm_node.proofs.Held.{holds_is, holds_on}
 use Rattle.said_steps.specs.Calls.{is_boot_refusal, is_named}
 use Rattle.said_steps.specs.Own.{alone}

@@ -6,7 +6,7 @@ use Rattle.recovery_units.specs.State.{UnitsState}
 use Rattle.emitter_model.specs.Emitting.{Shown}
 use Rattle.run_model.specs.Answers.{Task}
 use Rattle.run_shared.specs.Sharing.{SharedState}
-use Rattle.node_requests.specs.Standing.{Kept, is_up}
+use Rattle.node_standing.specs.Standing.{Kept, is_up}
 use Rattle.dtm_node.specs.declared.node.Node.{Node}
 use Rattle.run_nodes.specs.Tasks.{DoesIfUp}
 use Rattle.run_nodes.proofs.Entries.{kept_in, names_in}

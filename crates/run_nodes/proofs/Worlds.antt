@@ -12,8 +12,8 @@ use Rattle.run_model.specs.Answers.{Restarts, RunsDown}
 use Rattle.run_model.specs.Statements.{Part, begun_with}
 use Rattle.run_shared.specs.Sharing.{SharedState}
 use Rattle.run_agreement.specs.Laws.{NamesApart}
-use Rattle.node_requests.specs.Keeping.{IsPromised}
-use Rattle.node_requests.specs.Standing.{Kept, counts_of, disk_in, is_up}
+use Rattle.node_standing.specs.Keeping.{IsPromised}
+use Rattle.node_standing.specs.Standing.{Kept, counts_of, disk_in, is_up}
 use Rattle.statement_steps.specs.Doing.{AllKept, IsWithin, moved}
 use Rattle.statement_steps.specs.Settling.{AreUp, Through, asks_of, restart_of, run_down_of}
 use Rattle.statement_steps.specs.TheLaws.{StaysWithin}

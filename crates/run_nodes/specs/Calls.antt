@@ -13,9 +13,9 @@ use Rattle.run_model.specs.Steps.{count_of}
 use Rattle.recovery_units.specs.Uses.{IsCounted}
 use Rattle.said_steps.specs.Answers.{FallsTold, answers_so, goes_on, is_answer}
 use Rattle.said_steps.specs.Calls.{calls_after, has_used, is_named, spoken_to, was_down}
-use Rattle.node_requests.specs.Holding.{HoldsAs}
-use Rattle.node_requests.specs.Telling.{Passes}
-use Rattle.node_requests.specs.Standing.{counts_of}
+use Rattle.node_standing.specs.Holding.{HoldsAs}
+use Rattle.node_standing.specs.Telling.{Passes}
+use Rattle.node_standing.specs.Standing.{counts_of}
 
 -- What the lines of a statement tell of the disk of the node of this name: which calls armed or powered it; that each failure of it that they show raised its
 -- count; that it is as it was where the statement does not speak to the node, or where what was said before refuses it; and that nothing on it is lost where its node

@@ -3,7 +3,7 @@ use Rattle.std.specs.Prelude.{◌≡◌, ℕ, List, [], ◌∷◌, map}
 use Rattle.block_disk.specs.Disk.{DiskState}
 use Rattle.run_shared.specs.Sharing.{SharedState}
 use Rattle.dtm_node.specs.Nodes.{IsNode, kept_of}
-use Rattle.node_requests.specs.Standing.{Kept}
+use Rattle.node_standing.specs.Standing.{Kept}
 use Rattle.dtm_node.specs.declared.node.Node as code
 use Rattle.recovery_units.specs.State.{UnitsState}
 use Rattle.run_nodes.specs.declared.nodes.Nodes.{Nodes}

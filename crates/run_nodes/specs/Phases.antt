@@ -7,7 +7,7 @@ use Rattle.emitter_model.specs.Emitting.{Emits, Shown}
 use Rattle.run_model.specs.World.{Node, World, find_node}
 use Rattle.run_model.specs.Statements.{Part}
 use Rattle.run_shared.specs.Sharing.{SharedState}
-use Rattle.node_requests.specs.Standing.{Kept}
+use Rattle.node_standing.specs.Standing.{Kept}
 use Rattle.statement_steps.specs.Doing.{DoesParts, IsWithin}
 use Rattle.statement_steps.specs.Settling.{AreUp, Asking, Through, asks, doubts_of, each_node}
 use Rattle.run_nodes.specs.Together.{StandsTogether}

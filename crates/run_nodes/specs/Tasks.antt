@@ -4,9 +4,9 @@ use Rattle.emitter_model.specs.Emitting.{Shown}
 use Rattle.script_model.specs.Statements.{Clock, Request}
 use Rattle.run_model.specs.Answers.{Serves, Task}
 use Rattle.run_shared.specs.Sharing.{SharedState}
-use Rattle.node_requests.specs.Keeping.{PerformsRequest, PerformsTask}
-use Rattle.node_requests.specs.Standing.{Kept, is_up}
-use Rattle.node_requests.specs.Telling.{TellsTask}
+use Rattle.node_standing.specs.Keeping.{PerformsRequest, PerformsTask}
+use Rattle.node_standing.specs.Standing.{Kept, is_up}
+use Rattle.node_standing.specs.Telling.{TellsTask}
 
 -- A task was done by the node at this place, which keeps its name; the others are as they were.
 pub record DoesTask (place : ℕ) (task : Task) (answers ends : Bool) (ks : List Kept) (s : SharedState) (a b : Shown) (ls : List Kept) (t : SharedState) : Type 0 where

@@ -8,8 +8,8 @@ use Rattle.run_said.specs.Said.{Said, said_here}
 use Rattle.run_model.specs.Statements.{Step}
 use Rattle.run_model.specs.World.{Node, World}
 use Rattle.run_shared.specs.Sharing.{IsShared, SharedState}
-use Rattle.node_requests.specs.Standing.{Kept, StandsFor, counts_of, disk_in}
-use Rattle.node_requests.specs.Telling.{said_node, said_shared}
+use Rattle.node_standing.specs.Standing.{Kept, StandsFor, counts_of, disk_in}
+use Rattle.node_standing.specs.Telling.{said_node, said_shared}
 use Rattle.run_nodes.specs.Calls.{LineFollows, LineTellsAll}
 
 -- the disks of nodes, by what is kept of each

@@ -11,9 +11,9 @@ use Rattle.run_said.specs.Said.{Said, line_said, lines_said}
 use Rattle.run_model.specs.Steps.{count_of}
 use Rattle.recovery_units.specs.Uses.{IsCounted}
 use Rattle.run_shared.specs.Sharing.{SharedState}
-use Rattle.node_requests.specs.Standing.{Kept, counts_of, disk_in, is_up}
-use Rattle.node_requests.specs.Telling.{Passes, said_node}
-use Rattle.node_requests.specs.Holding.{HoldsAs}
+use Rattle.node_standing.specs.Standing.{Kept, counts_of, disk_in, is_up}
+use Rattle.node_standing.specs.Telling.{Passes, said_node}
+use Rattle.node_standing.specs.Holding.{HoldsAs}
 use Rattle.said_steps.specs.Answers.{FallsTold, IsSteady, ends_turns, is_answer}
 use Rattle.said_steps.specs.Calls.{CameUp, is_named, shows_boot}
 use Rattle.run_nodes.specs.Together.{said_together}

@@ -2,7 +2,7 @@
 use Rattle.std.specs.Prelude.{◌≡◌, ◌≤◌, ℕ, List, false, Some}
 use Rattle.script_model.specs.Statements.{At, Boot, Clock, Recover, Settle, Statement}
 use Rattle.run_model.specs.World.{Node, Unknown, World, find_node}
-use Rattle.node_requests.specs.Requests.{CanBeTold}
+use Rattle.node_standing.specs.Moments.{CanBeTold}
 
 -- a node that is down, and of whose disk nothing is known, though no INIT of it failed
 pub record IsUntold (n : Node) : Type 0 where

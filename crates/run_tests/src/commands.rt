@@ -1,12 +1,11 @@
 //! What a run is asked by: its words, the nodes of its rack, and how its script may come.
 use block_disk::{CrashDisk, Disk, MemPlatter};
-use dtm_run::{Exit, Rack, RackCause, run};
-use node_units::NodeUnits;
 use std::alloc::Global;
 use std::io::{self, Read};
 use std::test::Fail;
 use test_scripts::one_node::{COMMITTING, OPENING, run_over, shown};
 use test_scripts::texts::{joined, repeated};
+use test_scripts::{Exit, NodeUnits, Rack, RackCause, run};
 use transcript::{MemSink, MemSource, ReaderSource, Source};
 use vms_base::NodeName;
 

@@ -1,8 +1,8 @@
 //! What a node has at the most: the files of its volume, its unsettled branches, their changes and locks, and the bytes of its journal.
 use block_disk::{CrashDisk, MemPlatter};
-use dtm_run::Exit;
 use std::alloc::Global;
 use std::test::Fail;
+use test_scripts::Exit;
 use test_scripts::one_node::{disk_of, run_on, shown};
 use test_scripts::texts::{filled, joined};
 

@@ -1,6 +1,6 @@
 //! Worked scripts of journals of images, saves and recoveries, with the transcripts that they must show.
-use dtm_run::Exit;
 use std::test::Fail;
+use test_scripts::Exit;
 use test_scripts::one_node::shown;
 use test_scripts::texts::joined;
 

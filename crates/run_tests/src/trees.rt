@@ -1,8 +1,8 @@
 //! Indexed files with an index over their leaves: transactions that are committed and one that is aborted, and images whose file has other levels.
 use block_disk::{CrashDisk, Disk, MemPlatter};
-use dtm_run::Rack;
 use std::alloc::Global;
 use std::test::Fail;
+use test_scripts::Rack;
 use test_scripts::one_node::{disk_of, run_on};
 use test_scripts::racks::{shown_by, with_node};
 use test_scripts::texts::{filled, repeated};

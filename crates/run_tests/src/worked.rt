@@ -1,6 +1,6 @@
 //! Worked scripts of one node, with the transcripts that they must show.
-use dtm_run::Exit;
 use std::test::Fail;
+use test_scripts::Exit;
 use test_scripts::one_node::{COMMITTING, shown};
 use test_scripts::texts::{filled, joined, repeated};
 

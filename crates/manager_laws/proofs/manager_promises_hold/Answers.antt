@@ -1,3 +1,4 @@
+use Rattle.manager_laws.proofs.Asking.{pending_asked}
 use Rattle.manager_laws.proofs.Declared.{joined_declared}
 use Rattle.manager_laws.proofs.Forgotten.{leaves_hold}
 use Rattle.manager_laws.proofs.Replied.{replies_hold}
@@ -9,6 +10,7 @@ pub returns : goal.returns
 returns c = λ nodes disks es closing opening legal. record {
   replies = replies_hold nodes disks es closing opening legal;
   leaves = leaves_hold nodes disks es closing opening legal;
+  asked = pending_asked nodes disks es closing opening legal;
   commits = commits_told nodes disks es closing opening legal;
   aborts = aborts_told nodes disks es closing opening legal;
   declares = declares_hold nodes disks es closing opening legal;

@@ -1,7 +1,7 @@
 use Rattle.std.proofs.Common.{◌<◌, [], ◌∷◌, ◌++◌, map, take, drop, length, refl, sym, ◌∙◌, ap, subst, arith}
 use Rattle.std.proofs.lemmas.List.{length-map}
 use Rattle.dtm_node.specs.Nodes.{kept_of, state_of}
-use Rattle.node_requests.specs.Standing.{disk_in}
+use Rattle.node_standing.specs.Standing.{disk_in}
 use Rattle.run_nodes.specs.Held.{kept_all, names_of}
 use Rattle.run_nodes.specs.Names.{is_among}
 use Rattle.run_nodes.specs.Together.{disks_of}

@@ -1,5 +1,5 @@
 use Rattle.std.proofs.Common.{◌≤◌, inl, inr, map, length, refl, sym, ◌∙◌, ap, subst, arith}
-use Rattle.node_requests.specs.Standing.{counts_of}
+use Rattle.node_standing.specs.Standing.{counts_of}
 use Rattle.run_nodes.specs.Held.{kept_all, names_of}
 use Rattle.run_nodes.specs.Names.{AreApart}
 use Rattle.run_nodes.specs.Together.{disks_of}

@@ -2,7 +2,8 @@ use Rattle.std.proofs.Common.{sym, subst}
 use Rattle.script_lang.specs.Statements.{recovery_of, request_of}
 use Rattle.node_table.specs.Code.{stored_of, up_of}
 use Rattle.node_table.specs.Standing.{Stored, Up}
-use Rattle.node_requests.specs.Requests.{AnswersRequest, CanBeTold}
+use Rattle.node_requests.specs.Requests.{AnswersRequest}
+use Rattle.node_standing.specs.Moments.{CanBeTold}
 use Rattle.node_requests.proofs.Recoveries.{recovery_answers}
 use Rattle.node_requests.proofs.RequestKinds.{of_reserved}
 use Rattle.node_requests.proofs.requests.serve_up.Goals as goal

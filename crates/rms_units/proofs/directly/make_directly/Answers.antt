@@ -17,7 +17,7 @@ use Rattle.image_appends.specs.declared.side.Side.TheVariants.{After, Before}
 use Rattle.image_appends.specs.Images.{FileHasRoom}
 use Rattle.image_room.specs.Room.{images_refused}
 use Rattle.kept_files.specs.Own.{own_change}
-use Rattle.rms_units.specs.Changing.{after_change, before_change}
+use Rattle.key_changes.specs.Changing.{after_change, before_change}
 use Rattle.rms_units.specs.Making.{AreLow, CommitsBranch, CommitsKey}
 use Rattle.rms_units.specs.State.{UnitsState}
 use Rattle.unit_cuts.proofs.EntrySizes.{spelled_size}

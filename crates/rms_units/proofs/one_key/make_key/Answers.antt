@@ -14,7 +14,7 @@ use Rattle.vms_base.specs.Keys.{key_of}
 use Rattle.vms_model.specs.Keys.{Key}
 use Rattle.volume_files.proofs.Places.{within_list}
 use Rattle.rms_units.specs.Calls.{MakesEntry}
-use Rattle.rms_units.specs.Changing.{after_change, before_change}
+use Rattle.key_changes.specs.Changing.{after_change, before_change}
 use Rattle.image_appends.specs.declared.side.Side.TheVariants.{After, Before}
 use Rattle.image_appends.specs.Images.{FileHasRoom}
 use Rattle.image_room.specs.Room.{images_refused}

@@ -3,7 +3,7 @@ use Rattle.record_locks.specs.Locks.{holder}
 use Rattle.record_operations.specs.Causes.{Cause, cause_of, first_cause}
 use Rattle.vms_base.specs.Ids.{serial_of}
 use Rattle.vms_model.specs.Keys.{Key, Number, End}
-use Rattle.rms_units.specs.Changing.{held_against, locks_refuse}
+use Rattle.key_changes.specs.Changing.{held_against, locks_refuse}
 use Rattle.unit_cuts.specs.Truncating.{keys_cut, keys_down}
 use Rattle.unit_cuts.proofs.CutLemmas.{keys_step}
 use Rattle.rms_units.proofs.CutLocks.{passes, stops}

@@ -3,7 +3,7 @@ use Rattle.std.proofs.Common.{◌≡◌, ◌+◌, ◌-◌, ◌<◌, ◌≤◌, �
 use Rattle.record_locks.specs.Locks.{not_locked, with_locks}
 use Rattle.vms_base.specs.Ids.{serial_of}
 use Rattle.vms_model.specs.Keys.{Key, Number, End}
-use Rattle.rms_units.specs.Changing.{locks_refuse}
+use Rattle.key_changes.specs.Changing.{locks_refuse}
 use Rattle.rms_units.specs.Truncating.{cut_asked}
 use Rattle.unit_cuts.specs.Truncating.{keys_cut, keys_down, removed_from}
 use Rattle.unit_cuts.proofs.CutLemmas.{keys_front, keys_whole, removed_lies, upper_keys}

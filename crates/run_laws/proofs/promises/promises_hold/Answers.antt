@@ -10,4 +10,4 @@ returns-clause-forget c = inits_forget
 
 pub returns-clause-agreed : goal.returns-clause-agreed
 returns-clause-agreed c =
-    agreed_promises c.branches_agree.ensures.alike c.branches_agree.ensures.committed c.branches_agree.ensures.images c.outcomes_stay.ensures.whole c.branches_agree.ensures.agree c.settling_leaves_none.ensures.none c.settling_leaves_none.ensures.ends
+    agreed_promises c.branches_agree.ensures.alike c.branches_agree.ensures.committed c.branches_agree.ensures.images c.outcomes_stay.ensures.whole c.settling_leaves_none.ensures.none c.settling_leaves_none.ensures.ends

@@ -4,7 +4,7 @@ use Rattle.emitter_model.proofs.EmittingLemmas.{since_on, since_same}
 use Rattle.script_model.specs.Statements.{Settle}
 use Rattle.run_model.specs.Statements.{begun_with}
 use Rattle.statement_steps.specs.Settling.{restart_of}
-use Rattle.node_requests.specs.Standing.{Kept, is_up}
+use Rattle.node_standing.specs.Standing.{Kept, is_up}
 use Rattle.run_nodes.specs.Held.{kept_all}
 use Rattle.run_nodes.specs.Names.{AreApart}
 use Rattle.run_nodes.specs.Told.{RestartsTold, kept_names}

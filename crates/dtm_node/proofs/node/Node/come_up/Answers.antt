@@ -5,7 +5,7 @@ use Rattle.run_shared.specs.Sharing.{SharedState}
 use Rattle.dtm_node.specs.Causes.{cause_of}
 use Rattle.dtm_node.specs.Nodes.{kept_of, place_of}
 use Rattle.dtm_node.specs.Opening.{ComesTo}
-use Rattle.node_requests.specs.Standing.{Kept}
+use Rattle.node_standing.specs.Standing.{Kept}
 use Rattle.dtm_node.proofs.BootPlaces.{left_place}
 use Rattle.dtm_node.proofs.Boots.{ended_comes, opens_fell, opens_lacks, opens_open, opens_refused, up_comes}
 use Rattle.dtm_node.proofs.node.Node.come_up.Goals as goal

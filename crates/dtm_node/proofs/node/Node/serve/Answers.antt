@@ -1,8 +1,8 @@
 use Rattle.std.proofs.Common.{Bool, true, subst, sym}
 use Rattle.run_model.specs.Answers.{Serves}
 use Rattle.script_lang.specs.Statements.{request_of}
-use Rattle.node_requests.specs.Keeping.{PerformsRequest}
-use Rattle.node_requests.specs.Telling.{TellsTask}
+use Rattle.node_standing.specs.Keeping.{PerformsRequest}
+use Rattle.node_standing.specs.Telling.{TellsTask}
 use Rattle.dtm_node.specs.Nodes.{kept_of}
 use Rattle.node_requests.proofs.RequestKinds.{for_up}
 use Rattle.dtm_node.proofs.node.Node.serve.Goals as goal

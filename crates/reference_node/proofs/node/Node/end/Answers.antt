@@ -11,7 +11,7 @@ use Rattle.tm_types.specs.Branches.{branch_of}
 use Rattle.reference_world.specs.Standing.{line_of}
 use Rattle.reference_node.specs.Nodes.{node_of}
 use Rattle.reference_branches.specs.Branches.{shared_of}
-use Rattle.reference_node.specs.Telling.{answer_else, answer_shown}
+use Rattle.reference_branches.specs.Lines.{answer_else, answer_shown}
 use Rattle.reference_node.proofs.StateLemmas.{first_found, may_end_trans}
 use Rattle.reference_node.proofs.TransactionLemmas.{end_answered}
 use Rattle.reference_node.proofs.node.Node.end.Goals as goal

@@ -14,7 +14,8 @@ use Rattle.reference_world.specs.Standing.{branch_key_of, line_of}
 use Rattle.reference_units.specs.Entries.{unit_of, units_of}
 use Rattle.std.specs.Option.{option_map}
 use Rattle.reference_disk.specs.Disks.{one_line}
-use Rattle.reference_node.specs.Nodes.{AreUnknown, key_line, node_of}
+use Rattle.reference_node.specs.Nodes.{AreUnknown, node_of}
+use Rattle.reference_branches.specs.Lines.{key_line}
 use Rattle.reference_node.specs.Telling.{HasTime}
 use Rattle.reference_node.proofs.BootLemmas.{are_unknown, few_left, has_restarted, may_begin, shown_prepared}
 use Rattle.reference_node.proofs.TellLemmas.{on_ok, less_time}

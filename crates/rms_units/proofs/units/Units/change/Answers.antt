@@ -11,8 +11,8 @@ use Rattle.vms_base.specs.Keys.{key_of}
 use Rattle.vms_model.specs.Keys.{Key}
 use Rattle.volume.specs.Catalogs.{head_at}
 use Rattle.volume.specs.State.{SameVolume}
-use Rattle.rms_units.specs.declared.asked.KeyChange.{KeyChange}
-use Rattle.rms_units.specs.Keys.{change_in, key_in, position_by}
+use Rattle.key_changes.specs.declared.asked.KeyChange.{KeyChange}
+use Rattle.key_changes.specs.Keys.{change_in, key_in, position_by}
 use Rattle.unit_table.specs.Units.{OpenUnit}
 use Rattle.rms_units.specs.Calls.{ChangeBroke, ChangeRefused, ChangesErr, ChangesKey, ChangesKeyErr, ChangesOk, KeyBroke, KeyRefused}
 use Rattle.rms_units.specs.State.{unit_of}

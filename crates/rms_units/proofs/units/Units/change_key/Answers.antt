@@ -6,7 +6,7 @@ use Rattle.vms_base.specs.Ids.{serial_of, tid_of}
 use Rattle.vms_base.specs.Keys.{key_of}
 use Rattle.vms_model.specs.Ids.{Id}
 use Rattle.rms_units.specs.Calls.{ChangesKey, KeyBroke, KeyRefused, MakesKey}
-use Rattle.rms_units.specs.Changing.{keys_asked, locks_refuse}
+use Rattle.key_changes.specs.Changing.{keys_asked, locks_refuse}
 use Rattle.rms_units.specs.State.{UnitsState, unit_of}
 use Rattle.rms_units.proofs.ChangedLemmas.{broken, changed, refused_breaks, refused_caused, refused_goes, refused_grows, refused_pool}
 use Rattle.rms_units.proofs.ImageSound.{ordered_spans, settlements_at}

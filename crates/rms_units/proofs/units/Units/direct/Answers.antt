@@ -11,8 +11,8 @@ use Rattle.vms_base.specs.Keys.{key_of}
 use Rattle.vms_model.specs.Keys.{Key}
 use Rattle.volume.specs.Catalogs.{head_at}
 use Rattle.volume.specs.State.{SameVolume}
-use Rattle.rms_units.specs.declared.asked.KeyChange.{KeyChange}
-use Rattle.rms_units.specs.Keys.{change_in, key_in, position_by}
+use Rattle.key_changes.specs.declared.asked.KeyChange.{KeyChange}
+use Rattle.key_changes.specs.Keys.{change_in, key_in, position_by}
 use Rattle.vms_base.specs.declared.times.Moment.{Moment}
 use Rattle.rms_units.specs.Calls.{DirectBroke, DirectKeyBroke, DirectKeyRefused, DirectRefused, DirectsErr, DirectsKey, DirectsKeyErr, DirectsOk}
 use Rattle.rms_units.specs.Truncating.{DirectCutBroke, DirectCutRefused, DirectsCut, DirectsCutErr}

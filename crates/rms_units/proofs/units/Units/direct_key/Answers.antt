@@ -5,7 +5,7 @@ use Rattle.unit_journal.specs.Settling.{next_moment}
 use Rattle.vms_base.specs.Keys.{key_of}
 use Rattle.volume.specs.State.{SameVolume}
 use Rattle.rms_units.specs.Calls.{CommitsChange, DirectKeyBroke, DirectKeyRefused, DirectsKey}
-use Rattle.rms_units.specs.Changing.{keys_asked, locks_refuse}
+use Rattle.key_changes.specs.Changing.{keys_asked, locks_refuse}
 use Rattle.rms_units.specs.State.{UnitsState}
 use Rattle.rms_units.proofs.ChangedLemmas.{committed, refused_breaks, uncommitted}
 use Rattle.rms_units.proofs.ImageSound.{ordered_spans, settlements_at}

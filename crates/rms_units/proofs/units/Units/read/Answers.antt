@@ -11,7 +11,7 @@ use Rattle.vms_base.specs.Keys.{key_of}
 use Rattle.vms_model.specs.Ids.{Id}
 use Rattle.volume.specs.State.{SameVolume, VolumeState}
 use Rattle.rms_units.specs.Calls.{MayRead, ReadRefused, ReadsErr}
-use Rattle.rms_units.specs.Changing.{keys_refused}
+use Rattle.key_changes.specs.Changing.{keys_refused}
 use Rattle.rms_units.specs.Reading.{Finds}
 use Rattle.unit_cuts.specs.Records.{OfRecords}
 use Rattle.rms_units.specs.State.{UnitsState, unit_of}

@@ -4,7 +4,7 @@ use Rattle.run_model.proofs.NodeLists.{some_is}
 use Rattle.std.specs.Prelude.{slice_get, slice_set}
 use Rattle.std.proofs.Common.{◌≡◌, map, Some, sym, ◌∙◌, ap}
 use Rattle.dtm_node.specs.Nodes.{kept_of}
-use Rattle.node_requests.specs.Standing.{Kept}
+use Rattle.node_standing.specs.Standing.{Kept}
 use Rattle.run_nodes.proofs.Entries.{kept_in, kept_there, node_at, put_kept, put_names, put_nodes}
 use Rattle.run_nodes.proofs.Places.{set_same}
 use Rattle.run_nodes.proofs.nodes.Nodes.answer.Goals as goal

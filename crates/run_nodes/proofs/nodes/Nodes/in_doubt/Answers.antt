@@ -3,7 +3,7 @@ use Rattle.std.proofs.Common.{sym, ◌∙◌, ap}
 use Rattle.run_model.proofs.NodeLists.{some_is}
 use Rattle.dtm_node.specs.Asking.{in_doubt_in}
 use Rattle.dtm_node.specs.Nodes.{kept_of}
-use Rattle.node_requests.specs.Standing.{Kept}
+use Rattle.node_standing.specs.Standing.{Kept}
 use Rattle.run_nodes.proofs.Places.{get_map}
 use Rattle.run_nodes.proofs.nodes.Nodes.in_doubt.Goals as goal
 

@@ -2,9 +2,9 @@ use Rattle.std.specs.Prelude.{slice_get, slice_set}
 use Rattle.std.proofs.Common.{◌≡◌, map, Some, sym, ◌∙◌, ap, subst, false}
 use Rattle.script_model.specs.Statements.{Clock}
 use Rattle.run_model.specs.Answers.{Serves}
-use Rattle.node_requests.specs.Keeping.{PerformsTask}
+use Rattle.node_standing.specs.Keeping.{PerformsTask}
 use Rattle.dtm_node.specs.Nodes.{kept_of}
-use Rattle.node_requests.specs.Standing.{Kept}
+use Rattle.node_standing.specs.Standing.{Kept}
 use Rattle.run_nodes.proofs.Entries.{kept_in, kept_there, node_at, put_kept, put_names, put_nodes}
 use Rattle.run_nodes.proofs.nodes.Nodes.set_clock.Goals as goal
 

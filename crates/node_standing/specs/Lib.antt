@@ -1,0 +1,5 @@
+pub mod Standing
+pub mod Holding
+pub mod Keeping
+pub mod Telling
+pub mod Moments

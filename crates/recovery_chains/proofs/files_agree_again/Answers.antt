@@ -1,0 +1,8 @@
+use Rattle.recovery_chains.proofs.Chains.{files_agree_again, recovery_chains_agree}
+use Rattle.recovery_chains.proofs.files_agree_again.Goals as goal
+
+pub returns-clause-again : goal.returns-clause-again
+returns-clause-again c = files_agree_again c.promises_hold.ensures.agreed
+
+pub returns-clause-chains : goal.returns-clause-chains
+returns-clause-chains c = recovery_chains_agree c.promises_hold.ensures.agreed

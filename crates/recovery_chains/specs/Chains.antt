@@ -1,0 +1,28 @@
+-- Files that agree with their journals and saves, from run to run.
+use Rattle.std.specs.Prelude.{◌≡◌, ℕ, List, [], ◌∷◌, false, Some}
+use Rattle.run_model.specs.World.{DiskCounts, Node, World, opened}
+use Rattle.run_model.specs.Transcript.{Entry, Legal}
+use Rattle.world_laws.specs.Running.{AllFound}
+use Rattle.run_agreement.specs.Seen.{has_volume}
+use Rattle.run_laws.specs.Promises.{left_at}
+use Rattle.run_chains.specs.Chains.{AreNext, Follow, MadeAreNew, MayAgree, RunOf}
+use Rattle.recovery_runs.specs.Promises.{FilesAgree, RecoveriesGiven}
+
+-- A disk without a volume has no files, unless these entries make its volume anew.
+abbrev pub AreBare : World → List Entry → Type 0
+AreBare opening es = (node : List ℕ) (n : Node) → left_at node es opening ≡ Some n → has_volume n ≡ false → AllFound (λ file f. ⊥) n.durable.directory
+
+-- Let the premises hold under which all is promised of a run that is promised where images agree, and let the files that it finds agree with their journals and saves, and
+-- with the branches that may yet commit. Then so do the files that the next run finds, whatever turned out of the acts that were under way at the end.
+abbrev pub FilesAgreeAgain : Type 0
+FilesAgreeAgain = (nodes : List Node) (disks : List DiskCounts) (es : List Entry) (closing : World) → MayAgree nodes es → Legal (opened nodes disks) es closing → FilesAgree (opened nodes disks) es →
+    (next : List Node) → AreNext closing.nodes next → (others : List DiskCounts) (fs : List Entry) → AreBare (opened next others) fs → MadeAreNew next fs → FilesAgree (opened next others) fs
+
+-- Of runs one after another, the newest first: the files agree that the first finds, and of each other no disk without a volume has files.
+abbrev pub FilesBegin : RunOf → List RunOf → Type 0
+FilesBegin r [] = FilesAgree (opened r.nodes r.disks) r.entries
+FilesBegin r (before ∷ rs) = FilesBegin before rs × AreBare (opened r.nodes r.disks) r.entries
+
+-- Then the files agree that each run finds, and so each recovery that a line shows to have succeeded gave the records of its moment.
+abbrev pub RecoveryChainsAgree : Type 0
+RecoveryChainsAgree = (r : RunOf) (rs : List RunOf) → Follow (r ∷ rs) → FilesBegin r rs → FilesAgree (opened r.nodes r.disks) r.entries × RecoveriesGiven (opened r.nodes r.disks) r.entries r.closing

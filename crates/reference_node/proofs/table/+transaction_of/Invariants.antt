@@ -1,5 +1,0 @@
-use Rattle.std.proofs.Common.{length}
-use Rattle.reference_node.proofs.table.+transaction_of.Given as goal
-
-abbrev pub decreases-transaction_of : goal.decreases-transaction_of
-decreases-transaction_of l = length l.keys.now
