@@ -44,14 +44,6 @@ module _ {D U : Type 0} (state : D → DiskState) (units : U → UnitsState) whe
   grown_to : (count : ℕ) (r : Up) → HasGrown 0 r → HasGrown count r
   grown_to count r h = let m = h.moment in let e = h.end in let d = h.drawn in record { moment = omega (arith, m); end = omega (arith, e); drawn = omega (arith, d) }
 
-  -- a node after one statement more
-  later_place : (count : ℕ) (s : SharedState) (n : Node D U) (p : code.Place D U) → IsPlaceOf state units count s n p → IsPlaceOf state units (count + 1) s n p
-  later_place count s n (code_place.Down disk parts) h = h
-  later_place count s n (code_place.Up r) h = let g = h.4 in (h.0, h.1, h.2, h.3, (let m = g.moment in let e = g.end in let d = g.drawn in record { moment = omega (arith, m); end = omega (arith, e); drawn = omega (arith, d) }))
-
-  pub later_node : (count : ℕ) (s : SharedState) (n : Node D U) → IsNode state units count s n → IsNode state units (count + 1) s n
-  later_node count s n h = record { place = later_place count s n n.place h.place; clock = h.clock }
-
   -- a node that came up
   pub risen_node : (n : Node D U) (q r : Running D U) (clock boot : ℕ) (a b : Shown) → IsOpen n.name (IsRunning (up_of units q)) → ReopensUp clock (up_of units q).stored.volume boot (up_of units r) a b → n.clock.0 ≤ 24000000000000 → (count : ℕ) (s : SharedState) → s.in_use ≡ true → n.unmade ≡ false
       → IsNode state units count s (record n { place = code_place.Up r })

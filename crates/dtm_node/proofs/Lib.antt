@@ -12,6 +12,7 @@ pub mod EventSteps
 pub mod EventTasks
 pub mod Falling
 pub mod Formatting
+pub mod Going
 pub mod Held
 pub mod Mounting
 pub mod NodeCrash

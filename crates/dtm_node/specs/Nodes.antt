@@ -1,5 +1,5 @@
 -- What the code keeps of a node, whether it is up or down.
-use Rattle.std.specs.Prelude.{◌≡◌, ◌≤◌, ℕ, List, [], true, false, IfSome, Some, None, is_some}
+use Rattle.std.specs.Prelude.{◌≡◌, ◌<◌, ◌≤◌, ℕ, List, [], true, false, IfSome, Some, None, is_some}
 use Rattle.block_disk.specs.Disk.{DiskState, armed}
 use Rattle.change_set.specs.Files.{free_frames}
 use Rattle.transcript_model.specs.Lines.{Aborted, Line}
@@ -76,3 +76,7 @@ IsPlaceOf state units count s n (code_place.Up r) = IsUp (up_of units r) × (n.n
 pub record IsNode {D U : Type 0} (state : D → DiskState) (units : U → UnitsState) (count : ℕ) (s : SharedState) (n : Node D U) : Type 0 where
   pub place : IsPlaceOf state units count s n n.place
   pub clock : n.clock.0 ≤ 24000000000000
+
+-- one after as many statements as a script may have
+abbrev pub IsNodeInScript : {D U : Type 0} → (D → DiskState) → (U → UnitsState) → SharedState → Node D U → Type 0
+IsNodeInScript state units s n = (count : ℕ) × (count < 1000002) × IsNode state units count s n

@@ -6,7 +6,7 @@ ghost use Rattle.commit_protocol.specs.Messages.{Inquire as InquireSaid};
 ghost use Rattle.vms_base.specs.Ids.{serial_of};
 ghost use Rattle.vms_base.specs.Outcomes.{outcome_of};
 ghost use Rattle.transcript.specs.Forms.{cause_of as cause_told};
-ghost use Rattle.emitter_model.specs.Emitting.{Emits, Shown, Since};
+ghost use Rattle.emitter_model.specs.Emitting.{Emits, Shown};
 ghost use Rattle.transcript_model.specs.Lines as line;
 ghost use Rattle.net_wire.specs.Messages.{kind_of, message_of};
 ghost use Rattle.tm_types.specs.Events.{event_of};
@@ -17,8 +17,9 @@ ghost use Rattle.script_model.specs.Statements as said;
 ghost use Rattle.dtm_node.specs.declared.node.Node.{Node as NodeSaid};
 ghost use Rattle.dtm_node.specs.Causes.{cause_of as cause_said};
 ghost use Rattle.node_standing.specs.Keeping.{PerformsRequest, PerformsTask};
-ghost use Rattle.dtm_node.specs.Nodes.{IsFallen, IsNode, IsParts, IsPlaceOf, MayFall, fallen_place, kept_of, last_lines_of, place_armed, place_of, state_of, undone_line};
+ghost use Rattle.dtm_node.specs.Nodes.{IsFallen, IsNode, IsNodeInScript, IsParts, IsPlaceOf, MayFall, fallen_place, kept_of, last_lines_of, place_armed, place_of, state_of, undone_line};
 ghost use Rattle.dtm_node.specs.Boots.{IsRaised};
+ghost use Rattle.dtm_node.specs.Going.{KeepsNode, ShowsOn};
 ghost use Rattle.dtm_node.specs.Formatting.{Formats, FormatsDisk};
 ghost use Rattle.dtm_node.specs.Opening.{Breaks, ComesTo, IsOpen, Opens, ReopensUp, Reopens, kept_down, prepared_told};
 ghost use Rattle.std.specs.List.{AllByRecursion};
@@ -133,8 +134,7 @@ fn reserve_parts<U: RecoveryUnits>(alloc: Global) -> Result<Parts<U>, AllocError
 // Shows the last settlement on a disk, where there is one.
 fn show_last<E: Emit>(home: &Home, out: &mut E)
     requires moment { home.now.greatest_moment.0 ≤ 24000000000000 }
-    ensures place { E.place out.new ≡ E.place out.old }
-    ensures since { Since (E.shows out.old) (E.shows out.new) }
+    ensures shown { ShowsOn E.shows E.place out.old out.new }
     ensures shows { Emits (E.shows out.old) (last_lines_of home.now) (E.shows out.new) }
 {
     let Some(last) = &home.last else {
@@ -210,13 +210,9 @@ impl<D: Disk + Drop, U: RecoveryUnits> Node<D, U> {
     )
         requires answered { (now : ℕ) → request_of lit.now request.now ≡ said.Clock now → ⊥ }
         requires times { CanBeTold (request_of lit.now request.now) }
-        requires node { (count : ℕ) × (count < 1000002) × IsNode D.state U.state count shared.old self.old }
-        ensures node { (count : ℕ) → IsNode D.state U.state count shared.old self.old → IsNode D.state U.state (count + 1) shared.new self.new }
-        ensures name { self.new.name ≡ self.old.name }
-        ensures clock { self.new.clock ≡ self.old.clock }
-        ensures in_use { shared.old.in_use ≡ true → shared.new.in_use ≡ true }
-        ensures place { E.place out.new ≡ E.place out.old }
-        ensures since { Since (E.shows out.old) (E.shows out.new) }
+        requires node { IsNodeInScript D.state U.state shared.old self.old }
+        ensures keeps { KeepsNode D.state U.state (λ count. count + 1) shared.old shared.new self.old self.new }
+        ensures shown { ShowsOn E.shows E.place out.old out.new }
         ensures tells { (ends : Bool) × TellsTask (Serves (request_of lit.now request.now)) true ends (kept_of D.state U.state self.old) shared.old (E.shows out.old) (E.shows out.new) (kept_of D.state U.state self.new) shared.new }
         ensures performs { PerformsRequest (request_of lit.now request.now) (kept_of D.state U.state self.old) shared.old (E.shows out.old) (E.shows out.new) (kept_of D.state U.state self.new) shared.new }
     {
@@ -240,13 +236,9 @@ impl<D: Disk + Drop, U: RecoveryUnits> Node<D, U> {
     )
         requires asks { IsForUp (request_of lit.now request.now) }
         requires times { CanBeTold (request_of lit.now request.now) }
-        requires node { (count : ℕ) × (count < 1000002) × IsNode D.state U.state count shared.old self.old }
-        ensures node { (count : ℕ) → IsNode D.state U.state count shared.old self.old → IsNode D.state U.state (count + 1) shared.new self.new }
-        ensures name { self.new.name ≡ self.old.name }
-        ensures clock { self.new.clock ≡ self.old.clock }
-        ensures in_use { shared.old.in_use ≡ true → shared.new.in_use ≡ true }
-        ensures place { E.place out.new ≡ E.place out.old }
-        ensures since { Since (E.shows out.old) (E.shows out.new) }
+        requires node { IsNodeInScript D.state U.state shared.old self.old }
+        ensures keeps { KeepsNode D.state U.state (λ count. count + 1) shared.old shared.new self.old self.new }
+        ensures shown { ShowsOn E.shows E.place out.old out.new }
         ensures tells { (ends : Bool) × TellsTask (Serves (request_of lit.now request.now)) true ends (kept_of D.state U.state self.old) shared.old (E.shows out.old) (E.shows out.new) (kept_of D.state U.state self.new) shared.new }
         ensures performs { PerformsRequest (request_of lit.now request.now) (kept_of D.state U.state self.old) shared.old (E.shows out.old) (E.shows out.new) (kept_of D.state U.state self.new) shared.new }
     {
@@ -270,8 +262,7 @@ impl<D: Disk + Drop, U: RecoveryUnits> Node<D, U> {
         requires falls { MayFall D.state U.state self.old.place }
         ensures kept { kept_of D.state U.state self.new ≡ record (kept_of D.state U.state self.old) { place = fallen_place (kept_of D.state U.state self.old).place } }
         ensures node { (count : ℕ) (s : SharedState) → self.old.clock.0 ≤ 24000000000000 → IsNode D.state U.state count s self.new }
-        ensures place { E.place out.new ≡ E.place out.old }
-        ensures since { Since (E.shows out.old) (E.shows out.new) }
+        ensures shown { ShowsOn E.shows E.place out.old out.new }
         ensures shows { Emits (E.shows out.old) (line.Down self.old.name (cause_said down) ∷ []) (E.shows out.new) }
     {
         out.emit(&Form::Down(self.name, cause_of(down)));
@@ -282,12 +273,9 @@ impl<D: Disk + Drop, U: RecoveryUnits> Node<D, U> {
     fn tell_on<E: Emit>(&mut self, event: &Event, shared: &mut Shared, out: &mut E)
         requires event { ComesFreely (event_of event.now) }
         requires up { is_up_in (kept_of D.state U.state self.old).place ≡ true }
-        requires node { (count : ℕ) × (count < 1000002) × IsNode D.state U.state count shared.old self.old }
-        ensures node { (count : ℕ) → IsNode D.state U.state count shared.old self.old → IsNode D.state U.state count shared.new self.new }
-        ensures name { self.new.name ≡ self.old.name }
-        ensures in_use { shared.old.in_use ≡ true → shared.new.in_use ≡ true }
-        ensures place { E.place out.new ≡ E.place out.old }
-        ensures since { Since (E.shows out.old) (E.shows out.new) }
+        requires node { IsNodeInScript D.state U.state shared.old self.old }
+        ensures keeps { KeepsNode D.state U.state (λ count. count) shared.old shared.new self.old self.new }
+        ensures shown { ShowsOn E.shows E.place out.old out.new }
         ensures does { TellsEvent (event_of event.now) true false (kept_of D.state U.state self.old) shared.old (E.shows out.old) (E.shows out.new) (kept_of D.state U.state self.new) shared.new }
     {
         the_laws();
@@ -303,12 +291,9 @@ impl<D: Disk + Drop, U: RecoveryUnits> Node<D, U> {
     // An event comes to a node; where that is down, or its disk goes down, the statement is answered with that.
     fn tell_or_end<E: Emit>(&mut self, event: &Event, shared: &mut Shared, out: &mut E) -> Flow
         requires event { ComesFreely (event_of event.now) }
-        requires node { (count : ℕ) × (count < 1000002) × IsNode D.state U.state count shared.old self.old }
-        ensures node { (count : ℕ) → IsNode D.state U.state count shared.old self.old → IsNode D.state U.state count shared.new self.new }
-        ensures name { self.new.name ≡ self.old.name }
-        ensures in_use { shared.old.in_use ≡ true → shared.new.in_use ≡ true }
-        ensures place { E.place out.new ≡ E.place out.old }
-        ensures since { Since (E.shows out.old) (E.shows out.new) }
+        requires node { IsNodeInScript D.state U.state shared.old self.old }
+        ensures keeps { KeepsNode D.state U.state (λ count. count) shared.old shared.new self.old self.new }
+        ensures shown { ShowsOn E.shows E.place out.old out.new }
         ensures does { TellsEvent (event_of event.now) false (is_over result) (kept_of D.state U.state self.old) shared.old (E.shows out.old) (E.shows out.new) (kept_of D.state U.state self.new) shared.new }
     {
         the_laws();
@@ -342,12 +327,9 @@ impl<D: Disk + Drop, U: RecoveryUnits> Node<D, U> {
     /// Aborts what is due by the clock of a node that is up.
     pub fn tick<E: Emit>(&mut self, shared: &mut Shared, out: &mut E)
         requires up { is_up_in (kept_of D.state U.state self.old).place ≡ true }
-        requires node { (count : ℕ) × (count < 1000002) × IsNode D.state U.state count shared.old self.old }
-        ensures node { (count : ℕ) → IsNode D.state U.state count shared.old self.old → IsNode D.state U.state count shared.new self.new }
-        ensures name { self.new.name ≡ self.old.name }
-        ensures in_use { shared.old.in_use ≡ true → shared.new.in_use ≡ true }
-        ensures place { E.place out.new ≡ E.place out.old }
-        ensures since { Since (E.shows out.old) (E.shows out.new) }
+        requires node { IsNodeInScript D.state U.state shared.old self.old }
+        ensures keeps { KeepsNode D.state U.state (λ count. count) shared.old shared.new self.old self.new }
+        ensures shown { ShowsOn E.shows E.place out.old out.new }
         ensures tells { TellsTask (Ticks) false false (kept_of D.state U.state self.old) shared.old (E.shows out.old) (E.shows out.new) (kept_of D.state U.state self.new) shared.new }
         ensures performs { PerformsTask (Ticks) false false (kept_of D.state U.state self.old) shared.old (E.shows out.old) (E.shows out.new) (kept_of D.state U.state self.new) shared.new }
     {
@@ -357,12 +339,9 @@ impl<D: Disk + Drop, U: RecoveryUnits> Node<D, U> {
     /// The link of a node that is up to another node fails.
     pub fn lose_link<E: Emit>(&mut self, other: NodeName, shared: &mut Shared, out: &mut E)
         requires up { is_up_in (kept_of D.state U.state self.old).place ≡ true }
-        requires node { (count : ℕ) × (count < 1000002) × IsNode D.state U.state count shared.old self.old }
-        ensures node { (count : ℕ) → IsNode D.state U.state count shared.old self.old → IsNode D.state U.state count shared.new self.new }
-        ensures name { self.new.name ≡ self.old.name }
-        ensures in_use { shared.old.in_use ≡ true → shared.new.in_use ≡ true }
-        ensures place { E.place out.new ≡ E.place out.old }
-        ensures since { Since (E.shows out.old) (E.shows out.new) }
+        requires node { IsNodeInScript D.state U.state shared.old self.old }
+        ensures keeps { KeepsNode D.state U.state (λ count. count) shared.old shared.new self.old self.new }
+        ensures shown { ShowsOn E.shows E.place out.old out.new }
         ensures tells { TellsTask (LosesLink other) false false (kept_of D.state U.state self.old) shared.old (E.shows out.old) (E.shows out.new) (kept_of D.state U.state self.new) shared.new }
         ensures performs { PerformsTask (LosesLink other) false false (kept_of D.state U.state self.old) shared.old (E.shows out.old) (E.shows out.new) (kept_of D.state U.state self.new) shared.new }
     {
@@ -371,12 +350,9 @@ impl<D: Disk + Drop, U: RecoveryUnits> Node<D, U> {
 
     /// A message comes to the node.
     pub fn take<E: Emit>(&mut self, m: &Message, shared: &mut Shared, out: &mut E) -> Flow
-        requires node { (count : ℕ) × (count < 1000002) × IsNode D.state U.state count shared.old self.old }
-        ensures node { (count : ℕ) → IsNode D.state U.state count shared.old self.old → IsNode D.state U.state count shared.new self.new }
-        ensures name { self.new.name ≡ self.old.name }
-        ensures in_use { shared.old.in_use ≡ true → shared.new.in_use ≡ true }
-        ensures place { E.place out.new ≡ E.place out.old }
-        ensures since { Since (E.shows out.old) (E.shows out.new) }
+        requires node { IsNodeInScript D.state U.state shared.old self.old }
+        ensures keeps { KeepsNode D.state U.state (λ count. count) shared.old shared.new self.old self.new }
+        ensures shown { ShowsOn E.shows E.place out.old out.new }
         ensures tells { TellsTask (Takes (message_of m.now)) (is_over result) (is_over result) (kept_of D.state U.state self.old) shared.old (E.shows out.old) (E.shows out.new) (kept_of D.state U.state self.new) shared.new }
         ensures performs { PerformsTask (Takes (message_of m.now)) (is_over result) (is_over result) (kept_of D.state U.state self.old) shared.old (E.shows out.old) (E.shows out.new) (kept_of D.state U.state self.new) shared.new }
     {
@@ -385,12 +361,9 @@ impl<D: Disk + Drop, U: RecoveryUnits> Node<D, U> {
 
     /// The answer to a question of one of its branches comes, which a settling asked.
     pub fn hear<E: Emit>(&mut self, m: &Message, shared: &mut Shared, out: &mut E) -> Flow
-        requires node { (count : ℕ) × (count < 1000002) × IsNode D.state U.state count shared.old self.old }
-        ensures node { (count : ℕ) → IsNode D.state U.state count shared.old self.old → IsNode D.state U.state count shared.new self.new }
-        ensures name { self.new.name ≡ self.old.name }
-        ensures in_use { shared.old.in_use ≡ true → shared.new.in_use ≡ true }
-        ensures place { E.place out.new ≡ E.place out.old }
-        ensures since { Since (E.shows out.old) (E.shows out.new) }
+        requires node { IsNodeInScript D.state U.state shared.old self.old }
+        ensures keeps { KeepsNode D.state U.state (λ count. count) shared.old shared.new self.old self.new }
+        ensures shown { ShowsOn E.shows E.place out.old out.new }
         ensures tells { TellsTask (Hears (message_of m.now)) (is_over result) (is_over result) (kept_of D.state U.state self.old) shared.old (E.shows out.old) (E.shows out.new) (kept_of D.state U.state self.new) shared.new }
         ensures performs { PerformsTask (Hears (message_of m.now)) (is_over result) (is_over result) (kept_of D.state U.state self.old) shared.old (E.shows out.old) (E.shows out.new) (kept_of D.state U.state self.new) shared.new }
     {
@@ -404,12 +377,9 @@ impl<D: Disk + Drop, U: RecoveryUnits> Node<D, U> {
 
     /// Aborts all branches that are not prepared.
     pub fn run_down<E: Emit>(&mut self, shared: &mut Shared, out: &mut E) -> Flow
-        requires node { (count : ℕ) × (count < 1000002) × IsNode D.state U.state count shared.old self.old }
-        ensures node { (count : ℕ) → IsNode D.state U.state count shared.old self.old → IsNode D.state U.state count shared.new self.new }
-        ensures name { self.new.name ≡ self.old.name }
-        ensures in_use { shared.old.in_use ≡ true → shared.new.in_use ≡ true }
-        ensures place { E.place out.new ≡ E.place out.old }
-        ensures since { Since (E.shows out.old) (E.shows out.new) }
+        requires node { IsNodeInScript D.state U.state shared.old self.old }
+        ensures keeps { KeepsNode D.state U.state (λ count. count) shared.old shared.new self.old self.new }
+        ensures shown { ShowsOn E.shows E.place out.old out.new }
         ensures tells { TellsTask (RunsDown) (is_over result) (is_over result) (kept_of D.state U.state self.old) shared.old (E.shows out.old) (E.shows out.new) (kept_of D.state U.state self.new) shared.new }
         ensures performs { PerformsTask (RunsDown) (is_over result) (is_over result) (kept_of D.state U.state self.old) shared.old (E.shows out.old) (E.shows out.new) (kept_of D.state U.state self.new) shared.new }
     {
@@ -474,12 +444,9 @@ impl<D: Disk + Drop, U: RecoveryUnits> Node<D, U> {
     pub fn restart<E: Emit>(&mut self, alloc: Global, shared: &mut Shared, out: &mut E) -> Flow
         requires down { is_up_in (kept_of D.state U.state self.old).place ≡ false }
         requires used { shared.old.in_use ≡ true }
-        requires node { (count : ℕ) × (count < 1000002) × IsNode D.state U.state count shared.old self.old }
-        ensures node { (count : ℕ) → IsNode D.state U.state count shared.old self.old → IsNode D.state U.state count shared.new self.new }
-        ensures name { self.new.name ≡ self.old.name }
-        ensures in_use { shared.old.in_use ≡ true → shared.new.in_use ≡ true }
-        ensures place { E.place out.new ≡ E.place out.old }
-        ensures since { Since (E.shows out.old) (E.shows out.new) }
+        requires node { IsNodeInScript D.state U.state shared.old self.old }
+        ensures keeps { KeepsNode D.state U.state (λ count. count) shared.old shared.new self.old self.new }
+        ensures shown { ShowsOn E.shows E.place out.old out.new }
         ensures tells { TellsTask (Restarts) (is_over result) (is_over result) (kept_of D.state U.state self.old) shared.old (E.shows out.old) (E.shows out.new) (kept_of D.state U.state self.new) shared.new }
         ensures performs { PerformsTask (Restarts) (is_over result) (is_over result) (kept_of D.state U.state self.old) shared.old (E.shows out.old) (E.shows out.new) (kept_of D.state U.state self.new) shared.new }
     {
@@ -498,13 +465,9 @@ impl<D: Disk + Drop, U: RecoveryUnits> Node<D, U> {
 
     // BOOT: the node comes up over its volume.
     fn boot<E: Emit>(&mut self, alloc: Global, shared: &mut Shared, out: &mut E)
-        requires node { (count : ℕ) × (count < 1000002) × IsNode D.state U.state count shared.old self.old }
-        ensures node { (count : ℕ) → IsNode D.state U.state count shared.old self.old → IsNode D.state U.state (count + 1) shared.new self.new }
-        ensures name { self.new.name ≡ self.old.name }
-        ensures clock { self.new.clock ≡ self.old.clock }
-        ensures in_use { shared.old.in_use ≡ true → shared.new.in_use ≡ true }
-        ensures place { E.place out.new ≡ E.place out.old }
-        ensures since { Since (E.shows out.old) (E.shows out.new) }
+        requires node { IsNodeInScript D.state U.state shared.old self.old }
+        ensures keeps { KeepsNode D.state U.state (λ count. count + 1) shared.old shared.new self.old self.new }
+        ensures shown { ShowsOn E.shows E.place out.old out.new }
         ensures tells { (ends : Bool) × TellsTask (Serves (said.Boot)) true ends (kept_of D.state U.state self.old) shared.old (E.shows out.old) (E.shows out.new) (kept_of D.state U.state self.new) shared.new }
         ensures performs { PerformsRequest (said.Boot) (kept_of D.state U.state self.old) shared.old (E.shows out.old) (E.shows out.new) (kept_of D.state U.state self.new) shared.new }
     {
@@ -525,13 +488,9 @@ impl<D: Disk + Drop, U: RecoveryUnits> Node<D, U> {
     fn come_up<E: Emit>(&mut self, alloc: Global, shared: &mut Shared, out: &mut E) -> Option<u32>
         requires down { is_up_in (kept_of D.state U.state self.old).place ≡ false }
         requires made { self.old.unmade ≡ false }
-        requires node { (count : ℕ) × (count < 1000002) × IsNode D.state U.state count shared.old self.old }
-        ensures node { (count : ℕ) → IsNode D.state U.state count shared.old self.old → IsNode D.state U.state count shared.new self.new }
-        ensures name { self.new.name ≡ self.old.name }
-        ensures clock { self.new.clock ≡ self.old.clock }
-        ensures in_use { shared.old.in_use ≡ true → shared.new.in_use ≡ true }
-        ensures place { E.place out.new ≡ E.place out.old }
-        ensures since { Since (E.shows out.old) (E.shows out.new) }
+        requires node { IsNodeInScript D.state U.state shared.old self.old }
+        ensures keeps { KeepsNode D.state U.state (λ count. count) shared.old shared.new self.old self.new }
+        ensures shown { ShowsOn E.shows E.place out.old out.new }
         ensures comes { ComesTo (kept_of D.state U.state self.old) shared.old result (E.shows out.old) (E.shows out.new) (kept_of D.state U.state self.new) shared.new }
     {
         let boot = Boot {
@@ -566,8 +525,7 @@ impl<D: Disk + Drop, U: RecoveryUnits> Node<D, U> {
         requires clock { self.old.clock.0 ≤ 24000000000000 }
         ensures kept { kept_of D.state U.state self.new ≡ record (kept_of D.state U.state self.old) { place = (kept_of D.state U.state self.new).place } }
         ensures node { (count : ℕ) (s : SharedState) → s.in_use ≡ true → self.old.unmade ≡ false → IsNode D.state U.state count s self.new }
-        ensures place { E.place out.new ≡ E.place out.old }
-        ensures since { Since (E.shows out.old) (E.shows out.new) }
+        ensures shown { ShowsOn E.shows E.place out.old out.new }
         ensures reopens { Reopens self.old.name self.old.clock.0 (kept_of D.state U.state self.old).place result (kept_of D.state U.state self.new).place (E.shows out.old) (E.shows out.new) }
     {
         match &mut self.place {
@@ -585,12 +543,9 @@ impl<D: Disk + Drop, U: RecoveryUnits> Node<D, U> {
 
     // INIT: an empty volume of this node, with so many log slots and blocks of the journal.
     fn init<E: Emit>(&mut self, slots: u32, blocks: u32, shared: &Shared, out: &mut E)
-        requires node { (count : ℕ) × (count < 1000002) × IsNode D.state U.state count shared.now self.old }
-        ensures node { (count : ℕ) → IsNode D.state U.state count shared.now self.old → IsNode D.state U.state (count + 1) shared.now self.new }
-        ensures name { self.new.name ≡ self.old.name }
-        ensures clock { self.new.clock ≡ self.old.clock }
-        ensures place { E.place out.new ≡ E.place out.old }
-        ensures since { Since (E.shows out.old) (E.shows out.new) }
+        requires node { IsNodeInScript D.state U.state shared.now self.old }
+        ensures keeps { KeepsNode D.state U.state (λ count. count + 1) shared.now shared.now self.old self.new }
+        ensures shown { ShowsOn E.shows E.place out.old out.new }
         ensures tells { (ends : Bool) × TellsTask (Serves (said.Init slots blocks)) true ends (kept_of D.state U.state self.old) shared.now (E.shows out.old) (E.shows out.new) (kept_of D.state U.state self.new) shared.now }
         ensures performs { PerformsRequest (said.Init slots blocks) (kept_of D.state U.state self.old) shared.now (E.shows out.old) (E.shows out.new) (kept_of D.state U.state self.new) shared.now }
     {
@@ -618,12 +573,9 @@ impl<D: Disk + Drop, U: RecoveryUnits> Node<D, U> {
 
     // FUSE: after so many further writes the disk stops, and a power loss then damages what is pending by this choice.
     fn fuse<E: Emit>(&mut self, writes: u32, choice: u64, shared: &Shared, out: &mut E)
-        requires node { (count : ℕ) × (count < 1000002) × IsNode D.state U.state count shared.now self.old }
-        ensures node { (count : ℕ) → IsNode D.state U.state count shared.now self.old → IsNode D.state U.state (count + 1) shared.now self.new }
-        ensures name { self.new.name ≡ self.old.name }
-        ensures clock { self.new.clock ≡ self.old.clock }
-        ensures place { E.place out.new ≡ E.place out.old }
-        ensures since { Since (E.shows out.old) (E.shows out.new) }
+        requires node { IsNodeInScript D.state U.state shared.now self.old }
+        ensures keeps { KeepsNode D.state U.state (λ count. count + 1) shared.now shared.now self.old self.new }
+        ensures shown { ShowsOn E.shows E.place out.old out.new }
         ensures tells { (ends : Bool) × TellsTask (Serves (said.Fuse writes choice)) true ends (kept_of D.state U.state self.old) shared.now (E.shows out.old) (E.shows out.new) (kept_of D.state U.state self.new) shared.now }
         ensures performs { PerformsRequest (said.Fuse writes choice) (kept_of D.state U.state self.old) shared.now (E.shows out.old) (E.shows out.new) (kept_of D.state U.state self.new) shared.now }
     {
@@ -634,12 +586,9 @@ impl<D: Disk + Drop, U: RecoveryUnits> Node<D, U> {
 
     // CRASH: the node goes down.
     fn crash<E: Emit>(&mut self, shared: &Shared, out: &mut E)
-        requires node { (count : ℕ) × (count < 1000002) × IsNode D.state U.state count shared.now self.old }
-        ensures node { (count : ℕ) → IsNode D.state U.state count shared.now self.old → IsNode D.state U.state (count + 1) shared.now self.new }
-        ensures name { self.new.name ≡ self.old.name }
-        ensures clock { self.new.clock ≡ self.old.clock }
-        ensures place { E.place out.new ≡ E.place out.old }
-        ensures since { Since (E.shows out.old) (E.shows out.new) }
+        requires node { IsNodeInScript D.state U.state shared.now self.old }
+        ensures keeps { KeepsNode D.state U.state (λ count. count + 1) shared.now shared.now self.old self.new }
+        ensures shown { ShowsOn E.shows E.place out.old out.new }
         ensures tells { (ends : Bool) × TellsTask (Serves (said.Crash)) true ends (kept_of D.state U.state self.old) shared.now (E.shows out.old) (E.shows out.new) (kept_of D.state U.state self.new) shared.now }
         ensures performs { PerformsRequest (said.Crash) (kept_of D.state U.state self.old) shared.now (E.shows out.old) (E.shows out.new) (kept_of D.state U.state self.new) shared.now }
     {
@@ -745,8 +694,7 @@ fn fall<D: Disk, U: RecoveryUnits>(place: Place<D, U>, _nothing: ()) -> (Place<D
 
 // Shows that a node goes down in a statement, and answers it so.
 fn show_fall<E: Emit>(name: NodeName, down: Down, out: &mut E)
-    ensures place { E.place out.new ≡ E.place out.old }
-    ensures since { Since (E.shows out.old) (E.shows out.new) }
+    ensures shown { ShowsOn E.shows E.place out.old out.new }
     ensures shows { Emits (E.shows out.old) (line.Down name (cause_said down) ∷ line.Broken (cause_said down) ∷ []) (E.shows out.new) }
 {
     let cause = cause_of(down);
@@ -892,8 +840,7 @@ fn reopen<D: Disk, U: RecoveryUnits, E: Emit>(
     requires raised { (name : List ℕ) × IsRaised name running.old.stored.volume }
     requires none { HasNoUnit (U.state running.old.stored.units) }
     requires clock { clock.0 ≤ 24000000000000 }
-    ensures place { E.place out.new ≡ E.place out.old }
-    ensures since { Since (E.shows out.old) (E.shows out.new) }
+    ensures shown { ShowsOn E.shows E.place out.old out.new }
     ensures up { IfOk result (λ boot. ReopensUp clock.0 running.old.stored.volume boot (up_of U.state running.new) (E.shows out.old) (E.shows out.new)) }
     ensures down { IfErr result (λ down. Breaks clock.0 running.old.stored.volume running.new.stored.volume down (E.shows out.old) (E.shows out.new)) }
 {
@@ -941,8 +888,7 @@ fn reopen_units<D: Disk, U: RecoveryUnits>(
 // Shows the units that a restart undid.
 fn show_undone<E: Emit>(units: &[SettledUnit], out: &mut E)
     requires times { AllByRecursion (λ (u : SettledSaid). u.moment.0 < 24000001000067) units.now }
-    ensures place { E.place out.new ≡ E.place out.old }
-    ensures since { Since (E.shows out.old) (E.shows out.new) }
+    ensures shown { ShowsOn E.shows E.place out.old out.new }
     ensures shows { Emits (E.shows out.old) (map undone_line units.now) (E.shows out.new) }
 {
     for unit in units {
@@ -952,8 +898,7 @@ fn show_undone<E: Emit>(units: &[SettledUnit], out: &mut E)
 
 // Shows the branches that a restart found prepared, in the order of their preparation.
 fn show_prepared<E: Emit>(records: &[LogRec], out: &mut E)
-    ensures place { E.place out.new ≡ E.place out.old }
-    ensures since { Since (E.shows out.old) (E.shows out.new) }
+    ensures shown { ShowsOn E.shows E.place out.old out.new }
     ensures shows { Emits (E.shows out.old) (map prepared_told records.now) (E.shows out.new) }
 {
     for logged in records {

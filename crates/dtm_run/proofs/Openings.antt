@@ -27,7 +27,8 @@ use Rattle.dtm_node.proofs.DiskLemmas.{have_disk}
 use Rattle.dtm_run.specs.Headline.{StandOn, StandsOn, is_known}
 use Rattle.dtm_run.specs.Leading.{AreKnown}
 use Rattle.dtm_run.specs.Openings.{AreMade, AreTelling, AreTold, IsLeftByOne, IsLeftWhole, IsMade, IsMadeWhole, IsTold, OpeningsExist, Rests, RestsWhole, TellsMoments}
-use Rattle.run_chains.specs.Reopenings.{reopened}
+use Rattle.run_chains.specs.Reopenings.{rebased_file, reopened}
+use Rattle.recovery_runs.specs.Runs.{HasNoGaps}
 use Rattle.dtm_run.proofs.Contents.{content_count, content_is}
 use Rattle.dtm_run.proofs.Files.{AllKeep, RestingFiles, has_files, keep_all}
 use Rattle.dtm_run.proofs.Opened.{all_have, is_told, nothing_durable, nothing_opening, resting_node, unknown_node, unknown_stands}
@@ -138,7 +139,7 @@ module _ (reads : ReadsFiles) (contents : SoundOrFinding) (falls : VolumeFalls) 
   opens : Opens
   opens = ⊎_elim sound_opens (λ (f : HasFinding name (fitting m.image) (content_of m.image)). as_opens (faulty_of f) (faulty_fits f)) (contents name (fitting m.image) (content_of m.image) (content_is d.size m.image m.least m.whole m.bytes))
 
--- Where the files of the volume agree with their journals and saves, so do those of the node.
+-- Where the files of the volume agree with their journals and saves, and have no gaps, so it is of those of the node.
 
 -- a file that is found by its name stands at a place
 place_of : (name : List ℕ) (fs : List (Option File)) (f : File) → find_file name fs ≡ Some f → (p : ℕ) × (file_at fs p ≡ Some f)
@@ -152,22 +153,24 @@ place_of name (Some x ∷ fs) f e = go (bytes_eq name x.name) e (place_of name f
 
 module _ (waits : Id → Bool) (content : List (List ℕ)) (node : List ℕ) (boot greatest : ℕ) (heads : List (Option FileHead)) (files : RestingFiles content node boot greatest heads)
     (tells : (f : ℕ) (h : FileHead) → head_at heads f ≡ Some h → TellsMoments content greatest f h) where
-  telling_at : (p : ℕ) (f : File) → file_at files.directory p ≡ Some f → IsTellingOpening waits greatest (state_of f)
+  telling_at : (p : ℕ) (f : File) → file_at files.directory p ≡ Some f → IsTellingOpening waits greatest (state_of f) × HasNoGaps f
   telling_at p f there = go (head_at heads p) refl (subst (IsPlace content p (head_at heads p)) there (files.files.each p))
     where
-      go : (o : Option FileHead) → head_at heads p ≡ o → IsPlace content p o (Some f) → IsTellingOpening waits greatest (state_of f)
+      go : (o : Option FileHead) → head_at heads p ≡ o → IsPlace content p o (Some f) → IsTellingOpening waits greatest (state_of f) × HasNoGaps f
       go None e is = absurd is
       go (Some h) e is =
           let begins = files.begin p f there in
-          record { settled = begins.settled; moment = begins.moment; past = begins.past; lawful = tells p h e waits f is.0 is.1 begins.settled (files.live p f there) }
+          let law = tells p h e waits f is.0 is.1 begins.settled (files.live p f there) in
+          let opening : IsTellingOpening waits greatest (state_of f) = record { settled = begins.settled; moment = begins.moment; past = begins.past; lawful = law.0 } in
+          (opening, law.1 opening)
 
-  resting_tells : AllFound (λ file f. IsTellingOpening waits greatest (state_of f)) files.directory
+  resting_tells : AllFound (λ file f. IsTellingOpening waits greatest (state_of f) × HasNoGaps f) files.directory
   resting_tells = λ file f found. let k = place_of file files.directory f found in telling_at k.0 f k.1
 
-left_tells : (waits : Id → Bool) (n : Node) → AllFound (λ file f. IsTellingOpening waits n.durable.greatest (as_found n.durable.greatest (state_of f))) n.durable.directory → AreTelling waits (reopened n)
+left_tells : (waits : Id → Bool) (n : Node) → AllFound (λ file f. IsTellingOpening waits n.durable.greatest (as_found n.durable.greatest (state_of f)) × HasNoGaps (rebased_file n.durable.greatest f)) n.durable.directory → AreTelling waits (reopened n)
 left_tells waits n tells = λ file f found.
     let w = was_named n.durable.greatest n.durable.directory file f found in
-    subst (λ (x : File). IsTellingOpening waits n.durable.greatest (state_of x)) (sym w.is) (tells file w.file w.there)
+    subst (λ (x : File). IsTellingOpening waits n.durable.greatest (state_of x) × HasNoGaps x) (sym w.is) (tells file w.file w.there)
 
 module _ (reads : ReadsFiles) (contents : SoundOrFinding) (falls : VolumeFalls) (waits : Id → Bool) (name : List ℕ) (d : DiskState) (m : IsMadeWhole waits name d) where
   abbrev OpensWhole : Type 0

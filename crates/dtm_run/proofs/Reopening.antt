@@ -15,7 +15,7 @@ use Rattle.std.specs.List.{AllByRecursion, list_any}
 use Rattle.std.proofs.lemmas.Slice.Eq.{bytes_eq-Decides}
 use Rattle.vms_model.specs.Ids.{Id}
 use Rattle.records_model.specs.History.{LiveChanges, changes_by, same_id}
-use Rattle.branch_keys.specs.IdLaws.{same_id_decides}
+use Rattle.table_keys.specs.IdLaws.{same_id_decides}
 use Rattle.unit_laws.specs.Units.{SerialsDiffer}
 use Rattle.commit_protocol.specs.Messages.{LogRecord}
 use Rattle.run_model.specs.Locks.{Lock, with_locks}

@@ -23,6 +23,8 @@ use Rattle.recovery_units.specs.Uses.{IsCounted}
 use Rattle.run_agreement.specs.Seen.{has_volume}
 use Rattle.run_laws.specs.Promises.{AreLastApart, IsLastApart}
 use Rattle.run_chains.specs.Chains.{IsNew}
+use Rattle.run_chains.specs.Reopenings.{rebased_file}
+use Rattle.recovery_runs.specs.Runs.{HasNoGaps}
 use Rattle.dtm_run.specs.Headline.{StandOn, StandsOn, is_known}
 use Rattle.dtm_run.specs.Leading.{AreKnown}
 
@@ -79,26 +81,28 @@ HasKnownVolume name size content = (catalog : Catalog) → TellsCatalog catalog 
 
 -- What the journals of images and the save of a file tell of earlier moments.
 
--- Of a file of this head that no unsettled branch changed they agree with the file's records and with one another, whichever branches may yet commit.
+-- Of a file of this head that no unsettled branch changed they agree with the file's records and with one another, whichever branches may yet commit; and neither it nor
+-- what its recoveries are to give has a gap.
 abbrev pub TellsMoments : List (List ℕ) → (greatest : ℕ) → (f : ℕ) → FileHead → Type 0
-TellsMoments content greatest f h = (waits : Id → Bool) (file : File) → IsFileOf content h file → IsCarried content f h file.carried → file.history.settled ≡ [] → file.history.live ≡ [] → IsLawful waits greatest (state_of file)
+TellsMoments content greatest f h = (waits : Id → Bool) (file : File) → IsFileOf content h file → IsCarried content f h file.carried → file.history.settled ≡ [] → file.history.live ≡ [] →
+    IsLawful waits greatest (state_of file) × (IsTellingOpening waits greatest (state_of file) → HasNoGaps file)
 
 -- so of each file of a volume that rests
 pub record RestsWhole (content : List (List ℕ)) (v : Catalog) : Type 0 where
   pub rests : Rests content v
   pub tells : (f : ℕ) (h : FileHead) → head_at v.heads f ≡ Some h → TellsMoments content v.home.greatest_moment.0 f h
 
--- and of each that a node left as it fell, where of unsettled branches these may yet commit
+-- and of each that a node left as it fell, as the next run finds it, where of unsettled branches these may yet commit
 pub record IsLeftWhole (waits : Id → Bool) (name : List ℕ) (size : ℕ) (content : List (List ℕ)) (v : Catalog) : Type 0 where
   pub left : IsLeftByOne name size content v
-  pub tells : AllFound (λ file f. IsTellingOpening waits left.node.durable.greatest (as_found left.node.durable.greatest (state_of f))) left.node.durable.directory
+  pub tells : AllFound (λ file f. IsTellingOpening waits left.node.durable.greatest (as_found left.node.durable.greatest (state_of f)) × HasNoGaps (rebased_file left.node.durable.greatest f)) left.node.durable.directory
 
 abbrev pub HasWholeVolume : (waits : Id → Bool) → List ℕ → ℕ → List (List ℕ) → Type 0
 HasWholeVolume waits name size content = (catalog : Catalog) → TellsCatalog catalog content → length catalog.heads ≡ 64 → IsSound name size catalog → RestsWhole content catalog ⊎ IsLeftWhole waits name size content catalog
 
--- the files of a node that a run finds agree so with their journals and saves
+-- the files of a node that a run finds agree so with their journals and saves, and have no gaps
 abbrev pub AreTelling : (waits : Id → Bool) → Node → Type 0
-AreTelling waits n = AllFound (λ file f. IsTellingOpening waits n.durable.greatest (state_of f)) n.durable.directory
+AreTelling waits n = AllFound (λ file f. IsTellingOpening waits n.durable.greatest (state_of f) × HasNoGaps f) n.durable.directory
 
 -- A disk that tells its content, on which nothing is pending. It has 4,096 blocks or more, as a rack asks, and each is of 512 bytes, as every disk
 -- tells. Where it has a volume of the node of this name, that rests, or a node left it so.
@@ -112,7 +116,7 @@ pub record IsMade (name : List ℕ) (d : DiskState) : Type 0 where
   pub bytes : (n : ℕ) → n < d.size → All (λ b. b < 256) (block_at image n)
   pub volume : HasKnownVolume name d.size (content_of image)
 
--- So made, and the files of its volume agree with their journals and saves.
+-- So made, and the files of its volume agree with their journals and saves, and have no gaps.
 pub record IsMadeWhole (waits : Id → Bool) (name : List ℕ) (d : DiskState) : Type 0 where
   pub made : IsMade name d
   pub volume : HasWholeVolume waits name d.size (content_of made.image)
@@ -135,8 +139,8 @@ AreTold names ds = ⊥
 
 -- On each disk that tells its content there stands a node as before the first line. Where an earlier run is known to have left its volume, or it has none, so is
 -- what the node's disk has; and the premises of what more is promised where images agree can be met: its last settlement is of no branch that stands unsettled, and where
--- it has no volume nothing ever happened on it. Where the volume's files agree with their journals and saves, so do the node's, and what a run promises of
--- recoveries can be met. And so for all disks of a rack.
+-- it has no volume nothing ever happened on it. Where the volume's files agree with their journals and saves, and have no gaps, so it is of the node's, and what a run
+-- promises of recoveries can be met. And so for all disks of a rack.
 pub record OpeningsExist : Type 0 where
   pub one : (name : List ℕ) (d : DiskState) → IsTold d → (n : Node) × IsOpening n × StandsOn name d n
   pub all : (names : List (List ℕ)) (ds : List DiskState) → AreTold names ds → (nodes : List Node) × AreOpening nodes × StandOn names ds nodes

@@ -21,7 +21,7 @@ use Rattle.recover_rms.specs.Calls.{AreInRings, FellRecovering, HasNoRoom, IsRec
 use Rattle.recover_rms.specs.Loading.{as_loaded}
 use Rattle.recover_rms.specs.Replacing.{IsHeadWith, IsOldOrNew, ReplacesIn, wanted_buckets, with_head}
 use Rattle.recovery_model.specs.Recovery.{rolled}
-use Rattle.recovered_files.specs.Recovering.{IsRecoveredHead, IsRenewed}
+use Rattle.recovered_nodes.specs.Recovering.{IsRecoveredHead, IsRenewed}
 use Rattle.recovered_nodes.specs.Laws.{IsAllowed, StandsThere, records_made, recovery_act}
 use Rattle.transcript_model.specs.Lines as line
 use Rattle.transcript_model.specs.Lines.{Line}

@@ -6,7 +6,7 @@ use Rattle.vms_model.specs.Ids.{Id}
 use Rattle.vms_base.specs.Ids.{serial_of}
 use Rattle.records_model.specs.History.{same_id}
 use Rattle.unit_laws.proofs.LiveLemmas.{id_is}
-use Rattle.branch_keys.specs.declared.key.BranchKey.{BranchKey}
+use Rattle.table_keys.specs.declared.key.BranchKey.{BranchKey}
 use Rattle.vms_base.specs.declared.outcomes.Outcome.{Outcome}
 use Rattle.vms_base.specs.declared.outcomes.Outcome.TheVariants.{Commit, Abort}
 use Rattle.journal_format.specs.declared.head.EntryKind.{EntryKind}

@@ -4,10 +4,10 @@ ghost use Rattle.vms_model.specs.Ids.{Id};
 ghost use Rattle.recovery_model.specs.Places.{commits, committed, changed_by};
 ghost use Rattle.image_journals.specs.Headers.{header_told, passes, is_commit_told, is_among};
 
-use branch_keys::BranchKey;
 use indexmap::IndexSet;
 use journal_format::{EntryHead, EntryKind};
 use std::alloc::{AllocError, Global};
+use table_keys::BranchKey;
 use vms_base::{Moment, Outcome};
 
 // Which settlements count: those by a moment, or those past it.

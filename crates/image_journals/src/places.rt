@@ -4,10 +4,10 @@ ghost use Rattle.recovery_model.specs.Places.{committed, changed_by, places, app
 ghost use Rattle.image_journals.specs.Headers.{header_told, passes, is_among};
 
 use crate::branches::{Counting, committed_in, is_change_of};
-use branch_keys::BranchKey;
 use indexmap::IndexSet;
 use journal_format::EntryHead;
 use std::alloc::{AllocError, Global};
+use table_keys::BranchKey;
 use vms_base::Moment;
 
 // One place more, where its entry is a change of one of these branches.

@@ -2,13 +2,13 @@
 #![tactic(auto)]
 
 #[cfg(test)]
-mod branch_keys_tests;
-#[cfg(test)]
 mod net_wire_tests;
 #[cfg(test)]
 mod record_locks_tests;
 #[cfg(test)]
 mod script_lang_tests;
+#[cfg(test)]
+mod table_keys_tests;
 #[cfg(test)]
 mod transcript_tests;
 #[cfg(test)]

@@ -1,3 +1,5 @@
+ghost use Rattle.std.specs.Prelude.{◌<◌};
+
 use record_locks::{LockErr, Locks};
 use std::test::Fail;
 use vms_base::{Id, Key, KeyText, NodeName, Serial};
@@ -85,6 +87,98 @@ fn a_release_leaves_room(rt: HostRuntime) -> Result<(), Fail> {
             locks.release_all(by);
         }
         assert!(rt; locks.count() == 0, "{by}");
+    }
+    Ok(())
+}
+
+// Numbers drawn one after the other, the same in each run.
+#[derive(Drop)]
+struct Draws {
+    state: u64,
+}
+
+impl Draws {
+    fn below(&mut self, n: u32) -> u32
+        requires { 0 < n }
+        ensures { result < n }
+    {
+        self.state = self
+            .state
+            .wrapping_mul(6_364_136_223_846_793_005)
+            .wrapping_add(1_442_695_040_888_963_407);
+        ((self.state >> 33) % u64::from(n)) as u32
+    }
+}
+
+// A number that is locked in file 0 or 1, and the branch that holds it.
+#[derive(Clone, Copy, Drop)]
+struct PlainLock {
+    file: u8,
+    key: u32,
+    by: u32,
+}
+
+// The branch that holds a number in a plain list.
+fn plain_holder(held: &[PlainLock], file: u8, key: u32) -> Option<u32> {
+    for lock in held {
+        if lock.file == file && lock.key == key {
+            return Some(lock.by);
+        }
+    }
+    None
+}
+
+// What the branch is to be answered by this list, of at most six locks.
+fn plain_answer(held: &[PlainLock], file: u8, key: u32, by: u32) -> u32 {
+    match plain_holder(held, file, key) {
+        Some(holder) if holder == by => 0,
+        Some(holder) => holder,
+        None if held.len() >= 6 => 1_000,
+        None => 0,
+    }
+}
+
+// Whether each key of the test is held as the list has it.
+fn all_alike(locks: &Locks, held: &[PlainLock]) -> bool {
+    for file in 0..2 {
+        for key in 0..5 {
+            if holder(locks, file, &Key::Number(key)) != plain_holder(held, file, key) {
+                return false;
+            }
+        }
+    }
+    locks.count() == held.len()
+}
+
+#[test]
+fn many_locks_and_releases_beside_a_list(rt: HostRuntime) -> Result<(), Fail> {
+    let mut draws = Draws { state: 7 };
+    let mut locks = Locks::reserve(rt.alloc(), 6)?;
+    let mut held: Vec<PlainLock> = Vec::new(rt.alloc());
+    for turn in 0..20_000 {
+        let by = 1 + draws.below(4);
+        if draws.below(6) == 0 {
+            if let Some(by) = serial(by) {
+                locks.release_all(by);
+            }
+            held.retain(|lock| lock.by != by);
+        } else {
+            let file = if draws.below(2) == 0 { 0 } else { 1 };
+            let key = draws.below(5);
+            let want = plain_answer(&held, file, key, by);
+            assert!(rt;
+                answer(&mut locks, file, &Key::Number(key), by) == Some(want),
+                "{turn} {file} {key} {by} {want}"
+            );
+            if want == 0 && plain_holder(&held, file, key).is_none() {
+                held.push(PlainLock { file, key, by })?;
+            }
+        }
+        if turn % 5_000 == 4_999 {
+            locks.clear();
+            held.clear();
+        }
+        assert!(rt; all_alike(&locks, &held), "{turn} {by}");
     }
     Ok(())
 }

@@ -28,11 +28,11 @@ use Rattle.unit_entries.specs.Opening.{AreAlike, AreFiledIn}
 use Rattle.unit_entries.specs.Collecting.{AreChangesAt}
 use Rattle.unit_entries.specs.Reading as entries
 use Rattle.unit_entries.specs.Reading.{placed}
+use Rattle.unit_entries.specs.Voting.{votes_in}
 use Rattle.unit_entries.proofs.OpenLemmas.{first_holds}
 use Rattle.unit_laws.specs.Journal.{ChangeEntry, JournalEntry, PreparedEntry, RecoveryUnit, SettledEntry, active_units, entry_size, find_unit, is_settled_in, serial_in, units_in, Journal}
 use Rattle.unit_laws.specs.JournalLaws.{is_unit}
 use Rattle.unit_restarts.specs.Restarting.{RestartTold, Restarts}
-use Rattle.unit_returns.specs.Arranging.{votes_in}
 use Rattle.unit_returns.specs.Returning as returning
 use Rattle.unit_returns.specs.Returning.{AreAllChangesAt, AreOfRecords, HaveChanges, HoldChanges}
 use Rattle.unit_returns.specs.Locking.{relocked_by as held_by_entries}

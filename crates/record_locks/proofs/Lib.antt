@@ -1,1 +1,3 @@
 pub mod LockLemmas
+pub mod LogLemmas
+pub mod LogTables

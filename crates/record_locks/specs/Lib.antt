@@ -1,4 +1,4 @@
-pub mod Spots
 pub mod Locks
 pub mod Table
+pub mod Turns
 pub mod Refusals

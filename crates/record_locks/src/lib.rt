@@ -1,8 +1,8 @@
 //! The locks of a node: keys of files that are held by branches.
 #![tactic(auto)]
 
+mod lock_log;
 mod locks;
-mod place;
+mod turns;
 
 pub use locks::{LockErr, Locks};
-pub use place::Place;

@@ -4,15 +4,13 @@ ghost use Rattle.vms_model.specs.Keys.{Key as KeySaid};
 ghost use Rattle.vms_base.specs.Ids.{serial_of};
 ghost use Rattle.vms_base.specs.Keys.{key_of};
 ghost use Rattle.records_model.specs.History.{same_id};
-ghost use Rattle.indexmap.specs.IndexMap.{IsUnique, get, spare};
 ghost use Rattle.record_locks.specs.Locks.{holder, not_locked, with_locks, released, lock_refused, held_by_other};
-ghost use Rattle.record_locks.specs.Table.{same_place, others_of};
 ghost use Rattle.record_locks.specs.Refusals.{refusal_of};
 
-use crate::place::Place;
-use indexmap::IndexMap;
+use crate::lock_log::LockLog;
 use std::alloc::{AllocError, Global};
 use std::marker::Model;
+use table_keys::Place;
 use thiserror::Error;
 use vms_base::{Key, Serial};
 
@@ -27,24 +25,25 @@ pub enum LockErr {
     Quota,
 }
 
-/// Keys of files with the branches that hold them. Each key is looked up in the same time however many are held.
+/// Keys of files with the branches that hold them. A key is looked up, and a branch lets go of all its keys, in the same time however many are held.
 #[derive(Drop)]
 pub struct Locks {
-    held: IndexMap<Place, Serial>,
-    // Without entries, and with as much room: the locks are moved here where some are released.
-    other: IndexMap<Place, Serial>,
+    log: LockLog,
+    // Without locks, and with as much room: what is held is moved here where the log is full.
+    other: LockLog,
     most: usize,
 }
 
 impl Model for Locks {
     ghost use Rattle.record_locks.specs.Locks.{LockTable};
-    ghost use Rattle.record_locks.specs.Table.{newest_first, IsTable};
+    ghost use Rattle.record_locks.specs.Table.{newest_first};
+    ghost use Rattle.record_locks.specs.Turns.{IsTable};
 
     ghost Value = { LockTable };
 
-    ghost view = { λ t. record { most = t.most; locks = newest_first t.held.entries } };
+    ghost view = { λ t. record { most = t.most; locks = newest_first t.log.held } };
 
-    ghost invariant = { λ t. IsTable t.held t.other t.most };
+    ghost invariant = { λ t. IsTable t.log t.other t.most };
 }
 
 // Whether two serials are one.
@@ -54,40 +53,21 @@ fn is_same(a: &Serial, b: &Serial) -> bool
     a.0.node.bytes() == b.0.node.bytes() && a.0.boot == b.0.boot && a.0.seq == b.0.seq
 }
 
-// Puts an entry behind those of a map, unless it is of a branch.
-fn keep_other(
-    other: &mut IndexMap<Place, Serial>,
-    file: u8,
-    key: &Key,
-    serial: &Serial,
-    by: &Serial,
-)
-    requires new { get same_place other.old (record { file = file; key = key.now }) ≡ None }
-    requires room { 0 < spare other.old }
-    ensures entries { other.new.entries ≡ (if same_id (serial_of by.now) (serial_of serial.now) then other.old.entries else other.old.entries ++ (record { file = file; key = key.now }, serial.now) ∷ []) }
-    ensures room { length other.old.entries + spare other.old ≤ length other.new.entries + spare other.new }
+// Makes room for one lock more. Where the log is full, what is held is written into the other one, which takes its place: this comes only once at
+// least as many locks were made as may be held.
+fn make_room(log: &mut LockLog, other: &mut LockLog)
+    requires empty { other.old ≡ record { held = []; used = 0; room = log.old.room } }
+    requires room { length log.old.held < log.old.room }
+    ensures held { log.new.held ≡ log.old.held }
+    ensures room { log.new.used < log.new.room }
+    ensures same_room { log.new.room ≡ log.old.room }
+    ensures empty { other.new ≡ other.old }
 {
-    if is_same(by, serial) {
-        return;
+    if log.is_full() {
+        log.copy_held(other);
+        std::mem::swap(log, other);
+        other.clear();
     }
-    let _ = other.insert(Place { file, key: *key }, *serial);
-}
-
-// Copies the entries that are not of a branch to a map without any.
-fn keep_others(held: &IndexMap<Place, Serial>, other: &mut IndexMap<Place, Serial>, by: &Serial)
-    requires empty { other.old.entries ≡ [] }
-    requires room { length held.now.entries ≤ spare other.old }
-    ensures entries { other.new.entries ≡ others_of (serial_of by.now) held.now.entries }
-    ensures unique { IsUnique same_place other.new }
-    ensures room { spare other.old ≤ length other.new.entries + spare other.new }
-{
-    for i in 0..held.len() {
-        match held.get_index(i) {
-            Some((place, serial)) => keep_other(other, place.file, &place.key, serial, by),
-            None => {}
-        }
-    }
-    let _ = other.len();
 }
 
 impl Locks {
@@ -95,27 +75,24 @@ impl Locks {
     pub fn reserve(alloc: Global, most: u32) -> Result<Locks, AllocError>
         ensures { IfOk result (λ t. t ≡ record { most = most; locks = [] }) }
     {
-        let held = IndexMap::with_capacity(alloc, most as usize)?;
-        let other = IndexMap::with_capacity(alloc, most as usize)?;
-        Ok(Locks {
-            held,
-            other,
-            most: most as usize,
-        })
+        let most = most as usize;
+        let log = LockLog::with_room(alloc, 2 * most)?;
+        let other = LockLog::with_room(alloc, 2 * most)?;
+        Ok(Locks { log, other, most })
     }
 
     /// The branch that holds a key.
     pub fn holder(&self, file: u8, key: &Key) -> Option<Serial>
         ensures { option_map serial_of result ≡ holder self.now.locks file (key_of key.now) }
     {
-        self.held.get(&Place { file, key: *key }).copied()
+        self.log.holder(&Place { file, key: *key })
     }
 
     /// How many keys are held.
     pub fn count(&self) -> usize
         ensures { result ≡ length self.now.locks }
     {
-        self.held.len()
+        self.log.count()
     }
 
     /// How many of some keys of a file nobody holds. One that stands there twice counts twice.
@@ -146,10 +123,11 @@ impl Locks {
                 }
             }
             None => {
-                if self.held.len() >= self.most {
+                if self.log.count() >= self.most {
                     return Err(LockErr::Quota);
                 }
-                let _ = self.held.insert(Place { file, key: *key }, by);
+                make_room(&mut self.log, &mut self.other);
+                self.log.add(&Place { file, key: *key }, &by);
                 Ok(())
             }
         }
@@ -160,15 +138,13 @@ impl Locks {
         ensures locks { self.new ≡ record self.old { locks = released (serial_of by) self.old.locks } }
         ensures exactly { (file : ℕ) (key : KeySaid) → holder self.new.locks file key ≡ held_by_other (serial_of by) (holder self.old.locks file key) }
     {
-        keep_others(&self.held, &mut self.other, &by);
-        std::mem::swap(&mut self.held, &mut self.other);
-        self.other.truncate(0);
+        self.log.release(&by);
     }
 
     /// Lets go of all keys.
     pub fn clear(&mut self)
         ensures { self.new ≡ record self.old { locks = [] } }
     {
-        self.held.truncate(0);
+        self.log.clear();
     }
 }

@@ -10,7 +10,7 @@ use Rattle.script_model.specs.Statements.{Recovery}
 use Rattle.volume.specs.State.{VolumeState}
 use Rattle.run_model.specs.Answers.{blocks_recovered, records_recovered, way_of}
 use Rattle.run_model.specs.World.{File, Node, buckets_loaded, state_of}
-use Rattle.recovery_rows.proofs.Rows.{loads_rows}
+use Rattle.recovered_nodes.proofs.Rows.{loads_rows}
 use Rattle.recovery_units.specs.State.{UnitsState}
 use Rattle.recovered_nodes.specs.Laws.{IsAllowed, StandsThere, records_made}
 use Rattle.recovered_nodes.proofs.Known.{is_file, may_made}

@@ -25,8 +25,8 @@ use Rattle.directory_model.specs.Files.{AreFiles, Fit, IsCarried, IsFile, IsFoun
 use Rattle.directory_model.proofs.Apart.{holds_extent, in_area, lie_apart, number_low, save_is}
 use Rattle.directory_model.proofs.Finding.{finds_files}
 use Rattle.recovery_units.specs.State.{UnitsState}
-use Rattle.recovery_rows.proofs.Known.{files_known}
-use Rattle.recovery_rows.proofs.Suits.{records_may}
+use Rattle.recovered_nodes.proofs.KnownFiles.{files_known}
+use Rattle.recovered_nodes.proofs.Suits.{records_may}
 use Rattle.unit_world.proofs.Blocks.{fit}
 use Rattle.recovered_nodes.specs.Laws.{IsAllowed, StandsThere}
 

@@ -1,3 +1,7 @@
+mod Recovering
+mod KnownFiles
+mod Rows
+mod Suits
 mod Known
 mod Counted
 mod Places

@@ -38,9 +38,9 @@ use Rattle.restart_laws.proofs.UnitLemmas.{keeps_units}
 use Rattle.volume_model.specs.Volumes.{HasVolume}
 use Rattle.volume_laws.proofs.FollowLemmas.{follow}
 use Rattle.volume_laws.proofs.LogLemmas.{stays as log_stays, told}
-use Rattle.recovered_files.specs.Recovering.{IsRecoveredHead}
-use Rattle.recovered_files.proofs.Recovering.{recoveries_keep}
-use Rattle.recovery_rows.proofs.Rows.{loads_rows}
+use Rattle.recovered_nodes.specs.Recovering.{IsRecoveredHead}
+use Rattle.recovered_nodes.proofs.Recovering.{recoveries_keep}
+use Rattle.recovered_nodes.proofs.Rows.{loads_rows}
 use Rattle.recovery_units.specs.State.{AreLocks, IsKept, IsUnitOf, UnitsState, changed_at}
 use Rattle.unit_world.proofs.Blocks.{extents_behind, other_block, whole_set}
 use Rattle.unit_world.proofs.Marking.{rests_by}

@@ -21,8 +21,8 @@ use Rattle.volume_format.specs.Home.{sizes_of}
 use Rattle.directory_model.specs.Files.{AreNamedOnce, Fit, head_at}
 use Rattle.directory_model.proofs.Heads.{keeps_heads}
 use Rattle.directory_model.proofs.Places.{within_list}
-use Rattle.recovered_files.specs.Recovering.{IsRecoveredHead, IsRenewed, IsSince}
-use Rattle.recovery_rows.proofs.Rows.{loads_rows}
+use Rattle.recovered_nodes.specs.Recovering.{IsRecoveredHead, IsRenewed, IsSince}
+use Rattle.recovered_nodes.proofs.Rows.{loads_rows}
 
 -- Its journals.
 

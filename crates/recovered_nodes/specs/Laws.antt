@@ -26,7 +26,7 @@ use Rattle.world_laws.specs.Nodes.{IsUp}
 use Rattle.run_model.specs.Answers.{blocks_recovered, records_recovered, recovery_refused, refusal_line, start_of, way_of}
 use Rattle.run_model.specs.World.{Act, File, Node, Recovers, acted, buckets_loaded, fallen, find_file, longest_free, lowest_free, serials_of, state_of}
 use Rattle.directory_model.specs.Files.{IsNamed, head_at}
-use Rattle.recovered_files.specs.Recovering.{IsRecoveredHead}
+use Rattle.recovered_nodes.specs.Recovering.{IsRecoveredHead}
 use Rattle.volume_model.specs.Volumes.{IsEitherOf, IsLeftBy}
 use Rattle.recovery_units.specs.State.{UnitsState, IsKept, IsInOrder}
 

@@ -1,1 +1,3 @@
+pub mod Recovering
+pub mod Rows
 pub mod Laws

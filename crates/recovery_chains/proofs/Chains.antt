@@ -35,11 +35,11 @@ use Rattle.run_chains.proofs.Anew.{Turns, prepared_before, shows_in}
 use Rattle.run_chains.proofs.Names.{Both, Nowhere, Place, place}
 use Rattle.run_chains.proofs.Next.{Lands, chains_agree, next_runs_agree, turned, turns}
 use Rattle.recovery_runs.specs.Promises.{FilesAgree, may_yet_commit}
-use Rattle.recovery_runs.specs.Runs.{EndMay, MayOnly}
+use Rattle.recovery_runs.specs.Runs.{AreLawful, EndMay, HasNoGaps, MayOnly}
 use Rattle.recovery_runs.proofs.Awaited.{awaited, lawful_with, recorded}
 use Rattle.recovery_runs.proofs.CommittedLemmas.{is_committed}
-use Rattle.recovery_runs.proofs.PromiseLemmas.{recovery_promises_hold}
-use Rattle.recovery_runs.proofs.RunLemmas.{next_files_hold}
+use Rattle.recovery_runs.proofs.PromiseLemmas.{recovery_promises_hold, whole_of}
+use Rattle.recovery_runs.proofs.RunLemmas.{next_files_hold, next_files_whole}
 use Rattle.recovery_chains.specs.Chains.{FilesAgreeAgain, FilesBegin, RecoveryChainsAgree}
 use Rattle.recovery_chains.proofs.Bound.{IsBound, bound_commits, bound_known, bound_there, goes, of_node}
 use Rattle.recovery_chains.proofs.Doomed.{doomed_apart, is_doomed}
@@ -166,9 +166,15 @@ module _ (nodes : List Node) (disks : List DiskCounts) (es : List Entry) (closin
           (λ dead. (goes_on.later.dead t dead).commits (bound_commits a.base closing a.since a.run.is_run q (opening_of a.base) a.run.is_run.agrees (run reached.steps (raised (opening_of a.base))) goes_on reached.shows x t b).0)
 
   pub left_agree : FilesAgree (opened nodes disks) es → (node : List ℕ) (n m : Node) → find_node node closing.nodes ≡ Some n → n.durable.volume ≡ Sound → IsReopened n m →
-      AllFound (λ file f. IsOpening (may_yet_commit next) m.durable.greatest (state_of f)) m.durable.directory
-  left_agree agree = next_files_hold nodes disks es closing (may_commit closing next) (may_yet_commit (opening_told nodes es)) (may_yet_commit next) may.opening
-      (lawful_with nodes disks es closing may.opening may.names legal a (may_commit closing next) waits agree) only end_may legal (λ x h. or_right (ends_committed closing x) (may_yet_commit next x) h)
+      AllFound (λ file f. IsOpening (may_yet_commit next) m.durable.greatest (state_of f) × HasNoGaps f) m.durable.directory
+  left_agree agree node n m found sound again file f there = (
+    next_files_hold nodes disks es closing (may_commit closing next) (may_yet_commit (opening_told nodes es)) (may_yet_commit next) may.opening lawful only end_may legal (λ x h. or_right (ends_committed closing x) (may_yet_commit next x) h)
+        node n m found sound again file f there,
+    next_files_whole nodes disks es closing (may_commit closing next) (may_yet_commit (opening_told nodes es)) may.opening lawful (whole_of (opened nodes disks) es agree) only end_may legal node n m found sound again file f there,
+  )
+    where
+      lawful : AreLawful (may_commit closing next) (may_yet_commit (opening_told nodes es)) (opened nodes disks) es
+      lawful = lawful_with nodes disks es closing may.opening may.names legal a (may_commit closing next) waits agree
 
 -- The next run.
 
@@ -184,11 +190,11 @@ files_agree_again promised nodes disks es closing may legal agree next are other
     there : find_node node next ≡ Some m
     there = left_found node fs (opened next others) m left
 
-    go : Place node closing.nodes next → AllFound (λ file f. IsOpening (may_yet_commit (opening_told next fs)) m.durable.greatest (state_of f)) m.durable.directory
+    go : Place node closing.nodes next → AllFound (λ file f. IsOpening (may_yet_commit (opening_told next fs)) m.durable.greatest (state_of f) × HasNoGaps f) m.durable.directory
     go (Nowhere x y) = let clash : ◌≡◌ {A = Option Node} None (Some m) = sym y ∙ there in let no : ⊥ = cc in absurd no
     go (Both n y found at is) = by ((turned closing.nodes next are).1 node n m found there)
       where
-        by : Lands n m ((turned closing.nodes next are).0 node) → AllFound (λ file f. IsOpening (may_yet_commit (opening_told next fs)) m.durable.greatest (state_of f)) m.durable.directory
+        by : Lands n m ((turned closing.nodes next are).0 node) → AllFound (λ file f. IsOpening (may_yet_commit (opening_told next fs)) m.durable.greatest (state_of f) × HasNoGaps f) m.durable.directory
         by (inl has) = left_agree nodes disks es closing may legal a (turned closing.nodes next are).0 (opening_told next fs) (so.told fs new) (turns a.base closing a.since a.run.is_run a.run.leaves next are so.names fs new) agree node n m found
             (sound_of n has.0) (subst (λ (x : Node). IsReopened n x) (some_is y m (sym at ∙ there)) is.reopened)
         by (inr none) = λ file f e. absurd (bare node m left none.1 file f e)

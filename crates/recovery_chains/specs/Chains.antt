@@ -13,7 +13,7 @@ abbrev pub AreBare : World → List Entry → Type 0
 AreBare opening es = (node : List ℕ) (n : Node) → left_at node es opening ≡ Some n → has_volume n ≡ false → AllFound (λ file f. ⊥) n.durable.directory
 
 -- Let the premises hold under which all is promised of a run that is promised where images agree, and let the files that it finds agree with their journals and saves, and
--- with the branches that may yet commit. Then so do the files that the next run finds, whatever turned out of the acts that were under way at the end.
+-- with the branches that may yet commit, and have no gaps. Then so do the files that the next run finds, whatever turned out of the acts that were under way at the end.
 abbrev pub FilesAgreeAgain : Type 0
 FilesAgreeAgain = (nodes : List Node) (disks : List DiskCounts) (es : List Entry) (closing : World) → MayAgree nodes es → Legal (opened nodes disks) es closing → FilesAgree (opened nodes disks) es →
     (next : List Node) → AreNext closing.nodes next → (others : List DiskCounts) (fs : List Entry) → AreBare (opened next others) fs → MadeAreNew next fs → FilesAgree (opened next others) fs

@@ -6,11 +6,12 @@ use Rattle.vms_model.specs.Ids.{Id}
 use Rattle.vms_model.specs.Transactions.{Aborted}
 use Rattle.transcript_model.specs.Lines as line
 use Rattle.transcript_model.specs.Lines.{Line}
-use Rattle.script_model.specs.Statements.{Operation, Request, Init, Boot, Create, SetFile, StartTrans, AddBranch, StartBranch, Records, Direct, EndBranch, EndTrans, AbortTrans, Inquire, DeclareRm, JoinRm, AckEvent, ForgetRm, GetDti, LmcpShow, LmcpDump, Dump, DumpJournal, DumpImages, Backup, Recover, Fuse, Crash, Clock}
+use Rattle.script_model.specs.Statements.{Operation, Recovery, Request, Init, Boot, Create, SetFile, StartTrans, AddBranch, StartBranch, Records, Direct, EndBranch, EndTrans, AbortTrans, Inquire, DeclareRm, JoinRm, AckEvent, ForgetRm, GetDti, LmcpShow, LmcpDump, Dump, DumpJournal, DumpImages, Backup, Recover, Fuse, Crash, Clock}
 use Rattle.records_model.specs.Records.{Change}
 use Rattle.unit_laws.specs.Units.{has_changes}
 use Rattle.recovery_model.specs.File as recovery
 use Rattle.recovery_model.specs.File.{IsOpenIn}
+use Rattle.recovery_model.specs.Recovery.{rolled}
 use Rattle.commit_protocol.specs.Allowed.{is_working}
 use Rattle.commit_protocol.specs.Table as table
 use Rattle.commit_protocol.specs.Table.{Branch}
@@ -19,28 +20,34 @@ use Rattle.commit_protocol.specs.Rows.{row}
 use Rattle.log_laws.specs.Slots.{slot_records}
 use Rattle.run_model.specs.World.{Creates, Draws, File, Label, Node, Numbers, Shared, Tables, acted, find_file, free_place, labelled, lowest_free, next_id, next_moment, serial_labelled, shared_after, state_of, tm_of}
 use Rattle.run_model.specs.Operations.{changes_of, data_refused, form_refused, keys_asked, keys_held, refused_if}
-use Rattle.run_model.specs.Answers.{Row, Service, Task, Serves, Ticks, Takes, Hears, LosesLink, RunsDown, Restarts, Telling, adds, all_acted, all_shared, begins, branch_labelled, branch_named, changes_at, creates, direct_refused, directed, entry_lines, found_refused, images_full, in_state, is_marked, just, keys_at, keys_refused, log_line, made_label, more_locks, needs_unit, new_file, of_file, operated, operation_act, operation_refused, powers, records_of, refused_before_reading, serial_named, service, setting_refused, silent, starts, table_rows, task_service, there_is_file, to_branch, told_if, told_rows, unchanged_file, unsettled_label}
-use Rattle.world_laws.specs.Entering.{MayEnterImages}
+use Rattle.run_model.specs.Answers.{Row, Service, Task, Serves, Ticks, Takes, Hears, LosesLink, RunsDown, Restarts, Telling, adds, all_acted, all_shared, begins, branch_labelled, branch_named, changes_at, creates, direct_refused, directed, entry_lines, found_refused, images_full, in_state, is_marked, just, keys_at, keys_refused, log_line, made_label, more_locks, needs_unit, new_file, of_file, operated, operation_act, operation_refused, powers, records_of, refused_before_reading, serial_named, service, setting_refused, silent, starts, table_rows, task_service, there_is_file, to_branch, told_if, told_rows, unchanged_file, unsettled_label, records_recovered, recovers, way_of, to_file}
 use Rattle.world_laws.specs.Nodes.{IsKeptNode, IsRoomy, IsUp}
 use Rattle.world_laws.proofs.AnswerLemmas.{neither}
-use Rattle.world_laws.proofs.FileRows.{images_by, recovers_by, saves_by, sets_by}
+use Rattle.world_laws.proofs.FindLemmas.{some_is}
+use Rattle.world_laws.proofs.FileRows.{images_by, saves_by, sets_by}
 use Rattle.world_laws.proofs.OperationLemmas.{changes_there, enters, refused_to_all, working}
 use Rattle.world_laws.proofs.ServedLemmas.{file_says, not_there, recovery_rests, unchanged_rests, undrawn}
 use Rattle.world_laws.proofs.TaskLemmas.{holds_it, labelled_in}
 use Rattle.world_laws.proofs.ToldImages.{undrawn_open, unsettled_in_images}
-use Rattle.recovery_laws.specs.Entering.{AllFind, OperationsEnter}
+use Rattle.recovery_laws.specs.Entering.{AllFind, MayEnterFile, OperationsEnter}
+use Rattle.recovery_laws.specs.Loading.{HasNoGap}
+use Rattle.recovery_laws.proofs.LoadingLemmas.{loads_leave_no_gap}
+use Rattle.recovery_laws.proofs.OperationGaps.{leaves_no_gap}
 
 module _ (s : Shared) (n : Node) (file : List ℕ) (op : Operation) (f : File) (up : IsUp n) (room : IsRoomy n) (found : find_file file n.durable.directory ≡ Some f) (some : has_changes (changes_of f op) ≡ true) where
-  entered : (serial : Id) → IsOpenIn serial (state_of f) → data_refused f op ≡ None → keys_refused n (Some serial) file (keys_asked f op) ≡ None → of_file n file (images_full serial (changes_at n file op)) ≡ None → MayEnterImages serial (changes_of f op) f
-  entered serial unsettled passed e images =
-      enters n up room serial file op f (changes_of f op) found refl some unsettled passed e
-      (subst (λ cs. images_full serial cs f ≡ None) (changes_there n file op f found) (file_says n file f (images_full serial (changes_at n file op)) found images)) f found
+  entered : (serial : Id) → IsOpenIn serial (state_of f) → form_refused f op ≡ None → data_refused f op ≡ None → keys_refused n (Some serial) file (keys_asked f op) ≡ None → of_file n file (images_full serial (changes_at n file op)) ≡ None → MayEnterFile serial (changes_of f op) f
+  entered serial unsettled form passed e images = record {
+    images = enters n up room serial file op f (changes_of f op) found refl some unsettled passed e
+        (subst (λ cs. images_full serial cs f ≡ None) (changes_there n file op f found) (file_says n file f (images_full serial (changes_at n file op)) found images)) f found;
+    gaps = leaves_no_gap f op form passed n up serial file found e;
+  }
 
-  pub labelled_enter : (label : List ℕ) (b : Branch) → branch_labelled s n label ≡ Some b → refused_before_reading s n (service (Records label file op)) ≡ None → operation_refused s n label file op ≡ None → MayEnterImages b.key.serial (changes_of f op) f
+  pub labelled_enter : (label : List ℕ) (b : Branch) → branch_labelled s n label ≡ Some b → refused_before_reading s n (service (Records label file op)) ≡ None → operation_refused s n label file op ≡ None → MayEnterFile b.key.serial (changes_of f op) f
   labelled_enter label b is before late =
       let passes = (neither (refused_if (not (n.up || false)) line.NodeDown) _ before).1 in
       let behind_file = (neither (there_is_file n file) _ (neither (made_label s n label) _ passes).1).1 in
-      let behind_form = (neither (of_file n file (λ f. form_refused f op)) _ behind_file).1 in
+      let forms = neither (of_file n file (λ f. form_refused f op)) _ behind_file in
+      let behind_form = forms.1 in
       let behind_branch = (neither (unsettled_label s n label) _ behind_form).1 in
       let states = neither (in_state is_working (branch_labelled s n label)) _ behind_branch in
       let keys = file_says n file f (λ g. keys_refused n (serial_labelled n.name label s.labels) file (keys_asked g op)) found (neither (of_file n file is_marked) _ states.1).1 in
@@ -50,19 +57,19 @@ module _ (s : Shared) (n : Node) (file : List ℕ) (op : Operation) (f : File) (
       let images = (neither _ _ (neither _ _ late_room).1).1 in
       let passed = (neither (data_refused f op) _ (file_says n file f (found_refused n (serial_labelled n.name label s.labels) file op) found late_found.0)).0 in
       let there = labelled_in s n label b is in
-      entered b.key.serial (unsettled_in_images b.key.serial file f (up.running.images.unsettled b there.1 (working b (holds_it is_working (branch_labelled s n label) b states.0 is)) file f found)) passed
+      entered b.key.serial (unsettled_in_images b.key.serial file f (up.running.images.unsettled b there.1 (working b (holds_it is_working (branch_labelled s n label) b states.0 is)) file f found)) (file_says n file f (λ g. form_refused g op) found forms.0) passed
       (subst (λ o. keys_refused n o file (keys_asked f op) ≡ None) there.0 keys)
       (subst (λ o. option_and_then (λ (b : Branch). of_file n file (images_full b.key.serial (changes_at n file op))) o ≡ None) is images)
 
-  pub direct_enter : refused_before_reading s n (service (Direct file op)) ≡ None → direct_refused n file op ≡ None → MayEnterImages (next_id n) (changes_of f op) f
+  pub direct_enter : refused_before_reading s n (service (Direct file op)) ≡ None → direct_refused n file op ≡ None → MayEnterFile (next_id n) (changes_of f op) f
   direct_enter before late =
       let passes = (neither (refused_if (not (n.up || false)) line.NodeDown) _ before).1 in
-      let behind_form = (neither (of_file n file (λ f. form_refused f op)) _ (neither (there_is_file n file) _ passes).1).1 in
-      let keys = file_says n file f (λ g. keys_refused n None file (keys_asked g op)) found (neither (of_file n file (needs_unit op)) _ behind_form).1 in
+      let forms = neither (of_file n file (λ f. form_refused f op)) _ (neither (there_is_file n file) _ passes).1 in
+      let keys = file_says n file f (λ g. keys_refused n None file (keys_asked g op)) found (neither (of_file n file (needs_unit op)) _ forms.1).1 in
       let late_found = neither (of_file n file (found_refused n None file op)) _ late in
       let images = (neither _ _ (neither _ _ late_found.1).1).1 in
       let passed = (neither (data_refused f op) _ (file_says n file f (found_refused n None file op) found late_found.0)).0 in
-      entered (next_id n) (unsettled_in_images (next_id n) file f (undrawn_open n.name n.durable.boot n.volatile.drawn (next_id n) n.durable.directory (undrawn n) up.running.images.drawn file f found)) passed
+      entered (next_id n) (unsettled_in_images (next_id n) file f (undrawn_open n.name n.durable.boot n.volatile.drawn (next_id n) n.durable.directory (undrawn n) up.running.images.drawn file f found)) (file_says n file f (λ g. form_refused g op) found forms.0) passed
       (refused_to_all n (next_id n) file (keys_asked f op) keys) images
 
 pub operations_enter : OperationsEnter
@@ -105,10 +112,10 @@ begins_find s n (Some l) = go l.bid
 
 -- changes of a file that is there, as they are asked for
 asked_find : (n : Node) (file : List ℕ) (op : Operation) (serial : Id) (cs : List Change) → changes_at n file op ≡ cs → has_changes cs ≡ true →
-    ((f : File) → find_file file n.durable.directory ≡ Some f → has_changes (changes_of f op) ≡ true → MayEnterImages serial (changes_of f op) f) → (f : File) → find_file file n.durable.directory ≡ Some f → MayEnterImages serial cs f
+    ((f : File) → find_file file n.durable.directory ≡ Some f → has_changes (changes_of f op) ≡ true → MayEnterFile serial (changes_of f op) f) → (f : File) → find_file file n.durable.directory ≡ Some f → MayEnterFile serial cs f
 asked_find n file op serial cs is some enter f found =
     let same = sym (changes_there n file op f found) ∙ is in
-    subst (λ ds. MayEnterImages serial ds f) same (enter f found (subst (λ ds. has_changes ds ≡ true) (sym same) some))
+    subst (λ ds. MayEnterFile serial ds f) same (enter f found (subst (λ ds. has_changes ds ≡ true) (sym same) some))
 
 module _ (s : Shared) (n : Node) (kept : IsKeptNode s n) (up : n.up ≡ true) where
   records_find : (label file : List ℕ) (op : Operation) → refused_before_reading s n (service (Records label file op)) ≡ None → operation_refused s n label file op ≡ None → AllFind (to_branch s n label (λ b. operated n file op b ∷ [])) n
@@ -130,6 +137,14 @@ module _ (s : Shared) (n : Node) (kept : IsKeptNode s n) (up : n.up ≡ true) wh
 
   rest : (file : List ℕ) → of_file n file (unchanged_file n) ≡ None → (f : File) → find_file file n.durable.directory ≡ Some f → f.history.live ≡ []
   rest file unchanged f found = unchanged_rests n file f found (file_says n file f (unchanged_file n) found unchanged) (kept.runs up).0
+
+  -- what a file is recovered to is loaded
+  recovered_find : (file : List ℕ) (way : Recovery) → ((f : File) → find_file file n.durable.directory ≡ Some f → f.history.live ≡ []) → AllFind (to_file n file (recovers n file way)) n
+  recovered_find file way rests = go (find_file file n.durable.directory) refl
+    where
+      go : (o : Option File) → find_file file n.durable.directory ≡ o → AllFind (elim o as (λ x. List Row) [ Some f ↦ recovers n file way f | None ↦ [] ]) n
+      go (Some f) found = ((λ g at. (rests g at, subst (λ (w : File). HasNoGap w.organization (records_recovered way f)) (some_is f g (sym found ∙ at)) (loads_leave_no_gap f.organization (rolled (way_of way) (state_of f))))), tt)
+      go None found = tt
 
   request_find : (r : Request) → powers (service r) ≡ false → refused_before_reading s n (service r) ≡ None → (service r).refused_after_reading s n ≡ None → AllFind ((service r).rows s n) n
   request_find (Init slots journal) off first late = tt
@@ -171,7 +186,7 @@ module _ (s : Shared) (n : Node) (kept : IsKeptNode s n) (up : n.up ≡ true) wh
       saves_by (λ rs. AllFind rs n) tt n file (λ start. (rests, tt))
   request_find (Recover file way) off first late =
       let rests = recovery_rests n file (kept.runs up).0 (kept.runs up).1 way (neither (there_is_file n file) _ (behind (service (Recover file way)) first)).1 in
-      recovers_by (λ rs. AllFind rs n) tt n file way (λ start buckets m. (rests, tt))
+      recovered_find file way rests
   request_find (Fuse writes choice) off first late = (tt, tt)
   request_find Crash off first late = (tt, tt)
   request_find (Clock now) off first late = (tt, tt)

@@ -1,7 +1,11 @@
 mod StateLemmas
 pub mod LedLemmas
+pub mod LoadingLemmas
+pub mod PositionLemmas
+pub mod GapLemmas
+mod OperationGaps
+pub mod MappedLemmas
 pub mod EnteringLemmas
 mod StayingLemmas
-mod LoadingLemmas
 pub mod RecoveringLemmas
 mod RowLemmas

@@ -1,15 +1,15 @@
 -- Records of which a load leaves each where it is.
-use Rattle.std.proofs.Common.{◌≡◌, ℕ, ◌+◌, List, [], ◌∷◌, refl, sym, ◌∙◌, ap, arith, length, map}
+use Rattle.std.proofs.Common.{◌≡◌, ℕ, ◌+◌, List, [], ◌∷◌, refl, sym, ◌∙◌, ap, subst, arith, length, map}
 use Rattle.std.specs.FinMap.{entries, entries-insert, same_entries_map}
 use Rattle.std.specs.Cmp.{nat_cmp_is}
 use Rattle.std.specs.FinMap.Entries.{by_order, put}
 use Rattle.std.specs.declared.cmp.Ordering.TheVariants.{Less}
 use Rattle.vms_model.specs.Keys.{Key, Number}
-use Rattle.records_model.specs.Records.{Records, key_cmp}
+use Rattle.records_model.specs.Records.{key_cmp}
 use Rattle.records_model.proofs.KeyLemmas.{key_cmp_total}
 use Rattle.run_model.specs.World.{Indexed, Relative, Sequential, numbered, records_from}
 use Rattle.run_model.proofs.EntryLemmas.{no_entries}
-use Rattle.recovery_laws.specs.Loading.{LoadsAsItIs}
+use Rattle.recovery_laws.specs.Loading.{LoadsAsItIs, LoadsLeaveNoGap}
 
 put_first : (first : ℕ) (v : List ℕ) (es : List (Key × List ℕ)) → map (λ e. e.0) es ≡ numbered (first + 1) (length es) → put key_cmp (Number first) v es ≡ (Number first, v) ∷ es
 put_first first v [] e = refl
@@ -32,3 +32,17 @@ pub loads_as_it_is : LoadsAsItIs
 loads_as_it_is Sequential m gaps = same_entries_map (records_from 1 (entries m)) m (entries_from 1 (entries m) gaps)
 loads_as_it_is (Relative greatest) m gaps = refl
 loads_as_it_is (Indexed position size) m gaps = refl
+
+-- What is loaded has none.
+
+from_first : (first : ℕ) (es : List (Key × List ℕ)) → map (λ e. e.0) (entries (records_from first es)) ≡ numbered first (length (entries (records_from first es)))
+from_first first [] = subst (λ fs. map (λ e. e.0) fs ≡ numbered first (length fs)) (sym (no_entries key_cmp)) refl
+from_first first (x ∷ es) =
+    let rest = from_first (first + 1) es in
+    subst (λ fs. map (λ e. e.0) fs ≡ numbered first (length fs)) (sym (entries-insert key_cmp_total (records_from (first + 1) es) (Number first) x.1 ∙ put_first first x.1 (entries (records_from (first + 1) es)) rest))
+    (ap (λ ks. Number first ∷ ks) rest)
+
+pub loads_leave_no_gap : LoadsLeaveNoGap
+loads_leave_no_gap Sequential m = from_first 1 (entries m)
+loads_leave_no_gap (Relative greatest) m = tt
+loads_leave_no_gap (Indexed position size) m = tt

@@ -23,6 +23,7 @@ recoveries_give_records s n file way f may waits kept up found first told = reco
   left = change f;
   there = subst (λ o. find_file file (node_after_rows (elim o as (λ x. List Row) [ Some g ↦ recovers n file way g | None ↦ [] ]) n).durable.directory ≡ Some (change f)) (sym found)
       (changed_file file change n.durable.directory (λ g. refl) ∙ ap (option_map change) found);
+  reached = free;
   made = refl;
   told = told_recover may waits n.durable.greatest f told (way_of way) None still free;
   moment = λ as_loaded. as_loaded ∙ told_recover may waits n.durable.greatest f told (way_of way) None still free;

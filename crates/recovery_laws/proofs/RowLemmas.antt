@@ -19,7 +19,7 @@ use Rattle.commit_protocol.specs.Table.{Active, same_key}
 use Rattle.commit_protocol.specs.Rows.{blank}
 use Rattle.run_model.specs.Locks.{Lock}
 use Rattle.run_model.specs.World.{Carried, File, Power, Relative, Settlement, Sound, World, nothing_carried}
-use Rattle.run_model.specs.Rows.{Move, base_lines, id, played, says, shown}
+use Rattle.run_model.specs.Rows.{Move, base_lines, id, says, shown}
 use Rattle.run_model.proofs.RowLemmas.{last_plays, then_plays}
 use Rattle.recovery_laws.specs.Rows.{FivePutsFill, ImagesAreKept, NewJournalIsShort, RingIsFull, WorkedFileRecovers, first_two, kept_lines, put_lines, put_move}
 

@@ -4,7 +4,7 @@ use Rattle.vms_model.specs.Ids.{Id}
 use Rattle.vms_model.specs.Keys.{Key}
 use Rattle.vms_model.specs.Transactions.{Commit}
 use Rattle.records_model.specs.Records.{Change, Records}
-use Rattle.records_model.specs.History.{changed_it, changes_by, records}
+use Rattle.records_model.specs.History.{changed_it, changes_by}
 use Rattle.unit_laws.specs.Units.{Map}
 use Rattle.recovery_model.specs.File as recovery
 use Rattle.recovery_model.specs.File.{FileState, IsStill}

@@ -1,7 +1,9 @@
 pub mod States
 pub mod Led
+pub mod Loading
+pub mod Gaps
+pub mod Mapped
 pub mod Entering
 pub mod Staying
-pub mod Loading
 pub mod Recovering
 pub mod Rows

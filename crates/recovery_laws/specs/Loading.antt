@@ -12,3 +12,7 @@ HasNoGap (Indexed position size) m = Unit {0}
 
 abbrev pub LoadsAsItIs : Type 0
 LoadsAsItIs = (o : Organization) (m : Records) → HasNoGap o m → loaded_map o m ≡ m
+
+-- and behind a load they do so
+abbrev pub LoadsLeaveNoGap : Type 0
+LoadsLeaveNoGap = (o : Organization) (m : Records) → HasNoGap o (loaded_map o m)

@@ -5,18 +5,19 @@ use Rattle.vms_model.specs.Ids.{Id}
 use Rattle.transcript_model.specs.Lines.{NormalCount}
 use Rattle.script_model.specs.Statements.{Recover, Recovery}
 use Rattle.records_model.specs.History.{current, records}
-use Rattle.recovery_model.specs.Recovery.{records_by, rolled}
+use Rattle.recovery_model.specs.Recovery.{Covers, records_by, rolled}
 use Rattle.run_model.specs.World.{File, Node, Shared, find_file, loaded_map, state_of}
 use Rattle.run_model.specs.Answers.{refused_before_reading, service, way_of}
 use Rattle.run_model.specs.Steps.{node_after_rows}
 use Rattle.world_laws.specs.Nodes.{IsKeptNode}
 use Rattle.recovery_laws.specs.Led.{IsTold}
 
--- The file as a recovery leaves it: it has what the journals and the save make, as that is loaded; that is the records of the moment, and where a load leaves these as
+-- The file as a recovery leaves it, which the journals and the save reached: it has what the journals and the save make, as that is loaded; that is the records of the moment, and where a load leaves these as
 -- they are, the file has them; they stand, and their number is answered.
 pub record IsRecovered (s : Shared) (n : Node) (file : List ℕ) (way : Recovery) (f : File) : Type 0 where
   pub left : File
   pub there : find_file file (node_after_rows ((service (Recover file way)).rows s n) n).durable.directory ≡ Some left
+  pub reached : Covers (way_of way) (state_of f)
   pub made : records left.history ≡ loaded_map f.organization (rolled (way_of way) (state_of f))
   pub told : rolled (way_of way) (state_of f) ≡ records_by (way_of way) (state_of f)
   pub moment : loaded_map f.organization (rolled (way_of way) (state_of f)) ≡ rolled (way_of way) (state_of f) → records left.history ≡ records_by (way_of way) (state_of f)

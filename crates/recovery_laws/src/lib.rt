@@ -3,8 +3,10 @@
 #![tactic(auto)]
 
 ghost use Rattle.recovery_laws.specs.Entering.{OperationsEnter};
-ghost use Rattle.recovery_laws.specs.Loading.{LoadsAsItIs};
+ghost use Rattle.recovery_laws.specs.Loading.{LoadsAsItIs, LoadsLeaveNoGap};
+ghost use Rattle.recovery_laws.specs.Gaps.{FilesStayGapless};
 ghost use Rattle.recovery_laws.specs.Led.{ActsKeepTold, ToldAgree, ToldRecover};
+ghost use Rattle.recovery_laws.specs.Mapped.{ActsKeepMapped, MappedGive};
 ghost use Rattle.recovery_laws.specs.Staying.{BranchesStayOpen};
 ghost use Rattle.recovery_laws.specs.Recovering.{RecoveriesGiveRecords};
 ghost use Rattle.recovery_laws.specs.Rows.{FivePutsFill, ImagesAreKept, NewJournalIsShort, RingIsFull, WorkedFileRecovers};
@@ -42,9 +44,24 @@ pub fn recoveries_give_records()
     ensures node { RecoveriesGiveRecords }
 {}
 
-/// Records of a relative or an indexed file, and those of a sequential one that stand at the positions from 1 on, a load leaves each where it is.
+/// Records of a relative or an indexed file, and those of a sequential one that stand at the positions from 1 on, a load leaves each where it is; and behind
+/// a load those of a sequential file stand there.
 pub fn loads_keep_records()
-    ensures { LoadsAsItIs }
+    ensures same { LoadsAsItIs }
+    ensures gaps { LoadsLeaveNoGap }
+{}
+
+/// Where neither the records of a sequential file as they stand nor those that were committed have a gap, none has behind any act of the world: one of
+/// several unsettled branches at most moves the end, and no other changes at which positions records stand.
+pub fn files_stay_gapless()
+    ensures { FilesStayGapless }
+{}
+
+/// Where the committed records of a file have no gap all the way, and where a run found it neither had what recoveries were to give, each recovery that the
+/// journals and the save reach is to give records without a gap, of this run and of the next.
+pub fn recoveries_leave_no_gap()
+    ensures acts { ActsKeepMapped }
+    ensures given { MappedGive }
 {}
 
 /// What is left of such a file is what the next run may find, as far as recovery asks.

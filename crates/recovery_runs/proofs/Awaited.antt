@@ -11,7 +11,7 @@ use Rattle.script_model.specs.Statements.{At, Blank, Bad, Clock, Deliver, Init, 
 use Rattle.records_model.specs.History.{changes_by, same_id as same}
 use Rattle.recovery_model.specs.Journal.{is_commit}
 use Rattle.unit_laws.specs.JournalLaws.{is_unit}
-use Rattle.commit_protocol.specs.Messages.{LogRecord, Name, same_id}
+use Rattle.commit_protocol.specs.Messages.{LogRecord, same_id}
 use Rattle.commit_protocol.specs.Agreement.{IsDead, view}
 use Rattle.commit_protocol.specs.Opening.{Image, OldIn, Opening, commits_in, image_at, image_in, in_rack, opened as raised, or_none}
 use Rattle.commit_protocol.specs.Table as table
@@ -324,7 +324,7 @@ module _ (nodes : List Node) (disks : List DiskCounts) (es : List Entry) (closin
   -- Let each unit that may commit, on the disk of a node the volume of which no entry makes anew, be such a branch. Then the files are lawful with these.
   pub lawful_with : (may : Id → Bool) → ((x : Id) (n : Node) → left_at x.node es (opened nodes disks) ≡ Some n → is_unit x n.durable.units ≡ true → may x ≡ true → may_yet_commit o x ≡ true) →
       FilesAgree (opened nodes disks) es → AreLawful may (may_yet_commit (opening_told nodes es)) (opened nodes disks) es
-  lawful_with may waits agree node n left file f at = (agree node n left file f at, λ x c. by x c (is_unit x n.durable.units) refl)
+  lawful_with may waits agree node n left file f at = ((agree node n left file f at).0, λ x c. by x c (is_unit x n.durable.units) refl)
     where
       first_found : find_node node nodes ≡ Some n
       first_found = left_found node es (opened nodes disks) n left

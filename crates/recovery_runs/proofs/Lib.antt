@@ -1,5 +1,6 @@
 pub mod Awaited
 pub mod CommittedLemmas
+mod FilesKept
 mod ToldKept
 pub mod RunLemmas
 mod ShownLemmas

@@ -3,12 +3,15 @@ use Rattle.std.proofs.Common.{◌≡◌, ◌⊎◌, append-nil, ℕ, List, [], �
 use Rattle.std.specs.Str.{bytes_eq}
 use Rattle.std.proofs.lemmas.Bool.{both_ways}
 use Rattle.vms_model.specs.Ids.{Id}
+use Rattle.vms_model.specs.Transactions.{Abort, Commit, Reason}
 use Rattle.script_model.specs.Statements.{At, Reading, Says}
 use Rattle.script_model.specs.Grammar.{reading}
+use Rattle.commit_protocol.specs.Messages.{LogRecord}
+use Rattle.commit_protocol.specs.Table.{Key as BranchKey, Settles}
 use Rattle.commit_protocol.specs.World.{In}
 use Rattle.unit_laws.specs.Units.{Map}
-use Rattle.recovery_model.specs.Opening.{IsOpening, MayCommit}
-use Rattle.run_model.specs.World.{Act, Barred, DiskCounts, Faulty, File, Half, MayTurnOut, Node, Settlement, Sound, Unknown, Volume, World, aborted_prepared, acted, find_node, opened, state_of, with_half}
+use Rattle.recovery_model.specs.Opening.{IsOpening}
+use Rattle.run_model.specs.World.{Act, Barred, DiskCounts, Faulty, File, Half, MayTurnOut, Node, Settlement, Sound, Tables, Unknown, Volume, World, aborted_prepared, acted, find_node, opened, state_of, with_half}
 use Rattle.run_model.specs.Answers.{task_service}
 use Rattle.run_model.specs.Transcript.{AreOpening, Entry, Legal, Turn}
 use Rattle.run_model.proofs.NodeLists.{found_name}
@@ -18,29 +21,47 @@ use Rattle.world_laws.proofs.WorldLemmas.{each_opening}
 use Rattle.run_laws.specs.Accounts.{made_anew}
 use Rattle.run_laws.specs.Promises.{left_at, settlements_of}
 use Rattle.run_laws.proofs.DumpsShown.{legal_on, split_on}
-use Rattle.run_laws.proofs.Keeping.{Kept, all_take, any_effect}
+use Rattle.run_laws.proofs.Keeping.{Keeps, Kept, Scheme, all_take, any_effect}
 use Rattle.run_laws.proofs.MadeAnew.{made_empty}
 use Rattle.run_laws.proofs.SoundWorlds.{IsPlainReading, Tracked, Tracks, legal_sound, opening_sound, turn_tracked, unused}
 use Rattle.run_laws.proofs.Staying.{Stay, found_settled, stays}
-use Rattle.run_chains.specs.Reopenings.{rebased_file, reopened}
+use Rattle.run_chains.specs.Reopenings.{IsReopened, rebased_file, reopened}
 use Rattle.recovery_laws.specs.Led.{IsTold}
 use Rattle.recovery_laws.proofs.LedLemmas.{told_agree}
+use Rattle.recovery_laws.proofs.MappedLemmas.{mapped_give}
 use Rattle.recovery_laws.proofs.RecoveringLemmas.{recoveries_give_records}
-use Rattle.recovery_runs.specs.Runs.{AreLawful, FilesStayTold, LeftFilesHold, MayOnly, NextFilesHold, RecoveriesHold}
-use Rattle.recovery_runs.proofs.ToldKept.{AreTold, Betrays, half_known, told, told_keeps}
+use Rattle.recovery_runs.specs.Runs.{AreLawful, AreWhole, EndMay, FilesStayTold, FilesStayWhole, HasNoGaps, LeftFilesHold, NextFilesHold, NextFilesWhole, NoFileHasGaps, RecoveriesHold}
+use Rattle.recovery_runs.proofs.FilesKept.{ActsKeep, AreSo, Betrays, half_known, scheme, scheme_keeps}
+use Rattle.recovery_runs.proofs.ToldKept.{HasNone, IsWhole, gapless_acts, told_acts, whole_acts}
 
 stay_after : (w closing : World) (after : List Entry) → Legal w after closing → Stay w closing
 stay_after w closing after legal = let r = stays w closing after [] (subst (λ es. Legal w es closing) (sym (append-nil after)) legal) in subst (λ x. Stay x closing) r.1 r.2
 
-module _ (may waits : Id → Bool) (node : List ℕ) where
-  tracks : Tracks (told may waits) (told_keeps may waits) node
+-- A fall cuts short the abort of doomed branches alone.
+abbrev AbortsDoom : (Doomed : Id → Type 0) → World → List Entry → World → Type 0
+AbortsDoom Doomed opening es closing = (later after before : List Entry) (w : World) (node : List ℕ) (n : Node) (k : BranchKey) (reason : Reason) (r : Option LogRecord) (moment : ℕ) → es ≡ later ++ (after ++ before) → Legal opening before w → Legal w after closing →
+    find_node node w.nodes ≡ Some n → n.under_way ≡ Some (Tables (Settles k Abort reason r) moment) → Doomed k.serial
+
+-- and it commits only branches that may
+abbrev CommitsMay : (may : Id → Bool) → World → Type 0
+CommitsMay may closing = (s : Settlement) → In s (settlements_of s.serial.node closing) → s.outcome ≡ Commit → may s.serial ≡ true
+
+-- What each act keeps of a file holds of each file in each world, where it holds of each that the run finds.
+module _ (may : Id → Bool) (Doomed : Id → Type 0) (Q : ℕ → File → Type 0) (keeps : ActsKeep may Doomed Q) (node : List ℕ) where
+  abbrev Path : Scheme
+  Path = scheme may Doomed Q keeps
+
+  abbrev path_keeps : Keeps Path
+  path_keeps = scheme_keeps may Doomed Q keeps
+
+  tracks : Tracks Path path_keeps node
   tracks = record {
-    own = λ a s stops n task c rises named sound plain ready allowed h. any_effect (told may waits) (told_keeps may waits) s stops n a sound.kept h (unused s n sound)
-        (λ off slots journal m none. inr (λ file f e. absurd (none_empty 64 file f e))) task (λ off. all_take (told may waits) (λ o. tt) ((task_service task).rows s n)) ready c rises allowed;
+    own = λ a s stops n task c rises named sound plain ready allowed h. any_effect Path path_keeps s stops n a sound.kept h (unused s n sound)
+        (λ off slots journal m none. inr (λ file f e. absurd (none_empty 64 file f e))) task (λ off. all_take Path (λ o. tt) ((task_service task).rows s n)) ready c rises allowed;
     beside = λ a s stops n m task c rises other sound allowed h. h;
   }
 
-  plain_reading : (r : Reading) → IsPlainReading (told may waits) (told_keeps may waits) node tracks r
+  plain_reading : (r : Reading) → IsPlainReading Path path_keeps node tracks r
   plain_reading (Says (At other request)) = go (bytes_eq other node)
     where
       go : (b : Bool) → (b && false) ≡ false
@@ -51,29 +72,29 @@ module _ (may waits : Id → Bool) (node : List ℕ) where
 
   module _ (nodes : List Node) (disks : List DiskCounts) (later : List Entry) (closing : World) (opens : AreOpening nodes) where
     -- of this node's files, unless these entries make its volume anew
-    abbrev IsLawful : List Entry → Type 0
-    IsLawful es = (n : Node) → left_at node es (opened nodes disks) ≡ Some n → AllFound (λ file f. IsOpening waits n.durable.greatest (state_of f) × MayCommit may waits (state_of f)) n.durable.directory
+    abbrev AreFound : List Entry → Type 0
+    AreFound es = (n : Node) → left_at node es (opened nodes disks) ≡ Some n → AllFound (λ file f. Q n.durable.greatest f) n.durable.directory
 
-    opening_kept : IsLawful [] → (n : Node) → find_node node nodes ≡ Some n → Kept (told may waits) (told_keeps may waits) tt n
-    opening_kept lawful n found = let o = each_opening nodes opens node n found in record {
-      disk = inr (λ file f there. let l = lawful n found file f there in inl (record { acts = []; moment = n.durable.greatest; first = state_of f; opening = l.0; commits = l.1; leads = (refl, refl) }));
+    opening_kept : AreFound [] → (n : Node) → find_node node nodes ≡ Some n → Kept Path path_keeps tt n
+    opening_kept finds n found = let o = each_opening nodes opens node n found in record {
+      disk = inr (finds n found);
       way = λ act e. let clash : ◌≡◌ {A = Option Act} None (Some act) = sym o.under_way ∙ e in let no : ⊥ = cc in absurd no;
       runs = λ up. absurd (both_ways n.up o.down up);
     }
 
     -- a volume that was just made has no files
-    anew_kept : (mid w : World) (e : Entry) → Turn mid (reading e.source.text) e.lines w → made_anew node (reading e.source.text) e.lines ≡ true → Tracked (told may waits) (told_keeps may waits) node tt w
+    anew_kept : (mid w : World) (e : Entry) → Turn mid (reading e.source.text) e.lines w → made_anew node (reading e.source.text) e.lines ≡ true → Tracked Path path_keeps node tt w
     anew_kept mid w e turn made n found =
         let new = made_empty mid w node (reading e.source.text) e.lines turn made n found in
-        let bare : AreTold may waits n.durable.greatest n.durable.directory = subst (λ (fs : List (Option File)). AreTold may waits n.durable.greatest fs) (sym new.0) (λ file f there. absurd (none_empty 64 file f there)) in record {
+        let bare : AreSo may Doomed Q keeps n.durable.greatest n.durable.directory = subst (λ (fs : List (Option File)). AreSo may Doomed Q keeps n.durable.greatest fs) (sym new.0) (λ file f there. absurd (none_empty 64 file f there)) in record {
           disk = inr bare;
           way = λ act under. let clash : ◌≡◌ {A = Option Act} None (Some act) = sym new.1 ∙ under in let no : ⊥ = cc in absurd no;
           runs = λ up. inr bare;
         }
 
-    path_kept : (es after : List Entry) (w : World) → IsLawful es → MayOnly may (opened nodes disks) (later ++ (after ++ es)) closing → Legal (opened nodes disks) es w → Legal w after closing → Tracked (told may waits) (told_keeps may waits) node tt w
-    path_kept [] after w lawful only legal on = subst (Tracked (told may waits) (told_keeps may waits) node tt) (sym legal) (opening_kept lawful)
-    path_kept (e ∷ es) after w lawful only legal on = by (made_anew node (reading e.source.text) e.lines) refl lawful (path_kept es (after ++ e ∷ []) mid)
+    path_kept : (es after : List Entry) (w : World) → AreFound es → AbortsDoom Doomed (opened nodes disks) (later ++ (after ++ es)) closing → Legal (opened nodes disks) es w → Legal w after closing → Tracked Path path_keeps node tt w
+    path_kept [] after w finds doom legal on = subst (Tracked Path path_keeps node tt) (sym legal) (opening_kept finds)
+    path_kept (e ∷ es) after w finds doom legal on = by (made_anew node (reading e.source.text) e.lines) refl finds (path_kept es (after ++ e ∷ []) mid)
       where
         mid : World
         mid = legal.0
@@ -81,28 +102,100 @@ module _ (may waits : Id → Bool) (node : List ℕ) where
         behind : Legal mid (after ++ e ∷ []) closing
         behind = legal_on mid w closing e after legal.2 on
 
-        before : MayOnly may (opened nodes disks) (later ++ ((after ++ e ∷ []) ++ es)) closing
-        before = subst (λ xs. MayOnly may (opened nodes disks) xs closing) (sym (ap (λ xs. later ++ xs) (split_on after e es))) only
+        before : AbortsDoom Doomed (opened nodes disks) (later ++ ((after ++ e ∷ []) ++ es)) closing
+        before = subst (λ xs. AbortsDoom Doomed (opened nodes disks) xs closing) (sym (ap (λ xs. later ++ xs) (split_on after e es))) doom
 
-        on_from : Tracked (told may waits) (told_keeps may waits) node tt mid → Tracked (told may waits) (told_keeps may waits) node tt w
-        on_from kept = turn_tracked (told may waits) (told_keeps may waits) node tracks mid w
-            (λ n found k reason r moment under. before.aborts later (after ++ e ∷ []) es mid node n k reason r moment refl legal.1 behind found under)
+        on_from : Tracked Path path_keeps node tt mid → Tracked Path path_keeps node tt w
+        on_from kept = turn_tracked Path path_keeps node tracks mid w
+            (λ n found k reason r moment under. before later (after ++ e ∷ []) es mid node n k reason r moment refl legal.1 behind found under)
             (reading e.source.text) e.lines tt (plain_reading (reading e.source.text)) legal.2 (legal_sound (opened nodes disks) mid es (opening_sound nodes disks opens) legal.1) kept
 
-        by : (b : Bool) → made_anew node (reading e.source.text) e.lines ≡ b → ((n : Node) → (if b then None else left_at node es (opened nodes disks)) ≡ Some n → AllFound (λ file f. IsOpening waits n.durable.greatest (state_of f) × MayCommit may waits (state_of f)) n.durable.directory) →
-            (IsLawful es → MayOnly may (opened nodes disks) (later ++ ((after ++ e ∷ []) ++ es)) closing → Legal (opened nodes disks) es mid → Legal mid (after ++ e ∷ []) closing → Tracked (told may waits) (told_keeps may waits) node tt mid) → Tracked (told may waits) (told_keeps may waits) node tt w
+        by : (b : Bool) → made_anew node (reading e.source.text) e.lines ≡ b → ((n : Node) → (if b then None else left_at node es (opened nodes disks)) ≡ Some n → AllFound (λ file f. Q n.durable.greatest f) n.durable.directory) →
+            (AreFound es → AbortsDoom Doomed (opened nodes disks) (later ++ ((after ++ e ∷ []) ++ es)) closing → Legal (opened nodes disks) es mid → Legal mid (after ++ e ∷ []) closing → Tracked Path path_keeps node tt mid) → Tracked Path path_keeps node tt w
         by true made law more = anew_kept mid w e legal.2 made
         by false made law more = on_from (more law before legal.1 behind)
 
-pub files_stay_told : FilesStayTold
-files_stay_told nodes disks later after es w closing may waits opens lawful only legal on node n found =
-    elim (path_kept may waits node nodes disks later closing opens es after w (lawful node) only legal on n found).disk [
-      | inr files ↦ files
-      | inl b ↦ absurd (both_ways _ b.3 (only.commits b.0 (subst (λ x. In b.0 (settlements_of x closing)) (sym (home b.0 b.1)) (stay_after w closing after on node b.0 (subst (In b.0) (sym (found_settled node w n found)) b.1))) b.2))
-    ]
-  where
+  module _ (nodes : List Node) (disks : List DiskCounts) (later after es : List Entry) (w closing : World) (opens : AreOpening nodes) (finds : AreFound nodes disks later closing opens es) (commits : CommitsMay may closing)
+      (doom : AbortsDoom Doomed (opened nodes disks) (later ++ (after ++ es)) closing) (legal : Legal (opened nodes disks) es w) (on : Legal w after closing) (n : Node) (found : find_node node w.nodes ≡ Some n) where
     home : (s : Settlement) → In s n.settled → s.serial.node ≡ node
     home s i = (((legal_sound (opened nodes disks) w es (opening_sound nodes disks opens) legal).once node n found).disk.own s i).0 ∙ found_name node w.nodes n found
+
+    -- no branch was committed that may not
+    never : Betrays may Doomed Q keeps n.settled → {A : Type 0} → A
+    never b = absurd (both_ways _ b.3 (commits b.0 (subst (λ x. In b.0 (settlements_of x closing)) (sym (home b.0 b.1)) (stay_after w closing after on node b.0 (subst (In b.0) (sym (found_settled node w n found)) b.1))) b.2))
+
+    kept : Kept Path path_keeps tt n
+    kept = path_kept nodes disks later closing opens es after w finds doom legal on n found
+
+    pub stays_so : AllFound (λ file f. Q n.durable.greatest f) n.durable.directory
+    stays_so = elim kept.disk [ inr files ↦ files | inl b ↦ never b ]
+
+  -- What of them holds behind the run holds of the files that the next run finds on a disk, whatever turned out of an act that was under way.
+  module _ (nodes : List Node) (disks : List DiskCounts) (es : List Entry) (closing : World) (opens : AreOpening nodes) (finds : AreFound nodes disks [] closing opens es) (commits : CommitsMay may closing)
+      (doom : AbortsDoom Doomed (opened nodes disks) es closing) (ends : EndMay may closing) (legal : Legal (opened nodes disks) es closing) (Next : ℕ → File → Type 0) (again : (g : ℕ) (f : File) → Q g f → Next g (rebased_file g f))
+      (n m : Node) (found : find_node node closing.nodes ≡ Some n) (sound : n.durable.volume ≡ Sound) (reopens : IsReopened n m) where
+    abbrev Opens : Type 0
+    Opens = (m ≡ reopened n) ⊎ (((act : Act) × (n.under_way ≡ Some act) × (m ≡ reopened (acted act n)))
+        ⊎ ((standing : List ℕ → Map) × MayTurnOut n (Half standing) × (m ≡ reopened (record n { durable = with_half (aborted_prepared n.under_way n.durable) standing n.durable }))))
+
+    of_sound : (v : Volume) → v ≡ Sound → (elim v as (λ x. Type 0) [
+      | Sound ↦ Opens
+      | Faulty condition block ↦ m.durable.volume ≡ Faulty condition block
+      | Barred bar ↦ m.durable.volume ≡ Barred bar
+      | Unknown ↦ m.durable.volume ≡ Unknown
+    ]) → Opens
+    of_sound Sound e h = h
+    of_sound (Faulty condition block) e h = let no : ⊥ = cc in absurd no
+    of_sound (Barred bar) e h = let no : ⊥ = cc in absurd no
+    of_sound Unknown e h = let no : ⊥ = cc in absurd no
+
+    nothing_betrayed : Betrays may Doomed Q keeps n.settled → {A : Type 0} → A
+    nothing_betrayed = never nodes disks [] [] es closing closing opens finds commits doom legal refl n found
+
+    left : Kept Path path_keeps tt n
+    left = kept nodes disks [] [] es closing closing opens finds commits doom legal refl n found
+
+    -- what holds of a node's files the next run finds
+    opens_so : (x : Node) → AreSo may Doomed Q keeps x.durable.greatest x.durable.directory → m ≡ reopened x → AllFound (λ file f. Next m.durable.greatest f) m.durable.directory
+    opens_so x h is = subst (λ (y : Node). AllFound (λ file f. Next y.durable.greatest f) y.durable.directory) (sym is)
+        (found_mapped (λ file f. Q x.durable.greatest f) (λ file f. Next x.durable.greatest f) (rebased_file x.durable.greatest) x.durable.directory (λ f. refl) (λ file f there k. again x.durable.greatest f k) h)
+
+    go : Opens → AllFound (λ file f. Next m.durable.greatest f) m.durable.directory
+    go (inl is) = elim left.disk [ inr h ↦ opens_so n h is | inl b ↦ nothing_betrayed b ]
+    go (inr (inl t)) = elim (left.way t.0 t.1) [ inr h ↦ opens_so (acted t.0 n) h t.2 | inl b ↦ absurd (both_ways _ b.3 (ends node n t.0 b.0 found t.1 b.1 b.2)) ]
+    go (inr (inr t)) = elim (half_known may Doomed Q keeps n t.0 (λ k reason r moment under. doom [] [] es closing node n k reason r moment refl legal refl found under) t.1 left.disk) [
+      | inr h ↦ opens_so (record n { durable = with_half (aborted_prepared n.under_way n.durable) t.0 n.durable }) h t.2
+      | inl b ↦ nothing_betrayed b
+    ]
+
+    pub next_so : AllFound (λ file f. Next m.durable.greatest f) m.durable.directory
+    next_so = go (of_sound n.durable.volume sound reopens)
+
+-- Files of which recovery can tell.
+
+module _ (may waits : Id → Bool) (nodes : List Node) (disks : List DiskCounts) (es : List Entry) (lawful : AreLawful may waits (opened nodes disks) es) (node : List ℕ) where
+  found_told : (n : Node) → left_at node es (opened nodes disks) ≡ Some n → AllFound (λ file f. IsTold may waits n.durable.greatest f) n.durable.directory
+  found_told n left file f there = let l = lawful node n left file f there in inl (record { acts = []; moment = n.durable.greatest; first = state_of f; opening = l.0; commits = l.1; leads = (refl, refl) })
+
+  found_whole : AreWhole (opened nodes disks) es → (n : Node) → left_at node es (opened nodes disks) ≡ Some n → AllFound (λ file f. IsWhole may waits n.durable.greatest f) n.durable.directory
+  found_whole whole n left file f there =
+      let l = lawful node n left file f there in
+      let w = whole node n left file f there in
+      (inl (record { found = record { acts = []; moment = n.durable.greatest; first = state_of f; opening = l.0; commits = l.1; leads = (refl, refl) }; each = w.gapless.committed; given = w.given }), w.gapless)
+
+pub files_stay_told : FilesStayTold
+files_stay_told nodes disks later after es w closing may waits opens lawful only legal on node n found =
+    stays_so may (λ x. may x ≡ false) (IsTold may waits) (told_acts may waits) node nodes disks later after es w closing opens (found_told may waits nodes disks es lawful node) only.commits only.aborts legal on n found
+
+pub files_stay_whole : FilesStayWhole
+files_stay_whole nodes disks later after es w closing may waits opens lawful whole only legal on node n found file f there =
+    let x = stays_so may (λ x. may x ≡ false) (IsWhole may waits) (whole_acts may waits) node nodes disks later after es w closing opens (found_whole may waits nodes disks es lawful node whole) only.commits only.aborts legal on n found file f there in
+    record { gapless = x.1; given = (mapped_give may waits n.durable.greatest f x.0).now }
+
+-- without any premise on branches and journals
+pub no_file_has_gaps : NoFileHasGaps
+no_file_has_gaps nodes disks es w opens gapless legal node n found =
+    stays_so (λ x. true) (λ x. Unit {0}) HasNone (gapless_acts (λ x. true) (λ x. Unit {0})) node nodes disks [] [] es w w opens (gapless node) (λ s i commits. refl) (λ later after before v other m k reason r moment split first on at under. tt) legal refl n found
 
 pub recoveries_hold : RecoveriesHold
 recoveries_hold nodes disks later after es w closing may waits opens lawful only legal on node n found up file way f there first =
@@ -116,42 +209,11 @@ left_files_hold nodes disks es closing may waits next opens lawful only legal fe
 -- The next run.
 
 pub next_files_hold : NextFilesHold
-next_files_hold nodes disks es closing may waits next opens lawful only ends legal fewer node n m found sound again = go (of_sound n.durable.volume sound again)
-  where
-    of_sound : (v : Volume) → v ≡ Sound → (elim v as (λ x. Type 0) [
-      | Sound ↦ (m ≡ reopened n) ⊎ (((act : Act) × (n.under_way ≡ Some act) × (m ≡ reopened (acted act n)))
-          ⊎ ((standing : List ℕ → Map) × MayTurnOut n (Half standing) × (m ≡ reopened (record n { durable = with_half (aborted_prepared n.under_way n.durable) standing n.durable }))))
-      | Faulty condition block ↦ m.durable.volume ≡ Faulty condition block
-      | Barred bar ↦ m.durable.volume ≡ Barred bar
-      | Unknown ↦ m.durable.volume ≡ Unknown
-    ]) → (m ≡ reopened n) ⊎ (((act : Act) × (n.under_way ≡ Some act) × (m ≡ reopened (acted act n)))
-        ⊎ ((standing : List ℕ → Map) × MayTurnOut n (Half standing) × (m ≡ reopened (record n { durable = with_half (aborted_prepared n.under_way n.durable) standing n.durable }))))
-    of_sound Sound e h = h
-    of_sound (Faulty condition block) e h = let no : ⊥ = cc in absurd no
-    of_sound (Barred bar) e h = let no : ⊥ = cc in absurd no
-    of_sound Unknown e h = let no : ⊥ = cc in absurd no
+next_files_hold nodes disks es closing may waits next opens lawful only ends legal fewer node n m found sound again =
+    next_so may (λ x. may x ≡ false) (IsTold may waits) (told_acts may waits) node nodes disks es closing opens (found_told may waits nodes disks es lawful node) only.commits only.aborts ends legal (λ g f. IsOpening next g (state_of f))
+    (λ g f k. told_agree may waits next g f k fewer) n m found sound again
 
-    kept : Kept (told may waits) (told_keeps may waits) tt n
-    kept = path_kept may waits node nodes disks [] closing opens es [] closing (lawful node) only legal refl n found
-
-    home : (s : Settlement) → In s n.settled → s.serial.node ≡ node
-    home s i = (((legal_sound (opened nodes disks) closing es (opening_sound nodes disks opens) legal).once node n found).disk.own s i).0 ∙ found_name node closing.nodes n found
-
-    never : Betrays may waits n.settled → {A : Type 0} → A
-    never b = absurd (both_ways _ b.3 (only.commits b.0 (subst (λ x. In b.0 (settlements_of x closing)) (sym (home b.0 b.1)) (subst (In b.0) (sym (found_settled node closing n found)) b.1)) b.2))
-
-    -- what is told of a node's files the next run finds
-    agrees : (x : Node) → AreTold may waits x.durable.greatest x.durable.directory → m ≡ reopened x → AllFound (λ file f. IsOpening next m.durable.greatest (state_of f)) m.durable.directory
-    agrees x h is = subst (λ (y : Node). AllFound (λ file f. IsOpening next y.durable.greatest (state_of f)) y.durable.directory) (sym is)
-        (found_mapped (λ file f. IsTold may waits x.durable.greatest f) (λ file f. IsOpening next x.durable.greatest (state_of f)) (rebased_file x.durable.greatest) x.durable.directory (λ f. refl)
-        (λ file f there k. told_agree may waits next x.durable.greatest f k fewer) h)
-
-    go : (m ≡ reopened n) ⊎ (((act : Act) × (n.under_way ≡ Some act) × (m ≡ reopened (acted act n)))
-        ⊎ ((standing : List ℕ → Map) × MayTurnOut n (Half standing) × (m ≡ reopened (record n { durable = with_half (aborted_prepared n.under_way n.durable) standing n.durable })))) →
-        AllFound (λ file f. IsOpening next m.durable.greatest (state_of f)) m.durable.directory
-    go (inl is) = elim kept.disk [ inr h ↦ agrees n h is | inl b ↦ never b ]
-    go (inr (inl t)) = elim (kept.way t.0 t.1) [ inr h ↦ agrees (acted t.0 n) h t.2 | inl b ↦ absurd (both_ways _ b.3 (ends node n t.0 b.0 found t.1 b.1 b.2)) ]
-    go (inr (inr t)) = elim (half_known may waits n t.0 (λ k reason r moment under. only.aborts [] [] es closing node n k reason r moment refl legal refl found under) t.1 kept.disk) [
-      | inr h ↦ agrees (record n { durable = with_half (aborted_prepared n.under_way n.durable) t.0 n.durable }) h t.2
-      | inl b ↦ never b
-    ]
+pub next_files_whole : NextFilesWhole
+next_files_whole nodes disks es closing may waits opens lawful whole only ends legal node n m found sound again =
+    next_so may (λ x. may x ≡ false) (IsWhole may waits) (whole_acts may waits) node nodes disks es closing opens (found_whole may waits nodes disks es lawful node whole) only.commits only.aborts ends legal (λ g f. HasNoGaps f)
+    (λ g f k. record { gapless = record { stands = k.1.stands; committed = k.1.committed }; given = (mapped_give may waits g f k.0).next }) n m found sound again

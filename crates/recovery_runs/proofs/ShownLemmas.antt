@@ -6,8 +6,9 @@ use Rattle.transcript_model.specs.Lines as line
 use Rattle.transcript_model.specs.Lines.{Line, Cause}
 use Rattle.script_model.specs.Grammar.{reading}
 use Rattle.script_model.specs.Statements.{At, Recover, Recovery}
-use Rattle.run_model.specs.World.{File, Node, World, find_file, find_node, loaded_map, opened}
-use Rattle.run_model.specs.Answers.{Service, Serves, refused_before_reading, service, there_is_file}
+use Rattle.recovery_model.specs.Recovery.{rolled}
+use Rattle.run_model.specs.World.{File, Node, World, find_file, find_node, opened, state_of}
+use Rattle.run_model.specs.Answers.{Service, Serves, refused_before_reading, service, there_is_file, way_of}
 use Rattle.run_model.specs.Operations.{first_of, refused_if}
 use Rattle.run_model.specs.Steps.{Choice, Cut, TaskAllowed, TaskEffect, Unpowered, Whole, WithoutMemory, begun, node_after_rows, task_effect, whole}
 use Rattle.run_model.specs.Statements.{Begins, Phases, RoseAt, Step, begun_with, phases_of, refused_at_once, stops_at}
@@ -21,7 +22,6 @@ use Rattle.run_model.proofs.TaskLemmas.{effect_name}
 use Rattle.world_laws.proofs.AnswerLemmas.{neither}
 use Rattle.world_laws.proofs.FindLemmas.{some_is}
 use Rattle.world_laws.proofs.ServedLemmas.{there_is as there_is_one}
-use Rattle.run_laws.specs.Accounts.{made_anew}
 use Rattle.run_laws.specs.Promises.{left_at}
 use Rattle.run_laws.proofs.Anewed.{used_makes}
 use Rattle.run_laws.proofs.DumpsShown.{ends_alike, legal_on, split_on}
@@ -29,9 +29,11 @@ use Rattle.run_laws.proofs.Dying.{runs_used}
 use Rattle.run_laws.proofs.Labelling.{served_up}
 use Rattle.run_laws.proofs.MadeAnew.{made_says}
 use Rattle.run_laws.proofs.SoundWorlds.{IsSound, legal_sound, opening_sound}
+use Rattle.recovery_laws.specs.Loading.{HasNoGap}
 use Rattle.recovery_laws.specs.Recovering.{IsRecovered}
-use Rattle.recovery_runs.specs.Runs.{AreLawful, HasRecovered, MayOnly, ShownRecoveriesHold}
-use Rattle.recovery_runs.proofs.RunLemmas.{recoveries_hold}
+use Rattle.recovery_laws.proofs.LoadingLemmas.{loads_as_it_is}
+use Rattle.recovery_runs.specs.Runs.{AreLawful, AreWhole, HasNoGaps, HasRecovered, MayOnly, ShownRecoveriesHold}
+use Rattle.recovery_runs.proofs.RunLemmas.{files_stay_whole, recoveries_hold}
 
 -- what was done: the file was there, nothing refused, the answer is that of the service, and its rows were done
 record IsDone (w : World) (n : Node) (file : List ℕ) (way : Recovery) (count : ℕ) (x : TaskEffect) : Type 0 where
@@ -78,7 +80,7 @@ module _ (w v : World) (node file : List ℕ) (way : Recovery) (count : ℕ) (st
     by_choice (Cut o j b cause) rises may answers = let no : ⊥ = cc in absurd no
 
   -- by what recovery can tell of the file
-  shown : ((n : Node) (f : File) → find_node node w.nodes ≡ Some n → n.up ≡ true → find_file file n.durable.directory ≡ Some f → refused_before_reading w.shared n (service (Recover file way)) ≡ None → IsRecovered w.shared n file way f) → HasRecovered w v node file way count
+  shown : ((n : Node) (f : File) → find_node node w.nodes ≡ Some n → n.up ≡ true → find_file file n.durable.directory ≡ Some f → refused_before_reading w.shared n (service (Recover file way)) ≡ None → IsRecovered w.shared n file way f × HasNoGaps f) → HasRecovered w v node file way count
   shown recovers = go (find_node node w.nodes) refl
     where
       at : (n : Node) → find_node node w.nodes ≡ Some n → HasRecovered w v node file way count
@@ -87,7 +89,9 @@ module _ (w v : World) (node file : List ℕ) (way : Recovery) (count : ℕ) (st
           let t = turn w v (At node (Recover file way)) node (Serves (Recover file way)) n (line.NormalCount count ∷ []) it step in
           let d = by_choice n t.choice (λ cause. RoseAt w node cause v.disks) t.allowed (sym ended.1 ∙ t.answers) in
           let there = there_is_one n file (neither (there_is_file n file) _ (neither (refused_if (not (n.up || false)) line.NodeDown) _ d.first).1).0 in
-          let r = recovers n there.0 found d.up there.1 d.first in
+          let all = recovers n there.0 found d.up there.1 d.first in
+          let r = all.0 in
+          let gaps : HasNoGap (there.0).organization (rolled (way_of way) (state_of there.0)) = subst (HasNoGap (there.0).organization) (sym r.told) (all.1.given (way_of way) r.reached) in
           let x = (task_effect w.shared (stops_at node w) n (Serves (Recover file way)) t.choice).node in
           record {
             before = n;
@@ -98,7 +102,7 @@ module _ (w v : World) (node file : List ℕ) (way : Recovery) (count : ℕ) (st
             stands = ap (λ (u : World). find_node node u.nodes) t.goes ∙ put_node node n x w.nodes (effect_name w.shared (stops_at node w) n (Serves (Recover file way)) t.choice) found;
             new = r.left;
             is_there = ap (λ (m : Node). find_file file m.durable.directory) d.node ∙ r.there;
-            gives = r.stands ∙ r.made ∙ ap (loaded_map (there.0).organization) r.told;
+            gives = r.stands ∙ r.moment (loads_as_it_is (there.0).organization (rolled (way_of way) (state_of there.0)) gaps);
             counted = ap count_of (d.answers ∙ r.counted);
           }
 
@@ -120,16 +124,22 @@ up_used : (w : World) → IsSound w → (node : List ℕ) (n : Node) → find_no
 up_used w sound node n found up = elim (cases_Bool w.shared.in_use) [ inl on ↦ on | inr off ↦ absurd (both_ways n.up ((sound.kept node n found).unused off).0 up) ]
 
 pub shown_recoveries_hold : ShownRecoveriesHold
-shown_recoveries_hold nodes disks later after es e v closing may waits node file way count opens lawful only said lines legal on =
+shown_recoveries_hold nodes disks later after es e v closing may waits node file way count opens lawful whole only said lines legal on =
     let w = legal.0 in
     let step : Step w (At node (Recover file way)) (line.NormalCount count ∷ []) v = subst (λ ls. Step w (At node (Recover file way)) ls v) lines (subst (λ r. LineTurn w r e.lines v) said legal.2) in
     let same = ap (λ xs. later ++ xs) (split_on after e es) in
     let before = subst (λ xs. MayOnly may (opened nodes disks) xs closing) (sym same) only in
     let behind = legal_on w v closing e after legal.2 on in
     let sound = legal_sound (opened nodes disks) w es (opening_sound nodes disks opens) legal.1 in
-    let stay : w.shared.in_use ≡ true → AreLawful may waits (opened nodes disks) es = λ used name n left. lawful name n (ap (λ xs. left_at name xs (opened nodes disks)) (sym (split_on after e es)) ∙ left_stays name (opened nodes disks) w closing (after ++ e ∷ []) es behind used ∙ left) in (
+    let stays : w.shared.in_use ≡ true → (name : List ℕ) (n : Node) → left_at name es (opened nodes disks) ≡ Some n → left_at name (after ++ e ∷ es) (opened nodes disks) ≡ Some n =
+    λ used name n left. ap (λ xs. left_at name xs (opened nodes disks)) (sym (split_on after e es)) ∙ left_stays name (opened nodes disks) w closing (after ++ e ∷ []) es behind used ∙ left in
+    let found_lawful : w.shared.in_use ≡ true → AreLawful may waits (opened nodes disks) es = λ used name n left. lawful name n (stays used name n left) in
+    let found_whole : w.shared.in_use ≡ true → AreWhole (opened nodes disks) es = λ used name n left. whole name n (stays used name n left) in (
       w,
       legal.1,
       shown w v node file way count step (λ n f found up there first.
-          recoveries_hold nodes disks later (after ++ e ∷ []) es w closing may waits opens (stay (up_used w sound node n found up)) before legal.1 behind node n found up file way f there first),
+          let used = up_used w sound node n found up in (
+            recoveries_hold nodes disks later (after ++ e ∷ []) es w closing may waits opens (found_lawful used) before legal.1 behind node n found up file way f there first,
+            files_stay_whole nodes disks later (after ++ e ∷ []) es w closing may waits opens (found_lawful used) (found_whole used) before legal.1 behind node n found file f there,
+          )),
     )

@@ -15,7 +15,8 @@ use Rattle.run_agreement.specs.Laws.{NamesApart, opening_told}
 use Rattle.run_laws.specs.Anew.{AreKnownOrAnew}
 use Rattle.run_laws.specs.Promises.{AbortsStand, left_at}
 use Rattle.run_chains.specs.Reopenings.{IsReopened}
-use Rattle.recovery_runs.specs.Runs.{AreLawful, EndMay, HasRecovered, MayOnly, committed_in}
+use Rattle.recovery_laws.specs.Gaps.{IsGapless}
+use Rattle.recovery_runs.specs.Runs.{AreGapless, AreLawful, AreWhole, EndMay, HasNoGaps, HasRecovered, MayOnly, committed_in}
 use Rattle.recovery_runs.specs.Answered.{IsAnswered}
 
 -- an entry of a transcript asks for a recovery, between those after it and those before it
@@ -25,22 +26,24 @@ pub record RecoversThere (es before : List Entry) (node file : List ℕ) (way : 
   pub stands : es ≡ later ++ entry ∷ before
   pub said : reading entry.source.text ≡ Says (At node (Recover file way))
 
--- A recovery that shows to have succeeded gave the file just the records of its moment, as they are loaded, and showed their number.
+-- A recovery that shows to have succeeded gave the file just the records of its moment, and showed their number.
 abbrev pub RecoveriesGiven : World → List Entry → World → Type 0
 RecoveriesGiven opening es closing = (before : List Entry) (node file : List ℕ) (way : Recovery) (count : ℕ) (there : RecoversThere es before node file way) → there.entry.lines ≡ NormalCount count ∷ [] →
     (w : World) × (v : World) × Legal opening before w × Legal opening (there.entry ∷ before) v × Legal v there.later closing × HasRecovered w v node file way count
 
--- So it is where each file that the run finds agrees with its journals and its save, and with what the run commits, whichever unsettled branches may yet commit.
+-- So it is where each file that the run finds agrees with its journals and its save, and with what the run commits, whichever unsettled branches may yet commit; and where
+-- no sequential file that it finds has a gap.
 abbrev pub RecoveriesGive : World → List Entry → World → Type 0
-RecoveriesGive opening es closing = (waits : Id → Bool) → AreLawful (committed_in closing) waits opening es → RecoveriesGiven opening es closing
+RecoveriesGive opening es closing = (waits : Id → Bool) → AreLawful (committed_in closing) waits opening es → AreWhole opening es → RecoveriesGiven opening es closing
 
 -- And so it is where the images agree with which the run begins, and the journals and saves with the files, of which nothing is asked but by these images: of the unsettled
--- branches those may yet commit of whose transaction an image shows a commit. Of a volume that the run makes anew nothing is asked.
+-- branches those may yet commit of whose transaction an image shows a commit. In a sequential file the positions are those from 1 on, of what stands, of what was
+-- committed and of what recoveries are to give. Of a volume that the run makes anew nothing is asked.
 abbrev pub may_yet_commit : Opening → Id → Bool
 may_yet_commit o x = list_any (λ (r : LogRecord). same_id x r.serial && list_any (same_id r.tid) (commits_in o)) (image_at o x.node).prepared
 
 abbrev pub FilesAgree : World → List Entry → Type 0
-FilesAgree opening es = (node : List ℕ) (n : Node) → left_at node es opening ≡ Some n → AllFound (λ file f. IsOpening (may_yet_commit (opening_told opening.nodes es)) n.durable.greatest (state_of f)) n.durable.directory
+FilesAgree opening es = (node : List ℕ) (n : Node) → left_at node es opening ≡ Some n → AllFound (λ file f. IsOpening (may_yet_commit (opening_told opening.nodes es)) n.durable.greatest (state_of f) × HasNoGaps f) n.durable.directory
 
 abbrev pub RecoveriesAgree : World → List Entry → World → Type 0
 RecoveriesAgree opening es closing = NamesApart opening.nodes → AreKnownOrAnew es opening.nodes → IsAgreeing (opening_told opening.nodes es) → FilesAgree opening es → RecoveriesGiven opening es closing
@@ -57,12 +60,23 @@ abbrev pub RecoveriesGoOn : World → List Entry → World → Type 0
 RecoveriesGoOn opening es closing = (may waits next : Id → Bool) → AreLawful may waits opening es → MayOnly may opening es closing → EndMay may closing → ((x : Id) → next x ≡ true → may x ≡ true) → (node : List ℕ) (n m : Node) →
     find_node node closing.nodes ≡ Some n → n.durable.volume ≡ Sound → IsReopened n m → AllFound (λ file f. IsOpening next m.durable.greatest (state_of f)) m.durable.directory
 
+-- Neither have they a gap, nor what their recoveries are to give, where no file has that the run finds.
+abbrev pub GapsStayAway : World → List Entry → World → Type 0
+GapsStayAway opening es closing = (may waits : Id → Bool) → AreLawful may waits opening es → AreWhole opening es → MayOnly may opening es closing → EndMay may closing → (node : List ℕ) (n m : Node) →
+    find_node node closing.nodes ≡ Some n → n.durable.volume ≡ Sound → IsReopened n m → AllFound (λ file f. HasNoGaps f) m.durable.directory
+
+-- And no sequential file has a gap at the end, neither as it stands nor as it was committed, where none has that the run finds; for nothing else is asked.
+abbrev pub FilesHaveNoGaps : World → List Entry → World → Type 0
+FilesHaveNoGaps opening es closing = AreGapless opening es → (node : List ℕ) (n : Node) → find_node node closing.nodes ≡ Some n → AllFound (λ file f. IsGapless f.organization f.history) n.durable.directory
+
 -- What a run promises: the first where aborts stand that a fall cut short, and besides where the images agree with which it begins.
 pub record RecoveryPromises (opening : World) (es : List Entry) (closing : World) : Type 0 where
   pub give : AbortsStand opening es → RecoveriesGive opening es closing
   pub agree : RecoveriesAgree opening es closing
   pub answered : RecoveriesAreAnswered opening es
   pub leaves : RecoveriesGoOn opening es closing
+  pub whole : GapsStayAway opening es closing
+  pub gapless : FilesHaveNoGaps opening es closing
 
 -- Each legal transcript keeps that.
 abbrev pub RecoveryPromisesHold : Type 0

@@ -12,15 +12,18 @@ use Rattle.commit_protocol.specs.Messages.{LogRecord}
 use Rattle.commit_protocol.specs.Table.{Key as BranchKey, Settles}
 use Rattle.commit_protocol.specs.World.{In}
 use Rattle.recovery_model.specs.Journal.{is_commit}
+use Rattle.recovery_model.specs.Laws.{GivesMaps}
 use Rattle.recovery_model.specs.Opening.{IsOpening, MayCommit, as_found}
 use Rattle.recovery_model.specs.Recovery.{records_by}
-use Rattle.run_model.specs.World.{Act, DiskCounts, File, Node, Settlement, Sound, Tables, World, acted, find_file, find_node, loaded_map, opened, state_of}
+use Rattle.run_model.specs.World.{Act, DiskCounts, File, Node, Settlement, Sound, Tables, World, acted, find_file, find_node, opened, state_of}
 use Rattle.run_model.specs.Answers.{refused_before_reading, service, way_of}
 use Rattle.run_model.specs.Transcript.{AreOpening, Entry, Legal}
 use Rattle.world_laws.specs.Running.{AllFound}
 use Rattle.run_laws.specs.Promises.{AbortsStand, left_at, settlements_of}
 use Rattle.run_chains.specs.Reopenings.{IsReopened}
+use Rattle.recovery_laws.specs.Gaps.{IsGapless}
 use Rattle.recovery_laws.specs.Led.{IsTold}
+use Rattle.recovery_laws.specs.Loading.{HasNoGap}
 use Rattle.recovery_laws.specs.Recovering.{IsRecovered}
 
 -- whether its node committed a branch
@@ -37,6 +40,23 @@ pub record MayOnly (may : Id → Bool) (opening : World) (es : List Entry) (clos
 abbrev pub CommittedOnly : Type 0
 CommittedOnly = (nodes : List Node) (disks : List DiskCounts) (es : List Entry) (closing : World) → AreOpening nodes → Legal (opened nodes disks) es closing → AbortsStand (opened nodes disks) es → MayOnly (committed_in closing) (opened nodes disks) es closing
 
+-- A file has no gap, neither as it stands nor as it was committed; and each recovery that its journals and its save reach is to give records without one.
+pub record HasNoGaps (f : File) : Type 0 where
+  pub gapless : IsGapless f.organization f.history
+  pub given : GivesMaps (HasNoGap f.organization) (state_of f)
+
+-- Each file that a run with these entries finds, on a volume that none of them makes anew, has no gap; or neither it nor what its recoveries are to give has one.
+abbrev pub AreGapless : World → List Entry → Type 0
+AreGapless opening es = (node : List ℕ) (n : Node) → left_at node es opening ≡ Some n → AllFound (λ file f. IsGapless f.organization f.history) n.durable.directory
+
+abbrev pub AreWhole : World → List Entry → Type 0
+AreWhole opening es = (node : List ℕ) (n : Node) → left_at node es opening ≡ Some n → AllFound (λ file f. HasNoGaps f) n.durable.directory
+
+-- Then no file has a gap in any world of the run, neither as it stands nor as it was committed, over all falls, restarts and aborts that are cut short.
+abbrev pub NoFileHasGaps : Type 0
+NoFileHasGaps = (nodes : List Node) (disks : List DiskCounts) (es : List Entry) (w : World) → AreOpening nodes → AreGapless (opened nodes disks) es → Legal (opened nodes disks) es w → (node : List ℕ) (n : Node) → find_node node w.nodes ≡ Some n →
+    AllFound (λ file f. IsGapless f.organization f.history) n.durable.directory
+
 -- Each file that a run with these entries finds, on a volume that none of them makes anew, agrees with its journals and its save, and with the branches that may commit: of
 -- unsettled ones these may yet commit, and a branch that may commit in the run is one of them, or had changed nothing in the file before.
 abbrev pub AreLawful : (may waits : Id → Bool) → World → List Entry → Type 0
@@ -46,6 +66,11 @@ AreLawful may waits opening es = (node : List ℕ) (n : Node) → left_at node e
 abbrev pub FilesStayTold : Type 0
 FilesStayTold = (nodes : List Node) (disks : List DiskCounts) (later after es : List Entry) (w closing : World) (may waits : Id → Bool) → AreOpening nodes → AreLawful may waits (opened nodes disks) es → MayOnly may (opened nodes disks) (later ++ (after ++ es)) closing →
     Legal (opened nodes disks) es w → Legal w after closing → (node : List ℕ) (n : Node) → find_node node w.nodes ≡ Some n → AllFound (λ file f. IsTold may waits n.durable.greatest f) n.durable.directory
+
+-- And where no file that the run finds has a gap, nor what its recoveries are to give, so it is there.
+abbrev pub FilesStayWhole : Type 0
+FilesStayWhole = (nodes : List Node) (disks : List DiskCounts) (later after es : List Entry) (w closing : World) (may waits : Id → Bool) → AreOpening nodes → AreLawful may waits (opened nodes disks) es → AreWhole (opened nodes disks) es →
+    MayOnly may (opened nodes disks) (later ++ (after ++ es)) closing → Legal (opened nodes disks) es w → Legal w after closing → (node : List ℕ) (n : Node) → find_node node w.nodes ≡ Some n → AllFound (λ file f. HasNoGaps f) n.durable.directory
 
 -- So each recovery that nothing refuses gives the records of its moment.
 abbrev pub RecoveriesHold : Type 0
@@ -58,8 +83,8 @@ abbrev pub LeftFilesHold : Type 0
 LeftFilesHold = (nodes : List Node) (disks : List DiskCounts) (es : List Entry) (closing : World) (may waits next : Id → Bool) → AreOpening nodes → AreLawful may waits (opened nodes disks) es → MayOnly may (opened nodes disks) es closing → Legal (opened nodes disks) es closing →
     ((x : Id) → next x ≡ true → may x ≡ true) → (node : List ℕ) (n : Node) → find_node node closing.nodes ≡ Some n → AllFound (λ file f. IsOpening next n.durable.greatest (as_found n.durable.greatest (state_of f))) n.durable.directory
 
--- A recovery that a line shows to have succeeded: the file was there in the world before it; in the one behind it the file has just the records of the moment, as they
--- are loaded; and their number was shown.
+-- A recovery that a line shows to have succeeded: the file was there in the world before it; in the one behind it the file has just the records of the moment; and
+-- their number was shown.
 pub record HasRecovered (w v : World) (node file : List ℕ) (way : Recovery) (count : ℕ) : Type 0 where
   pub before : Node
   pub found : find_node node w.nodes ≡ Some before
@@ -69,13 +94,13 @@ pub record HasRecovered (w v : World) (node file : List ℕ) (way : Recovery) (c
   pub stands : find_node node v.nodes ≡ Some after
   pub new : File
   pub is_there : find_file file after.durable.directory ≡ Some new
-  pub gives : current new.history ≡ loaded_map old.organization (records_by (way_of way) (state_of old))
+  pub gives : current new.history ≡ records_by (way_of way) (state_of old)
   pub counted : count ≡ length (entries (current new.history))
 
 -- So it is of each in a transcript.
 abbrev pub ShownRecoveriesHold : Type 0
 ShownRecoveriesHold = (nodes : List Node) (disks : List DiskCounts) (later after es : List Entry) (e : Entry) (v closing : World) (may waits : Id → Bool) (node file : List ℕ) (way : Recovery) (count : ℕ) → AreOpening nodes → AreLawful may waits (opened nodes disks) (after ++ e ∷ es) →
-    MayOnly may (opened nodes disks) (later ++ (after ++ e ∷ es)) closing → reading e.source.text ≡ Says (At node (Recover file way)) → e.lines ≡ NormalCount count ∷ [] → Legal (opened nodes disks) (e ∷ es) v → Legal v after closing →
+    AreWhole (opened nodes disks) (after ++ e ∷ es) → MayOnly may (opened nodes disks) (later ++ (after ++ e ∷ es)) closing → reading e.source.text ≡ Says (At node (Recover file way)) → e.lines ≡ NormalCount count ∷ [] → Legal (opened nodes disks) (e ∷ es) v → Legal v after closing →
     (w : World) × Legal (opened nodes disks) es w × HasRecovered w v node file way count
 
 -- What an act that is under way at the end commits may commit too.
@@ -87,3 +112,8 @@ abbrev pub NextFilesHold : Type 0
 NextFilesHold = (nodes : List Node) (disks : List DiskCounts) (es : List Entry) (closing : World) (may waits next : Id → Bool) → AreOpening nodes → AreLawful may waits (opened nodes disks) es → MayOnly may (opened nodes disks) es closing → EndMay may closing →
     Legal (opened nodes disks) es closing → ((x : Id) → next x ≡ true → may x ≡ true) → (node : List ℕ) (n m : Node) → find_node node closing.nodes ≡ Some n → n.durable.volume ≡ Sound → IsReopened n m →
     AllFound (λ file f. IsOpening next m.durable.greatest (state_of f)) m.durable.directory
+
+-- And neither they nor what their recoveries are to give have a gap.
+abbrev pub NextFilesWhole : Type 0
+NextFilesWhole = (nodes : List Node) (disks : List DiskCounts) (es : List Entry) (closing : World) (may waits : Id → Bool) → AreOpening nodes → AreLawful may waits (opened nodes disks) es → AreWhole (opened nodes disks) es → MayOnly may (opened nodes disks) es closing →
+    EndMay may closing → Legal (opened nodes disks) es closing → (node : List ℕ) (n m : Node) → find_node node closing.nodes ≡ Some n → n.durable.volume ≡ Sound → IsReopened n m → AllFound (λ file f. HasNoGaps f) m.durable.directory

@@ -2,7 +2,7 @@
 #![tactic(auto)]
 
 ghost use Rattle.recovery_runs.specs.Promises.{RecoveryPromisesHold};
-ghost use Rattle.recovery_runs.specs.Runs.{CommittedOnly, FilesStayTold, LeftFilesHold, NextFilesHold, RecoveriesHold, ShownRecoveriesHold};
+ghost use Rattle.recovery_runs.specs.Runs.{CommittedOnly, FilesStayTold, FilesStayWhole, LeftFilesHold, NextFilesHold, NextFilesWhole, NoFileHasGaps, RecoveriesHold, ShownRecoveriesHold};
 
 /// Where aborts that a fall cut short stand, a run commits no branch of which one was.
 pub fn committed_alone_may()
@@ -19,14 +19,23 @@ pub fn recoveries_hold()
     ensures next { NextFilesHold }
 {}
 
-/// So each recovery that a line shows to have succeeded gave the file just the records of its moment, as they are loaded, and showed their number.
+/// Let no sequential file that a run finds have a gap. Then none has in any world of the run, neither as it stands nor as it was committed, over all falls and
+/// restarts. Where besides the files agree, and recoveries were to give none with a gap, no recovery is to give one, of this run and of the next.
+pub fn files_have_no_gaps()
+    ensures gapless { NoFileHasGaps }
+    ensures whole { FilesStayWhole }
+    ensures next { NextFilesWhole }
+{}
+
+/// So each recovery that a line shows to have succeeded gave the file just the records of its moment, and showed their number.
 pub fn shown_recoveries_hold()
     ensures { ShownRecoveriesHold }
 {}
 
 /// What a run promises of its recoveries: such a one gave the records of its moment, where aborts stand that a fall cut short; and each succeeds, or is refused
 /// for the cause that its line names, with its numbers, or memory is missing, or the disk of its node fails. Where the images agree with which the run
-/// begins, and the files with their journals and saves, that asks for no more than these images. And the files that the run leaves agree again.
+/// begins, and the files with their journals and saves, that asks for no more than these images. And the files that the run leaves agree again, and no
+/// sequential file has a gap there, as none has that the run finds.
 pub fn recovery_promises_hold()
     ensures { RecoveryPromisesHold }
 {

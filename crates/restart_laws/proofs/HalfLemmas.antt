@@ -41,7 +41,7 @@ use Rattle.unit_laws.specs.Layouts.{leaf_restored, layout_restored, slot_restore
 use Rattle.unit_laws.proofs.LiveLemmas.{clash, id_is}
 use Rattle.unit_laws.proofs.Tests.{both_ways, or_either, or_first, or_second, passed, picked}
 use Rattle.run_model.specs.World as world
-use Rattle.run_model.specs.World.{AreUnitsOf, File, IsHalfUndone, IsKept, Node, Organization, TellsUnits, half_undone, leaving, live_leaving}
+use Rattle.run_model.specs.World.{AreUnitsOf, File, IsHalfUndone, IsKept, IsOnItsWay, Node, Organization, TellsUnits, half_undone, leaving, live_leaving}
 use Rattle.world_laws.proofs.HalfLemmas.{all_leaving, earliest_leaving, keys_leaving, latest_leaving, now_leaving}
 use Rattle.directory_model.specs.Files.{IsFile, IsPlace, file_at, head_at, organized_by}
 use Rattle.directory_model.proofs.Places.{file_mapped}
@@ -49,7 +49,7 @@ use Rattle.directory_model.specs.Restoring.{AlikeBare, AreLeft, CanRestoreBy, Is
 use Rattle.directory_model.proofs.Moving.{head_again}
 use Rattle.directory_model.proofs.ReadingFiles.{order_is}
 use Rattle.directory_model.proofs.ReadingLists.{numbered}
-use Rattle.restart_laws.specs.Halves.{AreHalfFiles, DirectoriesAreHalf, HalvesAreFiles, HalvesStayRestorable, IsPlaceBeside, standing_in}
+use Rattle.restart_laws.specs.Halves.{AreHalfFiles, DirectoriesAreHalf, HalvesAreFiles, HalvesStayRestorable, IsPlaceOnItsWay, standing_in}
 use Rattle.restart_laws.proofs.ListLemmas.{all_as, both_as}
 use Rattle.restart_laws.proofs.RestLemmas.{layout_rests, same_now, slots_alike}
 use Rattle.restart_laws.proofs.RestorableLemmas.{none_images, of_one}
@@ -233,12 +233,13 @@ kept_by Relative w content h file is organized of = subst (λ (x : Organization)
 kept_by Indexed w content h file is organized of = subst (λ (x : Organization). IsKept x file.history) (sym organized) tt
 
 pub halves_are_files : HalvesAreFiles
-halves_are_files content h file units serial standing left tells others named =
+halves_are_files content h file units serial standing left tells way named =
     let is = half in
     record {
       half = record {
         images = λ key k. subst (IsImage (changes_by serial file.history.live) key) (sym (ap (λ (m : Map). m key) named))
             (of_one (HasImages (map_of h content)) serial file.history.live (none_images (map_of h content)) left.represents.images key k);
+        ends = λ key k. subst (IsOnItsWay (file.organization ≡ world.Sequential) (latest_after (changes_by serial file.history.live) key) (earliest_before (changes_by serial file.history.live) key)) (sym (ap (λ (m : Map). m key) named)) (way.own key k);
         kept = kept_by h.organization file.organization content h (half_undone serial standing file) refl left.head.organization is;
       };
       is = is;
@@ -249,7 +250,7 @@ halves_are_files content h file units serial standing left tells others named =
       where
         go : (b : Bool) → changes_key key (changes_by serial file.history.live) ≡ b → cond (changes_key key (changes_by serial file.history.live)) (standing file.name key) (get (current file.history) key) ≡ map_of h content key
         go true is = ap (λ (x : Bool). cond x (standing file.name key) (get (current file.history) key)) is ∙ ap (λ (m : Map). m key) named
-        go false is = ap (λ (x : Bool). cond x (standing file.name key) (get (current file.history) key)) is ∙ stands_beside serial file.history.live (map_in (current file.history)) (map_of h content) key tells.notes.differ tells.notes.orderly.latest others is
+        go false is = ap (λ (x : Bool). cond x (standing file.name key) (get (current file.history) key)) is ∙ stands_beside serial file.history.live (map_in (current file.history)) (map_of h content) key tells.notes.differ tells.notes.orderly.latest way.others is
             (tells.notes.orderly.represents.restores key ∙ sym (left.represents.restores key))
 
     half : IsFile content h (half_undone serial standing file)
@@ -362,7 +363,7 @@ file_of content f None p h there left = let none : ⊥ = cc in absurd none
 file_of content f (Some k) None h there left = absurd left
 file_of content f (Some k) (Some file) h there left = let same : k ≡ h = cc in (file, refl, left.0.head.name ∙ ap (λ (x : FileHead). x.name) same)
 
-module _ (content : List (List ℕ)) (heads : List (Option FileHead)) (n : Node) (serial : Id) (left : AreLeft content heads n.durable.directory) (units : AreUnitsOf n) (beside : (f : ℕ) → IsPlaceBeside serial content (head_at heads f) (file_at n.durable.directory f)) where
+module _ (content : List (List ℕ)) (heads : List (Option FileHead)) (n : Node) (serial : Id) (left : AreLeft content heads n.durable.directory) (units : AreUnitsOf n) (beside : (f : ℕ) → IsPlaceOnItsWay serial content (head_at heads f) (file_at n.durable.directory f)) where
   abbrev standing : List ℕ → Map
   standing = standing_in content heads
 
@@ -372,7 +373,7 @@ module _ (content : List (List ℕ)) (heads : List (Option FileHead)) (n : Node)
       let x = file_of content g (head_at heads g) (file_at n.durable.directory g) k at (left.each g) in
       units.names g f x.0 file x.1 there (x.2 ∙ sym same ∙ sym named)
 
-  half_place : (f : ℕ) (o : Option FileHead) (p : Option File) → head_at heads f ≡ o → file_at n.durable.directory f ≡ p → IsPlaceLeft content f o p → IsPlaceBeside serial content o p →
+  half_place : (f : ℕ) (o : Option FileHead) (p : Option File) → head_at heads f ≡ o → file_at n.durable.directory f ≡ p → IsPlaceLeft content f o p → IsPlaceOnItsWay serial content o p →
       ((file : File) → p ≡ Some file → IsHalfUndone serial standing file) × IsPlace content f o (option_map (half_undone serial standing) p) × IsPlaceRestorable content o (option_map (half_undone serial standing) p)
   half_place f None None at there l b = ((λ file is. let none : ⊥ = cc in absurd none), tt, tt)
   half_place f None (Some file) at there l b = absurd l

@@ -1,20 +1,23 @@
 -- A file in which one branch alone is undone in part.
-use Rattle.std.specs.Prelude.{◌≡◌, ℕ, List, [], ◌∷◌, false, map, option_map, Option, Some, None, if◌then◌else◌, slice_index_or}
+use Rattle.std.specs.Prelude.{◌≡◌, ℕ, List, [], ◌∷◌, true, false, map, option_map, Option, Some, None, if◌then◌else◌, slice_index_or}
 use Rattle.std.specs.Str.{bytes_eq}
 use Rattle.std.specs.List.{AllByRecursion}
 use Rattle.file_base.specs.declared.head.FileHead.{FileHead}
 use Rattle.record_files.specs.Any.{map_of}
 use Rattle.vms_model.specs.Ids.{Id}
-use Rattle.records_model.specs.History.{LiveChanges, same_id}
-use Rattle.unit_laws.specs.Units.{Map, HasLatest}
+use Rattle.vms_model.specs.Keys.{Key}
+use Rattle.records_model.specs.History.{LiveChanges, changes_by, changes_key, same_id}
+use Rattle.unit_laws.specs.Units.{Map, HasLatest, earliest_before, latest_after}
 use Rattle.unit_laws.specs.Journal.{Journal}
-use Rattle.run_model.specs.World.{AreUnitsOf, File, IsHalfUndone, Node, TellsUnits, half_undone}
+use Rattle.run_model.specs.World.{AreUnitsOf, File, IsHalfUndone, IsOnItsWay, Node, Sequential, TellsUnits, half_undone}
 use Rattle.directory_model.specs.Files.{AreFiles, IsFile, file_at, head_at}
 use Rattle.directory_model.specs.Restoring.{AreLeft, AreRestorable, CanRestore, IsLeft}
 
--- what all branches but this one changed in a file stands there as they left it
-abbrev pub OthersStand : Id → List (List ℕ) → FileHead → File → Type 0
-OthersStand serial content h file = AllByRecursion (λ (l : LiveChanges). same_id serial l.serial ≡ false → HasLatest (map_of h content) l.changes) file.history.live
+-- What all branches but this one changed in a file stands there as they left it. What this one changed is on its way back from what it left there to what it found first.
+pub record IsOneOnItsWay (serial : Id) (content : List (List ℕ)) (h : FileHead) (file : File) : Type 0 where
+  pub others : AllByRecursion (λ (l : LiveChanges). same_id serial l.serial ≡ false → HasLatest (map_of h content) l.changes) file.history.live
+  pub own : (key : Key) → changes_key key (changes_by serial file.history.live) ≡ true →
+      IsOnItsWay (file.organization ≡ Sequential) (latest_after (changes_by serial file.history.live) key) (earliest_before (changes_by serial file.history.live) key) (map_of h content key)
 
 -- Then the world may say of that branch what stands, and the file is the world's file.
 pub record IsHalfFile (serial : Id) (standing : List ℕ → Map) (content : List (List ℕ)) (h : FileHead) (file : File) : Type 0 where
@@ -22,7 +25,7 @@ pub record IsHalfFile (serial : Id) (standing : List ℕ → Map) (content : Lis
   pub is : IsFile content h (half_undone serial standing file)
 
 abbrev pub HalvesAreFiles : Type 0
-HalvesAreFiles = (content : List (List ℕ)) (h : FileHead) (file : File) (units : Journal) (serial : Id) (standing : List ℕ → Map) → IsLeft content h file → TellsUnits units file → OthersStand serial content h file → standing file.name ≡ map_of h content →
+HalvesAreFiles = (content : List (List ℕ)) (h : FileHead) (file : File) (units : Journal) (serial : Id) (standing : List ℕ → Map) → IsLeft content h file → TellsUnits units file → IsOneOnItsWay serial content h file → standing file.name ≡ map_of h content →
     IsHalfFile serial standing content h file
 
 -- What is left of it can still be restored, where the world says what stands.
@@ -35,10 +38,10 @@ standing_in content [] name = λ key. None
 standing_in content (None ∷ heads) name = standing_in content heads name
 standing_in content (Some h ∷ heads) name = if bytes_eq name h.name then map_of h content else standing_in content heads name
 
-abbrev pub IsPlaceBeside : Id → List (List ℕ) → Option FileHead → Option File → Type 0
-IsPlaceBeside serial content (Some h) (Some file) = OthersStand serial content h file
-IsPlaceBeside serial content None file = Unit {0}
-IsPlaceBeside serial content (Some h) None = Unit {0}
+abbrev pub IsPlaceOnItsWay : Id → List (List ℕ) → Option FileHead → Option File → Type 0
+IsPlaceOnItsWay serial content (Some h) (Some file) = IsOneOnItsWay serial content h file
+IsPlaceOnItsWay serial content None file = Unit {0}
+IsPlaceOnItsWay serial content (Some h) None = Unit {0}
 
 -- each file, and all of them
 pub record AreHalfFiles (serial : Id) (content : List (List ℕ)) (heads : List (Option FileHead)) (directory : List (Option File)) : Type 0 where
@@ -47,5 +50,5 @@ pub record AreHalfFiles (serial : Id) (content : List (List ℕ)) (heads : List 
   pub restorable : AreRestorable content heads (map (option_map (half_undone serial (standing_in content heads))) directory)
 
 abbrev pub DirectoriesAreHalf : Type 0
-DirectoriesAreHalf = (content : List (List ℕ)) (heads : List (Option FileHead)) (n : Node) (serial : Id) → AreLeft content heads n.durable.directory → AreUnitsOf n → ((f : ℕ) → IsPlaceBeside serial content (head_at heads f) (file_at n.durable.directory f)) →
+DirectoriesAreHalf = (content : List (List ℕ)) (heads : List (Option FileHead)) (n : Node) (serial : Id) → AreLeft content heads n.durable.directory → AreUnitsOf n → ((f : ℕ) → IsPlaceOnItsWay serial content (head_at heads f) (file_at n.durable.directory f)) →
     AreHalfFiles serial content heads n.durable.directory

@@ -9,7 +9,7 @@ use Rattle.record_locks.specs.declared.locks.LockErr.{LockErr}
 use Rattle.record_locks.specs.declared.locks.LockErr.TheVariants.{HeldBy, Quota}
 use Rattle.record_locks.specs.Locks.{Lock, LockTable, Held, Full, holder, is_lock_of, is_locked, lock_refused, not_locked, with_locks}
 use Rattle.record_locks.specs.Refusals.{refusal_of}
-use Rattle.record_locks.specs.Spots.{same_key_is}
+use Rattle.table_keys.specs.Spots.{same_key_is}
 use Rattle.records_model.specs.History.{same_id}
 use Rattle.records_model.specs.Records.{key_cmp}
 use Rattle.record_operations.specs.Causes.{Cause, Locked, Locks, first_cause}

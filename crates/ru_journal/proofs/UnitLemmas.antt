@@ -7,7 +7,7 @@ use Rattle.indexmap.specs.IndexSet.{insert_key}
 use Rattle.vms_model.specs.Ids.{Id}
 use Rattle.vms_base.specs.Ids.{serial_of}
 use Rattle.records_model.specs.History.{same_id}
-use Rattle.branch_keys.specs.declared.key.BranchKey.{BranchKey}
+use Rattle.table_keys.specs.declared.key.BranchKey.{BranchKey}
 use Rattle.journal_model.specs.Entries.{Entry}
 use Rattle.ru_journal.specs.declared.unit.UnitInfo.{UnitInfo}
 use Rattle.ru_journal.specs.Told.{UnitTold, find_unit, with_unit, without_unit, more_told, first_told, units_after}

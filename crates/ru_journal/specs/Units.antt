@@ -3,7 +3,7 @@ use Rattle.std.specs.Prelude.{◌≡◌, ℕ, ◌<◌, ◌≤◌, ◌+◌, true,
 use Rattle.std.specs.List.{AllByRecursion}
 use Rattle.vms_model.specs.Ids.{Id}
 use Rattle.vms_base.specs.Ids.{tid_of, serial_of}
-use Rattle.branch_keys.specs.declared.key.BranchKey.{BranchKey}
+use Rattle.table_keys.specs.declared.key.BranchKey.{BranchKey}
 use Rattle.ru_journal.specs.declared.unit.UnitInfo.{UnitInfo}
 use Rattle.indexmap.specs.IndexSet.{IndexSet, spare}
 use Rattle.records_model.specs.History.{same_id}

@@ -9,11 +9,11 @@ ghost use Rattle.ru_journal.specs.Told.{nothing_told, find_unit, units_after, af
 ghost use Rattle.ru_journal.specs.Units.{unit_of, id_of_key, FewChanges, IsPlace};
 
 use crate::unit::{UnitInfo, is_same};
-use branch_keys::BranchKey;
 use indexmap::IndexSet;
 use journal_format::{EntryHead, EntryKind};
 use std::alloc::{AllocError, Global};
 use std::marker::Model;
+use table_keys::BranchKey;
 use thiserror::Error;
 use vms_base::Serial;
 

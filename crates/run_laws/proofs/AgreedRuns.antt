@@ -1,13 +1,13 @@
 -- Runs from images that agree, as their lines tell them.
-use Rattle.std.proofs.Common.{◌≡◌, ℕ, List, [], ◌∷◌, ◌++◌, inl, inr, Bool, true, false, Option, Some, None, refl, sym, ◌∙◌, ap, subst}
+use Rattle.std.proofs.Common.{◌≡◌, ◌⊎◌, ℕ, List, [], ◌∷◌, ◌++◌, inl, inr, Bool, true, false, Option, Some, None, refl, sym, ◌∙◌, ap, subst}
 use Rattle.std.specs.List.{last_or}
 use Rattle.vms_model.specs.Ids.{Id}
 use Rattle.vms_model.specs.Transactions.{Abort, Commit, Reason}
 use Rattle.transcript_model.specs.Lines.{Line, Normal}
 use Rattle.script_model.specs.Statements.{At, Bad, Blank, Deliver, LinkDown, Reading, Says, Settle, Statement}
 use Rattle.script_model.specs.Grammar.{reading}
-use Rattle.commit_protocol.specs.Opening.{IsAgreeing}
-use Rattle.commit_protocol.specs.Table.{child, first}
+use Rattle.commit_protocol.specs.Opening.{IsAgreeing, Opening, accepted_in, commits_in, settled_in}
+use Rattle.commit_protocol.specs.Table.{Key, child, first}
 use Rattle.commit_protocol.specs.World.{In}
 use Rattle.run_model.specs.World.{World, Node, DiskCounts, Act, Settlement, find_node, opened}
 use Rattle.run_model.specs.Steps.{Choice, task_effect}
@@ -15,7 +15,7 @@ use Rattle.run_model.specs.Statements.{Begins, Part, PartEffect, Phases, Step, b
 use Rattle.run_model.specs.Transcript.{Entry, Legal, AreOpening, Turn}
 use Rattle.run_agreement.specs.Seen.{IsKnown, Resolution, landed, outcome_of}
 use Rattle.run_agreement.specs.Following.{opening_of}
-use Rattle.run_agreement.specs.Laws.{CommittedAreOfCommitted, HasOutcome, IsRun, IsSettled, LeaveAgreement, NamesApart, RestingAreWhole, SettleAlike, SettlingEnds, SettlingLeavesNone, image_here, opening_told}
+use Rattle.run_agreement.specs.Laws.{CommittedAreOfCommitted, HasOutcome, IsAtRest, IsRun, IsSettled, LeaveAgreement, MakesNoVolume, NamesApart, RestingAreWhole, SettleAlike, SettlingEnds, SettlingLeavesNone, image_here, opening_told}
 use Rattle.run_model.proofs.NodeLists.{found_name}
 use Rattle.run_model.proofs.PartLemmas.{phases_fold}
 use Rattle.run_model.proofs.PartTasks.{View, Doing, Fixed, view}
@@ -23,7 +23,7 @@ use Rattle.run_model.proofs.TaskLemmas.{effect_name}
 use Rattle.run_agreement.proofs.Bases.{used_part}
 use Rattle.run_agreement.proofs.Begun.{AnyPart, any_phases, apart_put, runs_begin}
 use Rattle.run_agreement.proofs.Told.{quiet_images, runs_tell_no_more, unused_are_told}
-use Rattle.run_laws.specs.Agreed.{AgreedRun, EndsHoldAll, SettlesWhole}
+use Rattle.run_laws.specs.Agreed.{AcceptedAreWhole, AgreedRun, EndsHoldAll, SettlesWhole}
 use Rattle.run_laws.specs.Promises.{EndsCommit, IsSettledSo, settlements_of}
 use Rattle.run_laws.proofs.AbortsStand.{legal_parts}
 use Rattle.run_laws.proofs.Staying.{after_grows}
@@ -52,7 +52,7 @@ agreed_run alike committed leave whole base since closing is_run = record {
   alike = λ r k of aborted. alike base closing since is_run r k of aborted;
   committed = λ r k done. committed base closing since is_run r k done;
   leaves = λ r. leave base closing since is_run r;
-  whole = λ rests r k of other done. whole base closing since is_run rests r k of other done;
+  whole = λ rests. whole base closing since is_run rests;
 }
 
 -- what a node settled it has settled however its act under way turns out
@@ -130,9 +130,24 @@ settle_uses w v lines step = ap (λ (x : World). x.shared.in_use) step.goes ∙ 
     (λ u p c ok allowed on. (tt, λ rest answer x more k. more (used_part u p c k)))
     (phases_of Settle) (any_phases (phases_of Settle)) (begun_with Settle w) Normal step.events step.answer step.world tt step.does refl
 
-pub settles_whole : SettlingLeavesNone → SettlingEnds → (nodes : List Node) (disks : List DiskCounts) (es : List Entry) (closing : World) → AreOpening nodes → NamesApart nodes → ((name : List ℕ) (n : Node) → find_node name nodes ≡ Some n → IsKnown n) →
-    Legal (opened nodes disks) es closing → IsAgreeing (opening_told nodes es) → SettlesWhole (opened nodes disks) es closing
-settles_whole none ends nodes disks es closing opening apart known legal agrees before events answer there =
+-- of a base only its images count
+abbrev WholeFrom : Opening → World → Type 0
+WholeFrom o v = (r : Resolution) (k : Key) → ((k ≡ first k.tid) ⊎ (In k v.shared.accepted ⊎ In k (accepted_in o))) → (k ≡ first k.tid → ⊥) →
+    ((In (first k.tid, Commit) (settled_in o) ⊎ IsSettled r v (first k.tid) Commit) ⊎ In k.tid (commits_in o)) → (In (k, Commit) (settled_in o) ⊎ IsSettled r v k Commit) ⊎ In k v.shared.read_only
+
+whole_alike : (base other v : World) → opening_of base ≡ opening_of other → AcceptedAreWhole base v → AcceptedAreWhole other v
+whole_alike base other v same whole = subst (λ (o : Opening). WholeFrom o v) same whole
+
+-- a SETTLE makes no volume
+settle_run : (base w v : World) (e : Entry) (es : List Entry) → reading e.source.text ≡ Says Settle → Turn w (reading e.source.text) e.lines v → IsRun base es w → IsRun base (e ∷ es) v
+settle_run base w v e es said turn run = record { base_is = run.base_is; agrees = run.agrees; runs = (w, run.runs, subst (MakesNoVolume w) (sym said) none, turn) }
+  where
+    none : MakesNoVolume w (Says Settle)
+    none node slots journal e = absurd (let f : ⊥ = cc in f)
+
+pub settles_whole : RestingAreWhole → SettlingLeavesNone → SettlingEnds → (nodes : List Node) (disks : List DiskCounts) (es : List Entry) (closing : World) → AreOpening nodes → NamesApart nodes → ((name : List ℕ) (n : Node) → find_node name nodes ≡ Some n → IsKnown n) →
+    Legal (opened nodes disks) es closing → IsAgreeing (opening_told nodes es) → (base : World) → opening_of base ≡ opening_told nodes es → SettlesWhole base (opened nodes disks) es closing
+settles_whole rests none ends nodes disks es closing opening apart known legal agrees base base_told before events answer there =
     let start = opened nodes disks in
     let whole : Legal start (there.after ++ (there.entry ∷ before)) closing = subst (λ xs. Legal start xs closing) there.stands legal in
     let parts = legal_parts start there.after (there.entry ∷ before) closing whole in
@@ -142,12 +157,15 @@ settles_whole none ends nodes disks es closing opening apart known legal agrees 
     let used = settle_uses w v (events ++ answer ∷ []) step in
     let quiet : opening_told nodes (there.entry ∷ before) ≡ opening_told nodes before = λ i. record { images = quiet_images there.entry before nodes (λ n image. ap (λ r. image_here n r (last_or None there.entry.lines) image) there.said) i } in
     let told : opening_told nodes es ≡ opening_told nodes before = ap (opening_told nodes) there.stands ∙ (parts.3 used).1 nodes ∙ quiet in
-    let b = run_of nodes disks before w opening apart known parts.1.1 (subst IsAgreeing told agrees) in (
+    let b = run_of nodes disks before w opening apart known parts.1.1 (subst IsAgreeing told agrees) in
+    let same : opening_of b.base ≡ opening_of base = b.told ∙ sym told ∙ sym base_told in
+    let here : IsRun b.base (there.entry ∷ b.since) v = settle_run b.base w v there.entry b.since there.said parts.1.2 b.is_run in
+    let left : answer ≡ Normal → IsAtRest v = λ normal. none b.base w v b.since events b.is_run (subst (λ a. Step w Settle (events ++ a ∷ []) v) normal step) in (
       w,
       v,
       parts.1.1,
       step,
       parts.2,
-      λ normal. none b.base w v b.since events b.is_run (subst (λ a. Step w Settle (events ++ a ∷ []) v) normal step),
+      λ normal. (left normal, whole_alike b.base base v same (rests b.base v (there.entry ∷ b.since) here (left normal))),
       ends b.base w v b.since events answer b.is_run (legal_names start w before apart parts.1.1) step,
     )

@@ -95,7 +95,7 @@ module _ (alike : SettleAlike) (committed : CommittedAreOfCommitted) (leave : Le
         told = b.told;
         run = agreed_run alike committed leave whole b.base b.since closing b.is_run;
         ends = ends_for_all b.base es closing kept.ends;
-        settles = settles_whole none ends nodes disks es closing opening apart known legal agrees;
+        settles = settles_whole whole none ends nodes disks es closing opening apart known legal agrees b.base b.told;
         dumps = agreed_dumps_hold nodes disks es closing opening apart known last_apart agree legal;
         stand = agreed_aborts_stand nodes disks es opening apart known agree;
       }

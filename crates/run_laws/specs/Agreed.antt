@@ -15,6 +15,10 @@ use Rattle.run_agreement.specs.Laws.{EndsFor, HasOutcome, IsAtRest, IsBranch, Is
 use Rattle.run_laws.specs.Causes.{WasBegun}
 use Rattle.run_laws.specs.SaidLaws.{SaidThere}
 
+-- Each accepted branch of a committed transaction is committed or read-only, however the acts turn out that are under way.
+abbrev pub AcceptedAreWhole : World → World → Type 0
+AcceptedAreWhole base v = (r : Resolution) (k : Key) → IsBranch base v k → (k ≡ first k.tid → ⊥) → IsCommitted base r v k.tid → HasOutcome base r v k ToCommit ⊎ In k v.shared.read_only
+
 -- From a base on entries lead to the closing world. However the acts turn out that are under way there: no transaction has a committed branch and an aborted one, and
 -- no branch of a committed transaction is aborted, be it the first, one that was told to be accepted, or one that an image showed accepted; a branch that is committed is
 -- of a committed transaction; and the images that are left agree again. Where each node is up and no branch is unsettled, each accepted branch of a committed
@@ -25,16 +29,16 @@ pub record AgreedRun (base : World) (since : List Entry) (closing : World) : Typ
       ((j : Key) → j.tid ≡ k.tid → HasOutcome base r closing j ToCommit → ⊥) × (IsCommitted base r closing k.tid → ⊥)
   pub committed : (r : Resolution) (k : Key) → HasOutcome base r closing k ToCommit → IsCommitted base r closing k.tid
   pub leaves : (r : Resolution) → IsAgreeing (next_opening base r closing)
-  pub whole : IsAtRest closing → (r : Resolution) (k : Key) → IsBranch base closing k → (k ≡ first k.tid → ⊥) → IsCommitted base r closing k.tid →
-      HasOutcome base r closing k ToCommit ⊎ In k closing.shared.read_only
+  pub whole : IsAtRest closing → AcceptedAreWhole base closing
 
 -- An END_TRANS that was answered with its success has committed the transaction of its label, whatever turns out of the acts under way.
 abbrev pub EndsHoldAll : World → List Entry → World → Type 0
 EndsHoldAll base es closing = (before : List Entry) (node label : List ℕ) (events : List Line) → SaidThere es before (At node (EndTrans label)) events Normal →
     (tid : Id) × WasBegun before node label tid × ((r : Resolution) → IsCommitted base r closing tid)
 
--- A SETTLE that was answered with its success left each node up and no branch unsettled; and it is answered so, or ends for a cause that its answer names, in the world
--- that it leaves; a failure of a disk only where its count rose from the world before that SETTLE to the one behind it.
-abbrev pub SettlesWhole : World → List Entry → World → Type 0
-SettlesWhole opening es closing = (before : List Entry) (events : List Line) (answer : Line) → (there : SaidThere es before Settle events answer) →
-    (w : World) × (v : World) × Legal opening before w × Step w Settle (events ++ answer ∷ []) v × Legal v there.after closing × (answer ≡ Normal → IsAtRest v) × ((answer ≡ Normal) ⊎ EndsFor w v events answer)
+-- A SETTLE that was answered with its success left each node up and no branch unsettled, and each accepted branch of a transaction that is committed there was committed or
+-- read-only; and it is answered so, or ends for a cause that its answer names, in the world that it leaves; a failure of a disk only where its count rose from the world
+-- before that SETTLE to the one behind it.
+abbrev pub SettlesWhole : World → World → List Entry → World → Type 0
+SettlesWhole base opening es closing = (before : List Entry) (events : List Line) (answer : Line) → (there : SaidThere es before Settle events answer) →
+    (w : World) × (v : World) × Legal opening before w × Step w Settle (events ++ answer ∷ []) v × Legal v there.after closing × (answer ≡ Normal → IsAtRest v × AcceptedAreWhole base v) × ((answer ≡ Normal) ⊎ EndsFor w v events answer)

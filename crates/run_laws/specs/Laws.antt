@@ -158,7 +158,7 @@ pub record AgreedPromises (opening : World) (es : List Entry) (closing : World) 
   pub told : opening_of base ≡ opening_told opening.nodes es
   pub run : AgreedRun base since closing
   pub ends : EndsHoldAll base es closing
-  pub settles : SettlesWhole opening es closing
+  pub settles : SettlesWhole base opening es closing
   pub dumps : DumpPromises opening es
   pub stand : AbortsStand opening es
 

@@ -1,5 +1,5 @@
 -- The world of a run: what the statements so far have made of the nodes.
-use Rattle.std.specs.Prelude.{◌≡◌, ◌≤◌, ℕ, zero, suc, ◌+◌, ◌-◌, ◌*◌, ◌/◌, List, [], ◌∷◌, Bool, true, false, ◌||◌, Option, Some, None, if◌then◌else◌, map, option_map, ◌++◌, length, max, nat_le, nat_lt, replicate, slice_set, slice_index_or}
+use Rattle.std.specs.Prelude.{◌≡◌, ◌⊎◌, ◌≤◌, ℕ, zero, suc, ◌+◌, ◌-◌, ◌*◌, ◌/◌, List, [], ◌∷◌, Bool, true, false, ◌||◌, Option, Some, None, if◌then◌else◌, map, option_map, ◌++◌, length, max, nat_le, nat_lt, replicate, slice_set, slice_index_or}
 use Rattle.std.specs.Str.{bytes_eq}
 use Rattle.std.specs.List.{AllByRecursion, list_any}
 use Rattle.std.specs.Option.{option_and_then, is_none}
@@ -18,7 +18,7 @@ use Rattle.records_model.specs.Placing.{filled_by, first_bucket}
 use Rattle.records_model.specs.Slots.{Slot}
 use Rattle.unit_laws.specs.Units.{OneMovesEnd}
 use Rattle.unit_laws.specs.Layouts.{layout_restored}
-use Rattle.unit_laws.specs.Units.{IsImage, Map, latest_after}
+use Rattle.unit_laws.specs.Units.{IsImage, Map, earliest_before, latest_after}
 use Rattle.unit_laws.specs.Journal.{Journal, JournalEntry, is_of_file, RecoveryUnit, empty_journal, entries_for, with_entries, with_settled, trimmed, units_in, find_unit, serial_in, is_settled_in, ChangeEntry, PreparedEntry, SettledEntry}
 use Rattle.unit_laws.specs.JournalLaws.{HasNotes, is_unit}
 use Rattle.recovery_model.specs.Journal as image
@@ -736,9 +736,16 @@ IsKept Sequential h = map (λ e. e.0) (entries (current h)) ≡ numbered 1 (leng
 IsKept (Relative greatest) h = Unit {0}
 IsKept (Indexed position size) h = Unit {0}
 
--- Each key that the branch changed in a file has one of the images of its changes, and the file is one of its organization.
+-- What a key has now, while what it had last is taken back to what it had first: one of the two, or, where it may be gone meanwhile, no record.
+abbrev pub IsOnItsWay : (may_be_gone : Type 0) → (last first now : Option (List ℕ)) → Type 0
+IsOnItsWay may_be_gone last first now = (now ≡ last) ⊎ ((now ≡ first) ⊎ (may_be_gone × (now ≡ None)))
+
+-- Each key that the branch changed in a file has one of the images of its changes: what the branch left there, or what it found there first. A position of a sequential file may be gone too,
+-- until it is put back. And the file is one of its organization.
 pub record IsHalfUndone (serial : Id) (standing : List ℕ → Map) (f : File) : Type 0 where
   pub images : (key : Key) → changes_key key (changes_by serial f.history.live) ≡ true → IsImage (changes_by serial f.history.live) key (standing f.name key)
+  pub ends : (key : Key) → changes_key key (changes_by serial f.history.live) ≡ true →
+      IsOnItsWay (f.organization ≡ Sequential) (latest_after (changes_by serial f.history.live) key) (earliest_before (changes_by serial f.history.live) key) (standing f.name key)
   pub kept : IsKept f.organization (half_undone serial standing f).history
 
 -- What became of an act that was under way: nothing; it took place; or, of the abort of a prepared branch, a part, so that its keys have this in each file.

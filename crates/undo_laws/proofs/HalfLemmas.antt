@@ -1,30 +1,35 @@
 -- A branch is aborted, and the disk goes down on the way of the undo: of a prepared one the abort is done in part.
-use Rattle.std.proofs.Common.{◌≡◌, ℕ, ◌+◌, Bool, true, false, List, length, map, Option, Some, None, if◌then◌else◌, refl, sym, ◌∙◌, ap, subst, inl, inr, arith}
+use Rattle.std.proofs.Common.{◌≡◌, ℕ, ◌+◌, Bool, true, false, List, [], length, map, Option, Some, None, if◌then◌else◌, refl, sym, ◌∙◌, ap, subst, inl, inr, arith}
 use Rattle.std.specs.Option.{option_map}
 use Rattle.std.proofs.lemmas.Bool.{both_ways}
 use Rattle.file_base.specs.declared.head.FileHead.{FileHead}
+use Rattle.file_base.specs.declared.head.Organization.{Organization as Kept}
+use Rattle.file_base.specs.declared.head.Organization.TheVariants as kept
 use Rattle.record_files.specs.Any.{map_of}
 use Rattle.vms_model.specs.Ids.{Id}
+use Rattle.vms_model.specs.Keys.{Key}
+use Rattle.records_model.specs.Records.{Change}
 use Rattle.vms_model.specs.Transactions.{Abort, Reason}
-use Rattle.records_model.specs.History.{LiveChanges, changes_by, current, same_id}
+use Rattle.records_model.specs.History.{LiveChanges, changes_by, changes_key, current, same_id}
 use Rattle.unit_laws.specs.Journal.{Journal, RecoveryUnit, find_unit, units_in}
-use Rattle.unit_laws.specs.Units.{HasLatest, IsOrderly, Map, map_in}
+use Rattle.unit_laws.specs.Units.{HasLatest, IsOrderly, Map, earliest_before, latest_after, map_in}
 use Rattle.commit_protocol.specs.Messages.{LogRecord}
 use Rattle.commit_protocol.specs.Table as table
 use Rattle.commit_protocol.specs.Table.{Settles}
-use Rattle.run_model.specs.World.{Act, AreUnitsOf, File, IsHalfUndone, IsPreparedUnit, Node, Tables, TellsUnits, aborted_prepared, fallen, half_undone, with_half}
+use Rattle.run_model.specs.World.{Act, AreUnitsOf, File, IsHalfUndone, IsOnItsWay, IsPreparedUnit, Node, Sequential, Tables, TellsUnits, aborted_prepared, fallen, half_undone, with_half}
 use Rattle.world_laws.proofs.HalfLemmas.{noted_half}
 use Rattle.world_laws.proofs.OrderedLemmas.{halves_keep_order}
 use Rattle.world_laws.proofs.PlainLemmas.{end_leaving}
-use Rattle.directory_model.specs.Files.{IsPlace, file_at, head_at}
+use Rattle.directory_model.specs.Files.{IsPlace, file_at, head_at, organized_by}
 use Rattle.directory_model.specs.Restoring.{AreLeft, IsPlaceGrouped}
 use Rattle.directory_model.proofs.Places.{file_mapped}
-use Rattle.restart_laws.specs.Halves.{AreHalfFiles, IsPlaceBeside, standing_in}
+use Rattle.restart_laws.specs.Halves.{AreHalfFiles, IsPlaceOnItsWay, standing_in}
 use Rattle.restart_laws.proofs.FallLemmas.{falls_leave, groups_leave}
 use Rattle.restart_laws.proofs.HalfLemmas.{directories_are_half}
 use Rattle.restart_laws.proofs.ListLemmas.{both_as}
 use Rattle.restart_laws.proofs.PreparedLemmas.{prepared_stand}
-use Rattle.unit_undo.specs.Way.{IsOnTheWay, IsPlaceKept}
+use Rattle.restart_laws.proofs.RestorableLemmas.{of_one}
+use Rattle.unit_undo.specs.Way.{IsOnTheWay, IsPlacePartly}
 use Rattle.volume.specs.declared.catalog.Catalog.{Catalog}
 use Rattle.volume.specs.Catalogs.{IsSound}
 use Rattle.volume_model.specs.Volumes.{HasVolume, IsEitherOf, IsLeftBy, LeavesVolume}
@@ -35,16 +40,36 @@ use Rattle.undo_laws.proofs.FallenLemmas.{volume_left_fallen}
 use Rattle.undo_laws.proofs.SettledLemmas.{fell_of}
 use Rattle.undo_laws.proofs.WayLemmas.{IsOther, all_beside, far_off, left_on_the_way, log_kept, names_kept, same_ring, ways_keep_others}
 
--- What the other branches changed stands in each file.
+-- What the other branches changed stands in each file, and what this one changed is on its way back.
 
-place_beside : (serial : Id) (a c : List (List ℕ)) (f : ℕ) (o : Option FileHead) (p : Option File) (m : Option FileHead) → IsPlace a f o p → ((file : File) → p ≡ Some file → IsOrderly file.history) → IsPlaceGrouped a o p c m → IsPlaceKept serial a o p c m → IsPlaceBeside serial c m p
-place_beside serial a c f o p None is orderly grouped kept = tt
-place_beside serial a c f o None (Some new) is orderly grouped kept = tt
-place_beside serial a c f None (Some file) (Some new) is orderly grouped kept = absurd is
-place_beside serial a c f (Some h) (Some file) (Some new) is orderly grouped kept =
-    let whole = orderly file refl in
-    both_as (IsOther serial (changes_by serial file.history.live)) (λ (l : LiveChanges). HasLatest (map_in (current file.history)) l.changes) (λ (l : LiveChanges). same_id serial l.serial ≡ false → HasLatest (map_of new c) l.changes) file.history.live
-    (λ l other latest no key changed. kept key (other no key changed) ∙ sym (is.0.records key) ∙ latest key changed) (all_beside serial file.history.live whole.represents.apart) whole.latest
+none_latest : (m : Map) → HasLatest m []
+none_latest m key changed = let never : ⊥ = cc in absurd never
+
+place_on_its_way : (serial : Id) (a c : List (List ℕ)) (f : ℕ) (o : Option FileHead) (p : Option File) (m : Option FileHead) → IsPlace a f o p → ((file : File) → p ≡ Some file → IsOrderly file.history) → IsPlaceGrouped a o p c m → IsPlacePartly serial a o p c m → IsPlaceOnItsWay serial c m p
+place_on_its_way serial a c f o p None is orderly grouped partly = tt
+place_on_its_way serial a c f o None (Some new) is orderly grouped partly = tt
+place_on_its_way serial a c f None (Some file) (Some new) is orderly grouped partly = absurd is
+place_on_its_way serial a c f (Some h) (Some file) (Some new) is orderly grouped partly = record {
+  others =
+      both_as (IsOther serial (changes_by serial file.history.live)) (λ (l : LiveChanges). HasLatest (map_in (current file.history)) l.changes) (λ (l : LiveChanges). same_id serial l.serial ≡ false → HasLatest (map_of new c) l.changes) file.history.live
+      (λ l other latest no key changed. partly.others key (other no key changed) ∙ sym (is.0.records key) ∙ latest key changed) (all_beside serial file.history.live whole.represents.apart) whole.latest;
+  own = λ key changed. on_its_way key changed (partly.own key changed);
+}
+  where
+    whole : IsOrderly file.history
+    whole = orderly file refl
+
+    -- What the branch changed stood there, so what a key had is what the branch left.
+    stood : (key : Key) → changes_key key (changes_by serial file.history.live) ≡ true → map_of h a key ≡ latest_after (changes_by serial file.history.live) key
+    stood key changed = sym (is.0.records key) ∙ of_one (HasLatest (map_in (current file.history))) serial file.history.live (none_latest (map_in (current file.history))) whole.latest key changed
+
+    in_sequence : h.organization ≡ kept.Sequential → file.organization ≡ Sequential
+    in_sequence so = is.0.head.organization ∙ ap (λ (o : Kept). organized_by o h) so
+
+    on_its_way : (key : Key) → changes_key key (changes_by serial file.history.live) ≡ true → IsOnItsWay (h.organization ≡ kept.Sequential) (map_of h a key) (earliest_before (changes_by serial file.history.live) key) (map_of new c key) → IsOnItsWay (file.organization ≡ Sequential) (latest_after (changes_by serial file.history.live) key) (earliest_before (changes_by serial file.history.live) key) (map_of new c key)
+    on_its_way key changed (inl stands) = inl (stands ∙ stood key changed)
+    on_its_way key changed (inr (inl first)) = inr (inl first)
+    on_its_way key changed (inr (inr gone)) = inr (inr (in_sequence gone.0, gone.1))
 
 -- The journal tells the units of the files that are left.
 
@@ -81,7 +106,7 @@ module _ (serial : Id) (a : List (List ℕ)) (k : Catalog) (n : Node) (under_way
 
   half : AreHalfFiles serial c way.new n.durable.directory
   half = directories_are_half c way.new n serial left has.units
-      (λ f. place_beside serial a c f (head_at k.heads f) (file_at n.durable.directory f) (head_at way.new f) (has.files.each f) (λ file there. (has.units.tells f file there).notes.orderly) (way.grouped.each f) (way.beside f))
+      (λ f. place_on_its_way serial a c f (head_at k.heads f) (file_at n.durable.directory f) (head_at way.new f) (has.files.each f) (λ file there. (has.units.tells f file there).notes.orderly) (way.grouped.each f) (way.partly f))
 
   -- the node of which the abort is done in part
   abbrev m : Node

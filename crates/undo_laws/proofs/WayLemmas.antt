@@ -30,7 +30,7 @@ use Rattle.file_images.specs.Files.{SameRing}
 use Rattle.volume_laws.proofs.FollowLemmas.{follow}
 use Rattle.volume_laws.proofs.ToldLemmas.{logs_follow}
 use Rattle.file_images.proofs.Rings.{journal_stands}
-use Rattle.unit_undo.specs.Way.{IsOnTheWay, IsPlaceKept, KeepsJournal}
+use Rattle.unit_undo.specs.Way.{IsOnTheWay, IsPlacePartly, KeepsJournal}
 use Rattle.undo_laws.specs.Undone.{UndosLeave, UndosKeepJournal, WaysKeepOthers, WaysKeepPrepared}
 
 -- files keep their names
@@ -83,24 +83,24 @@ all_beside serial (l ∷ ls) apart = step (same_id serial l.serial) refl (all_be
     step false is later = (λ no key changed. not_by serial ls key (apart.0 key changed), later)
 
 -- so what prepared branches changed stands there still, unless it is one of them that is undone
-place_kept : (serial : Id) (units : Journal) (a c : List (List ℕ)) (f : ℕ) (o : Option FileHead) (p : Option File) (m : Option FileHead) → (IsPreparedUnit units serial → ⊥) → IsPlaceLeft a f o p → IsPlaceGrouped a o p c m → IsPlaceKept serial a o p c m → IsPlacePrepared units a o p → IsPlacePrepared units c m p
-place_kept serial units a c f o p None none left grouped kept stands = tt
-place_kept serial units a c f None p (Some new) none left grouped kept stands = nothing p grouped
+place_kept : (serial : Id) (units : Journal) (a c : List (List ℕ)) (f : ℕ) (o : Option FileHead) (p : Option File) (m : Option FileHead) → (IsPreparedUnit units serial → ⊥) → IsPlaceLeft a f o p → IsPlaceGrouped a o p c m → IsPlacePartly serial a o p c m → IsPlacePrepared units a o p → IsPlacePrepared units c m p
+place_kept serial units a c f o p None none left grouped partly stands = tt
+place_kept serial units a c f None p (Some new) none left grouped partly stands = nothing p grouped
   where
     nothing : (p : Option File) → IsPlaceGrouped a None p c (Some new) → IsPlacePrepared units c (Some new) p
     nothing None g = tt
     nothing (Some file) g = absurd g
-place_kept serial units a c f (Some h) None (Some new) none left grouped kept stands = tt
-place_kept serial units a c f (Some h) (Some file) (Some new) none left grouped kept stands =
+place_kept serial units a c f (Some h) None (Some new) none left grouped partly stands = tt
+place_kept serial units a c f (Some h) (Some file) (Some new) none left grouped partly stands =
     both_as (IsOther serial (changes_by serial file.history.live)) (λ (l : LiveChanges). IsPreparedUnit units l.serial → HasLatest (map_of h a) l.changes) (λ (l : LiveChanges). IsPreparedUnit units l.serial → HasLatest (map_of new c) l.changes) file.history.live
     (λ l other latest is key changed.
     let apart : same_id serial l.serial ≡ false = false_from_ne_true (same_id serial l.serial) (λ e. none (subst (IsPreparedUnit units) (sym (id_is serial l.serial e)) is)) in
-    kept key (other apart key changed) ∙ latest is key changed)
+    partly.others key (other apart key changed) ∙ latest is key changed)
     (all_beside serial file.history.live left.0.represents.apart) stands
 
 pub ways_keep_others : WaysKeepOthers
 ways_keep_others serial a k n left none c way f =
-    place_kept serial n.durable.units a c f (head_at k.heads f) (file_at n.durable.directory f) (head_at way.new f) none (left.files.each f) (way.grouped.each f) (way.beside f) (left.prepared f)
+    place_kept serial n.durable.units a c f (head_at k.heads f) (file_at n.durable.directory f) (head_at way.new f) none (left.files.each f) (way.grouped.each f) (way.partly f) (left.prepared f)
 
 pub left_on_the_way : (serial : Id) (a : List (List ℕ)) (k : Catalog) (n : Node) → LeavesVolume a k n → WaysKeepPrepared serial a k n → IsSound n.name n.blocks k → length a + 518 ≡ n.blocks → (c : List (List ℕ)) → IsOnTheWay serial a k.heads n.durable.directory k c → IsLeftBy c n
 left_on_the_way serial a k n left ways sound size c way = record {

@@ -6,7 +6,9 @@ ghost use Rattle.journal_store.specs.Rings.{IsRing};
 ghost use Rattle.image_room.specs.Room.{AllSettlementsFit};
 ghost use Rattle.unit_journal.specs.Groups.{LeavesOld};
 ghost use Rattle.journal_model.specs.Ring.{ring_size};
+ghost use Rattle.tm_types.specs.Parts.{log_record_of};
 ghost use Rattle.unit_entries.specs.Opening.{AreAlike, AreFiledIn, AscendWithin, BeginWithin};
+ghost use Rattle.unit_entries.specs.Voting.{IsVoted};
 ghost use Rattle.unit_table.specs.Units.{IsFirst, OpenUnit, begun, first_that, is_active, without_first};
 ghost use Rattle.volume.specs.State.{SameVolume};
 ghost use Rattle.unit_aborts.specs.Reopening.{AreFoundIn, AreUnits, BreaksOne, IsOutOfOrder, MayReopen, MayTake, Reopens, ReopensNot, UndoesUnit};
@@ -22,7 +24,7 @@ use ru_journal::RuState;
 use unit_entries::{ChangedKeys, read_journal};
 use unit_journal::next_moment;
 use unit_table::UnitTable;
-use vms_base::{Moment, Reason, Record, Serial, Tid};
+use vms_base::{LogRec, Moment, Reason, Record, Serial, Tid};
 use volume::Volume;
 
 /// A unit that a restart aborted at this moment.
@@ -88,15 +90,19 @@ fn abort_next<D: Disk>(
     Ok(())
 }
 
-// Reads which units are unsettled in the journal, and puts them into the table. False where it is not in order.
+// Reads which units are unsettled in the journal, and puts them into the table, and the records of its Prepared entries behind others. False where it
+// is not in order.
 fn read_units<D: Disk>(
     volume: &mut Volume<D>,
     state: &mut RuState,
     units: &mut UnitTable,
+    rest: &mut Vec<LogRec>,
+    voted: &mut Vec<LogRec>,
     image: &mut Record,
 ) -> Result<bool, Down>
     requires ready { IsReady volume.old.store }
     requires ring { IsRing volume.old.catalog.ru volume.old.store.disk }
+    requires room { length voted.old.items + length rest.old.items ≤ vec_capacity voted.old }
     ensures units { IfOk result (λ whole. whole ≡ true → AreUnits state.new.units volume.old) }
     ensures broken { IfOk result (λ whole. whole ≡ false → IsOutOfOrder volume.old) }
     ensures alike { IfOk result (λ whole. whole ≡ true → AreAlike state.new.units (begun units.new)) }
@@ -104,6 +110,10 @@ fn read_units<D: Disk>(
     ensures files { IfOk result (λ whole. whole ≡ true → AreFiledIn volume.old (begun units.new)) }
     ensures within { IfOk result (λ whole. whole ≡ true → BeginWithin volume.old.catalog.ru (begun units.new)) }
     ensures ascends { IfOk result (λ whole. whole ≡ true → AscendWithin volume.old.catalog.ru.first volume.old.catalog.ru.end (begun units.new)) }
+    ensures voted { OnOk result (IsVoted volume.old.store.current volume.old.catalog.ru (map log_record_of rest.old.items) (map log_record_of rest.new.items) (map log_record_of voted.old.items) (map log_record_of voted.new.items)) }
+    ensures count { length voted.new.items + length rest.new.items ≡ length voted.old.items + length rest.old.items }
+    ensures voted_room { vec_capacity voted.old ≤ vec_capacity voted.new }
+    ensures left { vec_capacity rest.old ≤ vec_capacity rest.new }
     ensures same { OnOk result (SameVolume volume.old volume.new) }
     ensures down { OnErr result (LeavesOld volume.old volume.new.store.disk) }
     ensures kept { volume.new.catalog ≡ volume.old.catalog }
@@ -112,7 +122,7 @@ fn read_units<D: Disk>(
 {
     one_content();
     let span = *volume.ru();
-    match read_journal(volume.store(), &span, state, units, image) {
+    match read_journal(volume.store(), &span, state, units, rest, voted, image) {
         Ok(whole) => Ok(whole),
         Err(down) => Err(down),
     }
@@ -131,12 +141,15 @@ fn has_room<D: Disk>(volume: &Volume<D>, count: usize) -> bool
 
 /// Aborts the units that a fall left in the journal, in the order of their first entries, and tells their settlements, also after Down. Nothing is
 /// done where the journal is not in order, or it or a file's journal of images has not the room that the settlements take; then the table is
-/// without units. Prepared units stay, in the journal and in the table, which has those of the journal in place of those that it had.
+/// without units. Prepared units stay, in the journal and in the table, which has those of the journal in place of those that it had. Of a log's
+/// prepared records those with a Prepared entry move behind others, in the order of the entries.
 pub fn reopen_units<D: Disk>(
     volume: &mut Volume<D>,
     clock: Moment,
     state: &mut RuState,
     units: &mut UnitTable,
+    rest: &mut Vec<LogRec>,
+    voted: &mut Vec<LogRec>,
     keys: &mut ChangedKeys,
     image: &mut Record,
     entry: &mut EntryBuf,
@@ -144,6 +157,7 @@ pub fn reopen_units<D: Disk>(
 ) -> Result<(), Down>
     requires may { MayReopen clock.0 volume.old }
     requires places { 64 ≤ vec_capacity out.old }
+    requires voted { length voted.old.items + length rest.old.items ≤ vec_capacity voted.old }
     ensures reopens { OnOk result (Reopens clock.0 volume.old volume.new out.new.items (begun units.new)) }
     ensures may { OnOk result (MayAbort volume.new) }
     ensures room { OnOk result (volume.new.catalog.ru.end - volume.new.catalog.ru.first + 48 * length (begun units.new) ≤ ring_size volume.new.catalog.ru) }
@@ -155,11 +169,15 @@ pub fn reopen_units<D: Disk>(
     ensures heads { OnOk result (length volume.new.catalog.heads ≡ length volume.old.catalog.heads) }
     ensures places { 64 ≤ vec_capacity out.new }
     ensures few { length out.new.items ≤ 64 }
+    ensures voted { OnOk result (IsVoted volume.old.store.current volume.old.catalog.ru (map log_record_of rest.old.items) (map log_record_of rest.new.items) (map log_record_of voted.old.items) (map log_record_of voted.new.items)) }
+    ensures count { length voted.new.items + length rest.new.items ≡ length voted.old.items + length rest.old.items }
+    ensures voted_room { vec_capacity voted.old ≤ vec_capacity voted.new }
+    ensures left { vec_capacity rest.old ≤ vec_capacity rest.new }
     ensures counts { Counts result volume.old.store.disk volume.new.store.disk }
     ensures pool { volume.new.store.pool ≡ volume.old.store.pool }
 {
     out.clear();
-    match read_units(volume, state, units, image) {
+    match read_units(volume, state, units, rest, voted, image) {
         Err(down) => return Err(down),
         Ok(false) => {
             units.clear();

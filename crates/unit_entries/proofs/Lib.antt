@@ -6,3 +6,4 @@ pub mod StoreLemmas
 pub mod CollectLemmas
 pub mod OpenLemmas
 pub mod FiledLemmas
+pub mod VoteLemmas

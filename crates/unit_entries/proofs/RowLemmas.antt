@@ -5,8 +5,8 @@ use Rattle.std.proofs.lemmas.Bool.{false≢true}
 use Rattle.std.proofs.lemmas.Bool.Decides.{nat_tests}
 use Rattle.std.proofs.lemmas.List.{map-append, length-append, length-set, take_more, take-map}
 use Rattle.indexmap.specs.IndexSet.{IndexSet, insert_key, spare}
-use Rattle.record_locks.specs.declared.place.Place.{Place}
-use Rattle.record_locks.specs.Table.{same_place}
+use Rattle.table_keys.specs.declared.place.Place.{Place}
+use Rattle.table_keys.specs.Places.{same_place}
 use Rattle.std.specs.List.{AllByRecursion, list_any, position_or_len}
 use Rattle.unit_entries.specs.declared.keys.ChangedKey.{ChangedKey}
 use Rattle.unit_entries.specs.Keys.{KeyTold, is_same, find_key, keys_after, with_later}

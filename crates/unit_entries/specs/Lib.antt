@@ -4,3 +4,4 @@ pub mod Collecting
 pub mod Told
 pub mod Reading
 pub mod Opening
+pub mod Voting

@@ -2,7 +2,7 @@
 use Rattle.std.specs.Prelude.{◌≡◌, ℕ, ◌<◌, ◌≤◌, ◌+◌, ◌^◌, true, List, Some, None, Vec, length, map, take, slice_get, vec_capacity}
 use Rattle.std.specs.List.{AllByRecursion}
 use Rattle.indexmap.specs.IndexSet.{IndexSet, spare}
-use Rattle.record_locks.specs.declared.place.Place.{Place}
+use Rattle.table_keys.specs.declared.place.Place.{Place}
 use Rattle.vms_base.specs.Keys.{key_of}
 use Rattle.unit_entries.specs.declared.keys.ChangedKey.{ChangedKey}
 use Rattle.unit_entries.specs.Keys.{KeyTold, is_same, find_key}

@@ -2,15 +2,15 @@
 ghost use Rattle.std.specs.Prelude.{◌≡◌, ◌≤◌, ◌<◌, ◌+◌, ◌^◌, ℕ, List, [], Option, Some, None, length, map, IfOk, IfSome, IfNone, slice_get, position, is_some};
 ghost use Rattle.std.specs.List.{list_any};
 ghost use Rattle.indexmap.specs.IndexSet.{insert_key, spare};
-ghost use Rattle.record_locks.specs.Table.{same_place};
+ghost use Rattle.table_keys.specs.Places.{same_place};
 ghost use Rattle.sequence_laws.specs.Undoing.{lower};
 ghost use Rattle.unit_entries.specs.Keys.{KeyTold, keys_after, number_for, lowest_in, lowest_with, lesser, IsLeast, NoneFrom};
 ghost use Rattle.unit_entries.specs.Rows.{key_said, AreKept};
 
 use indexmap::IndexSet;
-use record_locks::Place;
 use std::alloc::{AllocError, Global};
 use std::marker::Model;
+use table_keys::Place;
 use vms_base::Key;
 
 /// How many keys a unit may have changed.

@@ -1,5 +1,5 @@
 // The journal of recovery units as a restart reads it.
-ghost use Rattle.std.specs.Prelude.{◌≡◌, ◌≤◌, ◌<◌, ◌+◌, ◌^◌, ◌∷◌, ◌++◌, ◌==◌, ℕ, List, [], None, true, false, OnOk, OnErr, IfOk, IfErr, IfSome, IsSome, length, is_err};
+ghost use Rattle.std.specs.Prelude.{◌≡◌, ◌≤◌, ◌<◌, ◌+◌, ◌^◌, ◌∷◌, ◌++◌, ◌==◌, ℕ, List, [], None, true, false, OnOk, OnErr, IfOk, IfErr, IfSome, IsSome, length, is_err, map, vec_capacity};
 ghost use Rattle.vms_base.specs.Ids.{serial_of, tid_of};
 ghost use Rattle.journal_format.specs.Heads.{entry_of, kind_code};
 ghost use Rattle.journal_model.specs.Entries.{Entry};
@@ -7,10 +7,13 @@ ghost use Rattle.journal_model.specs.Ring.{IsJournal};
 ghost use Rattle.journal_store.specs.Leaving.{OnlyReads, Fell};
 ghost use Rattle.journal_store.specs.Rings.{IsRing};
 ghost use Rattle.ru_journal.specs.Told.{after, is_out_of_order, nothing_told, told_by};
+ghost use Rattle.tm_types.specs.Parts.{log_record_of};
 ghost use Rattle.unit_table.specs.Units.{begun, first_that, is_of, new_unit, unit_at, with_unit, without_first};
 ghost use Rattle.unit_entries.specs.Opening.{AreAlike, AreChangesIn, AreFiledOf, AscendWithin, BeginWithin, more_open, opened_after};
 ghost use Rattle.unit_entries.specs.Reading.{placed, AreInOrder};
+ghost use Rattle.unit_entries.specs.Voting.{IsVoted};
 
+use crate::voting::take_vote;
 use block_disk::Disk;
 use careful_write::{Down, Store};
 use file_base::Span;
@@ -18,7 +21,7 @@ use journal_format::{EntryHead, EntryKind};
 use journal_store::entry_at;
 use ru_journal::{MOST_ENTRIES, RuState};
 use unit_table::UnitTable;
-use vms_base::{Record, Serial};
+use vms_base::{LogRec, Record, Serial};
 
 // Whether an entry tells that a branch is settled.
 fn settles(e: &EntryHead) -> bool
@@ -97,16 +100,23 @@ fn follow_entry(units: &mut UnitTable, position: u64, e: &EntryHead)
     }
 }
 
-// Takes one entry more. False where it may not stand there, or there is no room for it.
-fn take_entry(state: &mut RuState, units: &mut UnitTable, position: u64, e: &EntryHead) -> bool
-    requires alike { AreAlike state.old.units (begun units.old) }
+// Takes one entry more, where all before it were taken. False where they were not, or it may not stand there, or there is no room for it.
+fn take_entry(
+    whole: bool,
+    state: &mut RuState,
+    units: &mut UnitTable,
+    position: u64,
+    e: &EntryHead,
+) -> bool
+    requires alike { whole ≡ true → AreAlike state.old.units (begun units.old) }
+    ensures before { result ≡ true → whole ≡ true }
     ensures taken { result ≡ true → state.new ≡ after position (entry_of e.now []) state.old }
     ensures units { result ≡ true → begun units.new ≡ opened_after position (entry_of e.now []) (begun units.old) }
     ensures order { result ≡ true → is_out_of_order (entry_of e.now []) state.old ≡ false }
     ensures alike { result ≡ true → AreAlike state.new.units (begun units.new) }
-    ensures may { state.old.entries < 87381 → e.now.file < 64 → is_out_of_order (entry_of e.now []) state.old ≡ false → result ≡ true }
+    ensures may { whole ≡ true → state.old.entries < 87381 → e.now.file < 64 → is_out_of_order (entry_of e.now []) state.old ≡ false → result ≡ true }
 {
-    if state.taken() >= MOST_ENTRIES || e.file >= 64 {
+    if !whole || state.taken() >= MOST_ENTRIES || e.file >= 64 {
         return false;
     }
     if state.take(position, e).is_err() {
@@ -117,15 +127,19 @@ fn take_entry(state: &mut RuState, units: &mut UnitTable, position: u64, e: &Ent
 }
 
 /// Reads the entries of a journal, the oldest first, in place of those that were taken, and puts the units that they leave in place of those of the
-/// table. False where one of them may not stand there; those before it are taken then.
+/// table. False where one of them may not stand there; those before it are taken then. Of a log's prepared records those of the Prepared entries move
+/// behind others, in the order of these entries, also where an entry may not stand there.
 pub fn read_journal<D: Disk>(
     store: &mut Store<D>,
     span: &Span,
     state: &mut RuState,
     units: &mut UnitTable,
+    rest: &mut Vec<LogRec>,
+    out: &mut Vec<LogRec>,
     image: &mut Record,
 ) -> Result<bool, Down>
     requires ring { IsRing span.now store.old.disk }
+    requires room { length out.old.items + length rest.old.items ≤ vec_capacity out.old }
     ensures told { IfOk result (λ whole. whole ≡ true → IfSome store.old.current (λ c. (es : List Entry) → IsJournal c span.now es → state.new ≡ told_by (placed span.now.first es))) }
     ensures whole { IfOk result (λ whole. IfSome store.old.current (λ c. (es : List Entry) → IsJournal c span.now es → length es ≤ 87381 → AreInOrder nothing_told (placed span.now.first es) → whole ≡ true)) }
     ensures found { IfOk result (λ whole. whole ≡ true → IfSome store.old.current (λ c. (es : List Entry) → IsJournal c span.now es → AreChangesIn (placed span.now.first es) (begun units.new))) }
@@ -133,23 +147,27 @@ pub fn read_journal<D: Disk>(
     ensures alike { IfOk result (λ whole. whole ≡ true → AreAlike state.new.units (begun units.new)) }
     ensures within { IfOk result (λ whole. whole ≡ true → BeginWithin span.now (begun units.new)) }
     ensures ascends { IfOk result (λ whole. whole ≡ true → AscendWithin span.now.first span.now.end (begun units.new)) }
+    ensures voted { OnOk result (IsVoted store.old.current span.now (map log_record_of rest.old.items) (map log_record_of rest.new.items) (map log_record_of out.old.items) (map log_record_of out.new.items)) }
+    ensures count { length out.new.items + length rest.new.items ≡ length out.old.items + length rest.old.items }
+    ensures room { vec_capacity out.old ≤ vec_capacity out.new }
+    ensures left { vec_capacity rest.old ≤ vec_capacity rest.new }
     ensures ok { OnOk result (OnlyReads result store.old store.new) }
     ensures down { IfErr result (λ down. Fell down store.old store.new) }
 {
     state.clear();
     units.clear();
+    let mut whole = true;
     let mut position = span.first;
     while position < span.end {
         match entry_at(store, span, position, image) {
             Err(down) => return Err(down),
             Ok(None) => return Ok(false),
             Ok(Some((e, next))) => {
-                if !take_entry(state, units, position, &e) {
-                    return Ok(false);
-                }
+                take_vote(&e, rest, out);
+                whole = take_entry(whole, state, units, position, &e);
                 position = next;
             }
         }
     }
-    Ok(true)
+    Ok(whole)
 }

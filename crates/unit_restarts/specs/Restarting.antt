@@ -10,8 +10,8 @@ use Rattle.run_model.specs.World.{records_by}
 use Rattle.tm_types.specs.Parts.{log_record_of}
 use Rattle.unit_aborts.specs.Reopening.{Reopens, ReopensNot}
 use Rattle.unit_aborts.specs.declared.reopening.AbortedUnit.{AbortedUnit}
+use Rattle.unit_entries.specs.Voting.{votes_in}
 use Rattle.unit_journal.specs.Groups.{LeavesOld}
-use Rattle.unit_returns.specs.Arranging.{votes_in}
 use Rattle.unit_returns.specs.Returning.{AreAllChangesAt, AreOfRecords, HaveChanges, HoldChanges}
 use Rattle.unit_table.specs.Units.{OpenUnit, Units, begun}
 use Rattle.vms_base.specs.declared.protocol.LogRec.{LogRec}

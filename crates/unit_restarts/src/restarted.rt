@@ -16,7 +16,7 @@ pub struct Restarted {
     pub(crate) committed: Vec<LogRec>,
     // The places of the prepared branches' units, in the order of their records.
     pub(crate) places: Vec<u8>,
-    // The prepared records in the order of the slots.
+    // The prepared records of branches without an entry in the journal, in the order of the slots.
     pub(crate) listed: Vec<LogRec>,
 }
 

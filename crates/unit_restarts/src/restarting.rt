@@ -1,10 +1,8 @@
 //! A volume and its log are taken up after a fall.
-ghost use Rattle.std.specs.Prelude.{◌≡◌, ◌≤◌, ◌<◌, ◌+◌, ◌-◌, [], OnOk, OnErr, length, map, max, vec_capacity};
+ghost use Rattle.std.specs.Prelude.{◌≡◌, ◌≤◌, ◌<◌, ◌+◌, ◌-◌, ◌++◌, [], OnOk, OnErr, length, map, max, vec_capacity};
 ghost use Rattle.careful_write.specs.Down.{Counts};
-ghost use Rattle.careful_write.specs.State.{IsReady};
 ghost use Rattle.image_room.specs.Room.{AllSettlementsFit};
 ghost use Rattle.journal_model.specs.Ring.{ring_size};
-ghost use Rattle.journal_store.specs.Rings.{IsRing};
 ghost use Rattle.lmcp_log.specs.Log.{with_few_prepared};
 ghost use Rattle.log_laws.specs.Slots.{committed_of, prepared_of, records_in};
 ghost use Rattle.tm_types.specs.Parts.{log_record_of};
@@ -12,10 +10,7 @@ ghost use Rattle.unit_aborts.specs.Aborting.{MayAbort};
 ghost use Rattle.unit_aborts.specs.Growing.{AreTold, GrowsBy};
 ghost use Rattle.unit_aborts.specs.Reopening.{MayReopen};
 ghost use Rattle.unit_entries.specs.Opening.{AscendWithin};
-ghost use Rattle.unit_journal.specs.Groups.{LeavesOld};
-ghost use Rattle.unit_returns.specs.Arranging.{AreArranged};
 ghost use Rattle.unit_table.specs.Units.{begun, no_units, owed};
-ghost use Rattle.volume.specs.State.{SameVolume};
 ghost use Rattle.unit_restarts.specs.Restarting.{Restarts, RestartsNot};
 
 use crate::restarted::Restarted;
@@ -28,7 +23,7 @@ use ru_journal::RuState;
 use std::alloc::{AllocError, Global};
 use unit_aborts::reopen_units;
 use unit_entries::ChangedKeys;
-use unit_returns::{arrange, take_units};
+use unit_returns::take_units;
 use unit_table::{MOST_UNITS, UnitTable};
 use vms_base::{LogRec, Moment, Record};
 use volume::Volume;
@@ -50,37 +45,34 @@ impl RestartRoom {
     }
 }
 
-// Lists the records of a log, the prepared ones in the order in which their branches were prepared. Those behind the 64th are read as free.
-fn list_records<D: Disk>(
-    volume: &mut Volume<D>,
-    log: &mut Log,
-    listed: &mut Vec<LogRec>,
-    prepared: &mut Vec<LogRec>,
-    committed: &mut Vec<LogRec>,
-    image: &mut Record,
-) -> Result<(), Down>
-    requires ready { IsReady volume.old.store }
-    requires ring { IsRing volume.old.catalog.ru volume.old.store.disk }
+// Lists the records of a log in the order of its slots. The prepared ones behind the 64th are read as free.
+fn list_records(log: &mut Log, listed: &mut Vec<LogRec>, committed: &mut Vec<LogRec>)
     requires listed { 64 ≤ vec_capacity listed.old }
-    requires prepared { 64 ≤ vec_capacity prepared.old }
     requires committed { 512 ≤ vec_capacity committed.old }
     ensures log { log.new ≡ with_few_prepared 64 log.old }
+    ensures prepared { map log_record_of listed.new.items ≡ prepared_of (records_in log.new) }
     ensures committed { map log_record_of committed.new.items ≡ committed_of (records_in log.new) }
-    ensures arranged { OnOk result (AreArranged volume.old (prepared_of (records_in log.new)) (map log_record_of prepared.new.items)) }
-    ensures many { OnOk result (length prepared.new.items ≡ length (prepared_of (records_in log.new))) }
-    ensures few { OnOk result (length prepared.new.items ≤ 64) }
+    ensures few { length listed.new.items ≤ 64 }
     ensures listed_room { 64 ≤ vec_capacity listed.new }
-    ensures prepared_room { 64 ≤ vec_capacity prepared.new }
     ensures committed_room { 512 ≤ vec_capacity committed.new }
-    ensures same { OnOk result (SameVolume volume.old volume.new) }
-    ensures down { OnErr result (LeavesOld volume.old volume.new.store.disk) }
-    ensures kept { volume.new.catalog ≡ volume.old.catalog }
-    ensures counts { Counts result volume.old.store.disk volume.new.store.disk }
-    ensures pool { volume.new.store.pool ≡ volume.old.store.pool }
 {
     log.pass_over(MOST_UNITS);
     log.list(listed, committed);
-    arrange(volume, listed, prepared, image)
+}
+
+// Lists records behind others.
+fn list_behind(records: &[LogRec], out: &mut Vec<LogRec>)
+    requires room { length out.old.items + length records.now ≤ vec_capacity out.old }
+    ensures list { out.new.items ≡ out.old.items ++ records.now }
+    ensures room { vec_capacity out.old ≤ vec_capacity out.new }
+{
+    match records {
+        [] => {}
+        [r, rest @ ..] => {
+            out.push_reserved(r.copy());
+            list_behind(rest, out);
+        }
+    }
 }
 
 // Reads the prepared records behind so many as free. Where there are such the records are listed again, the prepared ones in the order of the slots.
@@ -141,27 +133,20 @@ pub fn restart<D: Disk>(
     ensures pool { volume.new.store.pool ≡ volume.old.store.pool }
 {
     out.clear();
-    match list_records(
-        volume,
-        log,
-        &mut out.listed,
-        &mut out.prepared,
-        &mut out.committed,
-        image,
-    ) {
-        Err(down) => return Err(down),
-        Ok(()) => {}
-    }
+    list_records(log, &mut out.listed, &mut out.committed);
     let undone = reopen_units(
         volume,
         clock,
         &mut room.state,
         &mut room.left,
+        &mut out.listed,
+        &mut out.prepared,
         keys,
         image,
         entry,
         &mut out.undone,
     );
+    list_behind(&out.listed, &mut out.prepared);
     list_few(
         log,
         MOST_UNITS - out.undone.len(),

@@ -1,6 +1,5 @@
 -- The files of units that come back are those of their entries, as the journal had them.
-use Rattle.std.proofs.Common.{◌≡◌, ℕ, Bool, List, [], ◌∷◌, Option, Some, None, refl, sym, ap, subst, ◌∙◌}
-use Rattle.std.specs.List.{AllByRecursion}
+use Rattle.std.proofs.Common.{◌≡◌, ℕ, List, [], ◌∷◌, Option, Some, None, refl, sym, ap, subst, ◌∙◌}
 use Rattle.journal_model.specs.Entries.{Entry}
 use Rattle.unit_entries.proofs.OpenLemmas.{first_holds}
 use Rattle.unit_entries.proofs.StoreLemmas.{of_any}

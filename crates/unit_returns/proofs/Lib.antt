@@ -1,4 +1,3 @@
-pub mod Orders
 pub mod Locks
 pub mod Units
 pub mod Files

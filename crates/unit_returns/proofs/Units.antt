@@ -1,9 +1,9 @@
 -- Units that come back, entry by entry and unit by unit.
-use Rattle.std.proofs.Common.{◌≡◌, ℕ, ◌-◌, ◌<◌, ◌≤◌, true, Bool, List, [], ◌∷◌, ◌++◌, Option, Some, None, Result, Ok, Err, OnOk, length, take, drop, get_or, refl, sym, ap, subst, ◌∙◌, arith, append-nil, append_assoc, get_or-set_same, length-set}
-use Rattle.std.specs.Prelude.{IfSome, IsSome, slice_set}
+use Rattle.std.proofs.Common.{◌≡◌, ℕ, ◌-◌, ◌<◌, ◌≤◌, true, Bool, List, [], ◌∷◌, ◌++◌, Option, Some, None, Result, Ok, Err, OnOk, length, take, drop, get_or, refl, sym, ap, subst, ◌∙◌, arith, append-nil, append_assoc, get_or-set_same}
+use Rattle.std.specs.Prelude.{IfSome}
 use Rattle.std.specs.List.{AllByRecursion}
 use Rattle.std.proofs.lemmas.Bool.Decides.{nat_tests}
-use Rattle.std.proofs.lemmas.List.{set-get_or, set-set, take_all}
+use Rattle.std.proofs.lemmas.List.{take_all}
 use Rattle.commit_protocol.specs.Messages.{LogRecord}
 use Rattle.file_base.specs.declared.head.FileHead.{FileHead}
 use Rattle.journal_format.specs.Heads.{entry_of}
@@ -12,8 +12,7 @@ use Rattle.journal_model.specs.Entries.{Entry, is_key}
 use Rattle.journal_store.specs.Reading.{ReadsAt}
 use Rattle.record_locks.specs.Locks.{Lock, LockTable, with_locks}
 use Rattle.unit_entries.specs.Collecting.{AreChangesAt}
-use Rattle.unit_entries.proofs.StoreLemmas.{of_any, of_both, of_content}
-use Rattle.unit_table.proofs.OrderLemmas.{at_below}
+use Rattle.unit_entries.proofs.StoreLemmas.{of_any, of_both}
 use Rattle.unit_table.specs.Units.{OpenUnit, Units, begun, first_that, is_of, new_unit, no_files, prepared_unit, unit_at, unit_back, with_begun, with_unit, without_first}
 use Rattle.vms_model.specs.Ids.{Id}
 use Rattle.volume.specs.Catalogs.{head_at}

@@ -12,7 +12,7 @@ use std::process::Abort;
 use std::test::Fail;
 use unit_entries::*;
 use unit_table::UnitTable;
-use vms_base::{FileName, Id, Key, KeyText, Moment, NodeName, Record, Serial};
+use vms_base::{FileName, Id, Key, KeyText, LogRec, Moment, NodeName, Record, Serial};
 use volume::Volume;
 
 type Disk1 = CrashDisk<MemPlatter>;
@@ -98,6 +98,8 @@ fn read<D: Disk>(
     ends: (u64, u64),
     state: &mut RuState,
     units: &mut UnitTable,
+    rest: &mut Vec<LogRec>,
+    out: &mut Vec<LogRec>,
     image: &mut Record,
 ) -> Option<usize> {
     let (first, end) = ends;
@@ -108,7 +110,9 @@ fn read<D: Disk>(
     store.unstage();
     let _ = store.stage(600, block);
     let span = journal(600, first, end);
-    if read_journal(store, &span, state, units, image) != Ok(true) {
+    rest.clear();
+    out.clear();
+    if read_journal(store, &span, state, units, rest, out, image) != Ok(true) {
         return None;
     }
     Some(state.units().len())
@@ -128,6 +132,8 @@ struct Reading {
     store: Store<Disk1>,
     state: RuState,
     units: UnitTable,
+    rest: Vec<LogRec>,
+    out: Vec<LogRec>,
     image: Record,
 }
 
@@ -142,6 +148,8 @@ fn new_reading(alloc: Global, node: NodeName) -> Result<Option<Reading>, AllocEr
         store,
         state,
         units,
+        rest: Vec::new(alloc),
+        out: Vec::new(alloc),
         image,
     }))
 }
@@ -156,6 +164,8 @@ fn told(reading: &mut Reading, rows: &[Row], first: usize, more: usize) -> Optio
         (first as u64, end as u64),
         &mut reading.state,
         &mut reading.units,
+        &mut reading.rest,
+        &mut reading.out,
         &mut reading.image,
     )
 }

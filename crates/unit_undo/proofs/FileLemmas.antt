@@ -31,7 +31,8 @@ use Rattle.unit_laws.proofs.Tests.{never, or_either, passed}
 use Rattle.sequence_laws.specs.Undoing.{GoesBack}
 use Rattle.sequence_laws.proofs.SequenceLemmas.{earliest_is_one}
 use Rattle.directory_model.specs.Restoring.{bare, bare_leaf, bare_layout, CanRestoreBy, CanRestore, IsGrouped, IsRestored}
-use Rattle.unit_undo.specs.Steps.{has_key, slot_back, leaf_back, slots_back, AreSetBack, ArePositionsBack, ArePositions}
+use Rattle.run_model.specs.World.{IsOnItsWay}
+use Rattle.unit_undo.specs.Steps.{has_key, slot_back, leaf_back, slots_back, AreSetBack, ArePositionsBack, ArePositions, IsPartlyUndone}
 use Rattle.unit_undo.proofs.BackLemmas.{map_back, layout_is_back, owned}
 use Rattle.unit_undo.proofs.PositionLemmas.{sizes_alike, goes_as, positions_back}
 use Rattle.unit_undo.proofs.BranchLemmas.{IsOwnOr, own_or, images_still, own_images, not_by}
@@ -159,8 +160,15 @@ module _ (a b : List (List ℕ)) (h new : FileHead) (serial : Id) (ls : List Liv
       go true = earliest_is_one own key changed
       go false = own_images serial ls (map_of h a) represents.images key changed
 
-  pub kept_others : (key : Key) → changes_key key own ≡ false → map_of new b key ≡ map_of h a key
+  kept_others : (key : Key) → changes_key key own ≡ false → map_of new b key ≡ map_of h a key
   kept_others key not_own = t.map key ∙ passed (has_key key keys) _ _ (false_from_ne_true _ (λ (e : has_key key keys ≡ true). never (changes_key key own) (owned own keys key t.own e) not_own))
+
+  pub partly_back : IsPartlyUndone (h.organization ≡ kept.Sequential) own (map_of h a) (map_of new b)
+  partly_back = record { others = kept_others; own = λ key changed. subst (λ (v : Option (List ℕ)). IsOnItsWay (h.organization ≡ kept.Sequential) (map_of h a key) (earliest_before own key) v) (sym (t.map key)) (go key (has_key key keys)) }
+    where
+      go : (key : Key) (x : Bool) → IsOnItsWay (h.organization ≡ kept.Sequential) (map_of h a key) (earliest_before own key) (cond x (earliest_before own key) (map_of h a key))
+      go key true = inr (inl refl)
+      go key false = inl refl
 
   pub grouped_back : IsGrouped a h ls b new
   grouped_back = record {
@@ -210,8 +218,22 @@ module _ (a b : List (List ℕ)) (h new : FileHead) (serial : Id) (ls : List Liv
   still (Text x) not_own = refl
   still End not_own = refl
 
-  pub kept_still : (key : Key) → changes_key key own' ≡ false → map_of new b key ≡ map_of h a key
+  kept_still : (key : Key) → changes_key key own' ≡ false → map_of new b key ≡ map_of h a key
   kept_still key not_own = ap (λ (m : Map). m key) (map_is new b new_sequential) ∙ still key not_own ∙ sym (ap (λ (m : Map). m key) (map_is h a sequential))
+
+  pub partly_still : IsPartlyUndone (h.organization ≡ kept.Sequential) own' (map_of h a) (map_of new b)
+  partly_still = record { others = kept_still; own = λ key changed. go key (t.straight key changed) }
+    where
+      old : (key : Key) → map_of h a key ≡ map_of_list (records_in h a) key
+      old key = ap (λ (m : Map). m key) (map_is h a sequential)
+
+      now : (key : Key) → map_of new b key ≡ map_of_list (records_in new b) key
+      now key = ap (λ (m : Map). m key) (map_is new b new_sequential)
+
+      go : (key : Key) → IsOnItsWay (Unit {0}) (map_of_list (records_in h a) key) (earliest_before own' key) (map_of_list (records_in new b) key) → IsOnItsWay (h.organization ≡ kept.Sequential) (map_of h a key) (earliest_before own' key) (map_of new b key)
+      go key (inl stands) = inl (now key ∙ stands ∙ sym (old key))
+      go key (inr (inl first)) = inr (inl (now key ∙ first))
+      go key (inr (inr gone)) = inr (inr (sequential, now key ∙ gone.1))
 
   pub still_images : AllByRecursion (IsOwnOr own') ls → AllByRecursion (λ (l : LiveChanges). HasImages (map_of new b) l.changes) ls
   still_images each = images_still own' ls (map_of h a) (map_of new b) each represents.images (subst (λ (m : Map). HasImages m own') (sym (map_is new b new_sequential)) t.images) kept_still

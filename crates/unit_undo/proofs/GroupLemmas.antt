@@ -9,7 +9,7 @@ use Rattle.file_base.specs.declared.head.Organization.TheVariants as kept
 use Rattle.vms_model.specs.Ids.{Id}
 use Rattle.records_model.specs.Records.{Change}
 use Rattle.records_model.specs.Slots.{size_of}
-use Rattle.records_model.specs.History.{LiveChanges}
+use Rattle.records_model.specs.History.{LiveChanges, changes_by}
 use Rattle.careful_write.specs.State.{EachWhole}
 use Rattle.file_base.specs.declared.head.Span.{Span}
 use Rattle.file_images.specs.Files.{SameRing}
@@ -27,7 +27,8 @@ use Rattle.sequence_laws.specs.Undoing.{GoesBack}
 use Rattle.run_model.specs.World.{File}
 use Rattle.directory_model.specs.Files.{StandsCarried, head_at, file_at}
 use Rattle.directory_model.specs.Restoring.{bare_layout, CanRestoreBy, IsLeft, IsPlaceLeft, AreLeft, IsGrouped, IsPlaceGrouped, AreGrouped}
-use Rattle.unit_undo.specs.Way.{AreKeptBeside, IsPlaceKept, KeepsBeside}
+use Rattle.unit_undo.specs.Steps.{IsPartlyUndone}
+use Rattle.unit_undo.specs.Way.{ArePartlyUndone, IsPlacePartly}
 
 all_so : {X : Type 0} (P Q : X → Type 0) (xs : List X) → ((x : X) → P x → Q x) → AllByRecursion P xs → AllByRecursion Q xs
 all_so P Q [] f all = tt
@@ -115,31 +116,32 @@ grouped_more a b c heads mid directory f first h new file are below there named 
     carried_on : {k : FileHead} → StandsCarried k a b → StandsCarried k b c → StandsCarried k a c
     carried_on one two = record { after = λ m. rings (one.after m) (two.after m); before = λ m. rings (one.before m) (two.before m); save = λ m n in_it. one.save m n in_it ∙ two.save m n in_it }
 
--- What a branch did not change.
+-- What a branch changed is partly undone, and what it did not stands.
 
-beside_place : (serial : Id) (a : List (List ℕ)) (o : Option FileHead) (p : Option File) → IsPlaceKept serial a o p a o
-beside_place serial a None p = tt
-beside_place serial a (Some h) None = tt
-beside_place serial a (Some h) (Some file) = λ key other. refl
+partly_place : (serial : Id) (a : List (List ℕ)) (o : Option FileHead) (p : Option File) → IsPlacePartly serial a o p a o
+partly_place serial a None p = tt
+partly_place serial a (Some h) None = tt
+partly_place serial a (Some h) (Some file) = record { others = λ key other. refl; own = λ key changed. inl refl }
 
-pub beside_itself : (serial : Id) (a : List (List ℕ)) (heads : List (Option FileHead)) (directory : List (Option File)) → AreKeptBeside serial a heads directory a heads
-beside_itself serial a heads directory f = beside_place serial a (head_at heads f) (file_at directory f)
+pub partly_itself : (serial : Id) (a : List (List ℕ)) (heads : List (Option FileHead)) (directory : List (Option File)) → ArePartlyUndone serial a heads directory a heads
+partly_itself serial a heads directory f = partly_place serial a (head_at heads f) (file_at directory f)
 
-beside_local : (serial : Id) (a b c : List (List ℕ)) (o : Option FileHead) (p : Option File) (m : Option FileHead) → ((h : FileHead) → m ≡ Some h → AgreesOn h b c) → IsPlaceGrouped a o p b m → IsPlaceKept serial a o p b m → IsPlaceKept serial a o p c m
-beside_local serial a b c None p m agrees is k = tt
-beside_local serial a b c (Some first) None m agrees is k = tt
-beside_local serial a b c (Some first) (Some file) None agrees is k = tt
-beside_local serial a b c (Some first) (Some file) (Some h) agrees is k = λ key other. ap (λ (m : Map). m key) (sym (local.local_law h b c is.form (agrees h refl) is.laid)) ∙ k key other
+partly_local : (serial : Id) (a b c : List (List ℕ)) (o : Option FileHead) (p : Option File) (m : Option FileHead) → ((h : FileHead) → m ≡ Some h → AgreesOn h b c) → IsPlaceGrouped a o p b m → IsPlacePartly serial a o p b m → IsPlacePartly serial a o p c m
+partly_local serial a b c None p m agrees is k = tt
+partly_local serial a b c (Some first) None m agrees is k = tt
+partly_local serial a b c (Some first) (Some file) None agrees is k = tt
+partly_local serial a b c (Some first) (Some file) (Some h) agrees is k =
+    subst (λ (m : Map). IsPartlyUndone (first.organization ≡ kept.Sequential) (changes_by serial file.history.live) (map_of first a) m) (local.local_law h b c is.form (agrees h refl) is.laid) k
 
-beside_set : (serial : Id) (a c : List (List ℕ)) (o : Option FileHead) (p : Option File) (first new : FileHead) (file : File) → o ≡ Some first → p ≡ Some file → KeepsBeside serial a first file c new → IsPlaceKept serial a o p c (Some new)
-beside_set serial a c o p first new file there named k = subst (λ x. IsPlaceKept serial a x p c (Some new)) (sym there) (subst (λ x. IsPlaceKept serial a (Some first) x c (Some new)) (sym named) k)
+partly_set : (serial : Id) (a c : List (List ℕ)) (o : Option FileHead) (p : Option File) (first new : FileHead) (file : File) → o ≡ Some first → p ≡ Some file → IsPartlyUndone (first.organization ≡ kept.Sequential) (changes_by serial file.history.live) (map_of first a) (map_of new c) → IsPlacePartly serial a o p c (Some new)
+partly_set serial a c o p first new file there named k = subst (λ x. IsPlacePartly serial a x p c (Some new)) (sym there) (subst (λ x. IsPlacePartly serial a (Some first) x c (Some new)) (sym named) k)
 
-pub beside_more : (serial : Id) (a b c : List (List ℕ)) (heads mid : List (Option FileHead)) (directory : List (Option File)) (f : ℕ) (first h new : FileHead) (file : File) → AreGrouped a heads directory b mid → AreKeptBeside serial a heads directory b mid → f < length mid → head_at heads f ≡ Some first →
-    file_at directory f ≡ Some file → KeepsBeside serial a first file c new → ((g : ℕ) (other : FileHead) → g ≢ f → head_at mid g ≡ Some other → AgreesOn other b c) → AreKeptBeside serial a heads directory c (slice_set mid f (Some new))
-beside_more serial a b c heads mid directory f first h new file are kept below there named is others g = elim (cases_eq f g) [
-  | inl same ↦ subst (λ (k : ℕ). IsPlaceKept serial a (head_at heads k) (file_at directory k) c (head_at (slice_set mid f (Some new)) k)) same
-      (subst (λ (m : Option FileHead). IsPlaceKept serial a (head_at heads f) (file_at directory f) c m) (sym (get_or-set_same mid f (Some new) None below)) (beside_set serial a c (head_at heads f) (file_at directory f) first new file there named is))
+pub partly_more : (serial : Id) (a b c : List (List ℕ)) (heads mid : List (Option FileHead)) (directory : List (Option File)) (f : ℕ) (first h new : FileHead) (file : File) → AreGrouped a heads directory b mid → ArePartlyUndone serial a heads directory b mid → f < length mid → head_at heads f ≡ Some first →
+    file_at directory f ≡ Some file → IsPartlyUndone (first.organization ≡ kept.Sequential) (changes_by serial file.history.live) (map_of first a) (map_of new c) → ((g : ℕ) (other : FileHead) → g ≢ f → head_at mid g ≡ Some other → AgreesOn other b c) → ArePartlyUndone serial a heads directory c (slice_set mid f (Some new))
+partly_more serial a b c heads mid directory f first h new file are kept below there named is others g = elim (cases_eq f g) [
+  | inl same ↦ subst (λ (k : ℕ). IsPlacePartly serial a (head_at heads k) (file_at directory k) c (head_at (slice_set mid f (Some new)) k)) same
+      (subst (λ (m : Option FileHead). IsPlacePartly serial a (head_at heads f) (file_at directory f) c m) (sym (get_or-set_same mid f (Some new) None below)) (partly_set serial a c (head_at heads f) (file_at directory f) first new file there named is))
   | inr other ↦ let apart : g ≢ f = λ e. other (sym e) in
-      subst (λ (m : Option FileHead). IsPlaceKept serial a (head_at heads g) (file_at directory g) c m) (sym (get_or-set_other mid f g (Some new) None apart))
-      (beside_local serial a b c (head_at heads g) (file_at directory g) (head_at mid g) (λ x at. others g x apart at) (are.each g) (kept g))
+      subst (λ (m : Option FileHead). IsPlacePartly serial a (head_at heads g) (file_at directory g) c m) (sym (get_or-set_other mid f g (Some new) None apart))
+      (partly_local serial a b c (head_at heads g) (file_at directory g) (head_at mid g) (λ x at. others g x apart at) (are.each g) (kept g))
 ]

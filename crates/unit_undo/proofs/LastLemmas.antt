@@ -11,7 +11,7 @@ use Rattle.directory_model.specs.Restoring.{AreGrouped, IsPlaceRestored}
 use Rattle.unit_undo.specs.FileWays.{IsGoing, Undo}
 use Rattle.unit_undo.specs.Undoing.{GoesOn, IsFew}
 use Rattle.unit_undo.specs.UnitWays.{HasUndone, IsUndoneIn, undo_of}
-use Rattle.unit_undo.specs.Way.{AreKeptBeside, FailsOnTheWay, IsOnTheWay, KeepsJournal}
+use Rattle.unit_undo.specs.Way.{ArePartlyUndone, FailsOnTheWay, IsOnTheWay, KeepsJournal}
 use Rattle.unit_undo.proofs.StepLemmas.{failed_since, fails_going, goes_through, now_on_the_way, sound_on}
 
 -- what was staged is staged still, or applied
@@ -28,7 +28,7 @@ module _ (u : Undo) (w y : VolumeState) (goes : GoesOn w y) (catalog : y.catalog
     size = g.size ∙ sym goes.quiet.size;
     sound = sound_on u.heads w y goes g.sound;
     grouped = subst (λ (k : Catalog). AreGrouped u.content u.heads u.directory g.now k.heads) (sym catalog) g.grouped;
-    beside = subst (λ (k : Catalog). AreKeptBeside u.serial u.content u.heads u.directory g.now k.heads) (sym catalog) g.beside;
+    partly = subst (λ (k : Catalog). ArePartlyUndone u.serial u.content u.heads u.directory g.now k.heads) (sym catalog) g.partly;
     journal = subst (λ (k : Catalog). KeepsJournal k.ru u.content g.now) (sym catalog) g.journal;
     before = (held g).0;
     applied = (held g).1;

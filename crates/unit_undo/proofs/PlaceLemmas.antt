@@ -32,7 +32,7 @@ use Rattle.sequence_laws.proofs.OthersLemmas.{quiet_goes, replaced}
 use Rattle.sequence_laws.proofs.ChangeLemmas.{nothing_goes_back}
 use Rattle.volume.specs.Catalogs.{IsSound}
 use Rattle.volume.specs.State.{SameVolume, VolumeState}
-use Rattle.run_model.specs.World.{File}
+use Rattle.run_model.specs.World.{File, IsOnItsWay}
 use Rattle.directory_model.specs.Files.{head_at}
 use Rattle.directory_model.specs.Restoring.{CanRestoreBy}
 use Rattle.volume_files.specs.Staging.{SetsBack, CutsFile}
@@ -46,7 +46,7 @@ use Rattle.unit_entries.proofs.KeyLemmas.{number_is, number_itself}
 use Rattle.unit_undo.proofs.ReadLemmas.{back_to}
 use Rattle.unit_undo.proofs.BranchLemmas.{IsOwnOrBeside, own_or, own_or_beside, own_images}
 use Rattle.unit_undo.proofs.PositionLemmas.{AlikeSizes, sizes_alike, fits_as, alike_turned, taken_moves, nothing_cut, are_cut, position_suits, position_takes, is_set_back, set_beside, is_gone}
-use Rattle.unit_undo.proofs.FileLemmas.{kept_so, map_is, grouped_positions, kept_still, restored_positions, still_images}
+use Rattle.unit_undo.proofs.FileLemmas.{kept_so, map_is, grouped_positions, partly_still, restored_positions, still_images}
 use Rattle.unit_undo.proofs.StepLemmas.{still_going}
 use Rattle.unit_undo.proofs.SettingLemmas.{told_at_place, found_place, change_stands}
 
@@ -64,6 +64,7 @@ rebased a b c h new cs from same t = record {
   begins = subst (λ (rs : List (List ℕ)). GoesBack h cs rs t.back) same t.begins;
   goes = t.goes;
   images = t.images;
+  straight = λ key changed. subst (λ (rs : List (List ℕ)). IsOnItsWay (Unit {0}) (map_of_list rs key) (earliest_before cs key) (map_of_list (records_in new c) key)) same (t.straight key changed);
   done = t.done;
   in_place = t.in_place;
 }
@@ -219,7 +220,7 @@ module _ (u : Undo) (f : ℕ) (first : FileHead) (file : File) (ks : List KeyTol
     cut_begin from off changes cuts = record {
       way = still_going u f first first h file node v w long sound there s.way c.0 c.1 changes s.there s.named
           (grouped_positions u.content c.0 first h u.serial file.history.live (map_in (records file.history)) 0 sequential s.left.represents back others)
-          (kept_still u.content c.0 first h u.serial file.history.live (map_in (records file.history)) 0 sequential s.left.represents back);
+          (partly_still u.content c.0 first h u.serial file.history.live (map_in (records file.history)) 0 sequential s.left.represents back);
       back = back;
       others = others;
     }
@@ -370,7 +371,7 @@ module _ (u : Undo) (f : ℕ) (first : FileHead) (file : File) (ks : List KeyTol
         positions_more = record {
           way = still_going u f first h new file node w x long sound there p.way done.0 done.1 changes s.there s.named
               (grouped_positions u.content done.0 first new u.serial file.history.live (map_in (records file.history)) (n + 1) sequential s.left.represents back others)
-              (kept_still u.content done.0 first new u.serial file.history.live (map_in (records file.history)) (n + 1) sequential s.left.represents back);
+              (partly_still u.content done.0 first new u.serial file.history.live (map_in (records file.history)) (n + 1) sequential s.left.represents back);
           back = back;
           others = others;
         }

@@ -1,5 +1,5 @@
 -- Positions of a sequential file are taken away and set back one after another.
-use Rattle.std.proofs.Common.{◌≡◌, ◌≢◌, ℕ, zero, suc, ◌+◌, ◌-◌, ◌*◌, ◌<◌, ◌≤◌, true, false, cond, List, [], ◌∷◌, ◌++◌, length, take, Option, Some, None, refl, sym, ◌∙◌, ap, subst, inl, inr, ◌⊎◌, ◌||◌, arith}
+use Rattle.std.proofs.Common.{◌≡◌, ◌≢◌, ℕ, zero, suc, ◌+◌, ◌-◌, ◌*◌, ◌<◌, ◌≤◌, Bool, true, false, cond, List, [], ◌∷◌, ◌++◌, length, take, Option, Some, None, refl, sym, ◌∙◌, ap, subst, inl, inr, ◌⊎◌, ◌||◌, arith}
 use Rattle.std.specs.Prelude.{nat_le, IsSome, IsSomeAnd}
 use Rattle.std.specs.List.{All, slice_get}
 use Rattle.std.specs.Option.{is_none}
@@ -7,7 +7,7 @@ use Rattle.std.proofs.lemmas.Bool.{false_from_ne_true}
 use Rattle.std.proofs.lemmas.List.Elements.{All-head, All-tail}
 use Rattle.file_base.specs.declared.head.FileHead.{FileHead}
 use Rattle.change_set.specs.Files.{SameFile}
-use Rattle.change_set.specs.Maps.{set_key}
+use Rattle.change_set.specs.Maps.{same_key, set_key}
 use Rattle.vms_model.specs.Keys.{Key, Number, Text, End}
 use Rattle.records_model.specs.Records.{Change}
 use Rattle.records_model.specs.History.{changes_key}
@@ -19,12 +19,13 @@ use Rattle.seq_file.specs.Records.{record_at, map_of_list, list_set, cut_from, s
 use Rattle.seq_file.proofs.RecordLaws.{one_list, record_at_past}
 use Rattle.seq_file.proofs.MapLaws.{map_set, map_cut}
 use Rattle.seq_file.proofs.FileLaws.{append_takes, used_is}
-use Rattle.unit_laws.specs.Units.{HasImages, IsImage, is_of, earliest_before, with_before_images, moves_end}
+use Rattle.unit_laws.specs.Units.{Map, HasImages, IsImage, is_of, earliest_before, with_before_images, moves_end}
 use Rattle.unit_laws.proofs.Tests.{both_ways, never, or_either, or_one, or_other, picked, passed}
 use Rattle.sequence_laws.specs.Undoing.{GoesBack, AllInPlace, lowest_absent, absent_at, lower, is_taken_away}
 use Rattle.sequence_laws.specs.Laws.{IsStep, IsFirstOff, IsSetBefore, IsChangeOf}
 use Rattle.sequence_laws.proofs.SequenceLemmas.{all_set_is_back, before, behind, cut_goes_back, in_place_gone, none_is_not, off_is_some, same_or_other, set_at, set_goes_back, set_may, some_before, some_is_one, some_of, some_same}
 use Rattle.sequence_laws.proofs.ChangeLemmas.{change_beside_goes_back}
+use Rattle.run_model.specs.World.{IsOnItsWay}
 use Rattle.unit_undo.specs.Steps.{ArePositionsBack, ArePositions, IsBeside}
 use Rattle.unit_undo.proofs.BackLemmas.{same_through}
 
@@ -124,6 +125,7 @@ module _ (a b : List (List ℕ)) (h new : FileHead) (cs : List Change) (form : I
     begins = goes;
     goes = goes;
     images = has;
+    straight = λ key changed. inl refl;
     done = λ n one below changed. absurd (omega (arith, below));
     in_place = all;
   }
@@ -134,6 +136,16 @@ module _ (a b : List (List ℕ)) (h new : FileHead) (cs : List Change) (form : I
 
     pub cut_records : records_in new b ≡ take (from - 1) (records_in h a)
     cut_records = one_list (records_in new b) (take (from - 1) (records_in h a)) (maps ∙ sym (map_cut from (records_in h a) one))
+
+    -- a position is gone, or stands
+    cut_or_left : (key : Key) → IsOnItsWay (Unit {0}) (map_of_list (records_in h a) key) (earliest_before cs key) (cut_from from (map_of_list (records_in h a)) key)
+    cut_or_left (Number n) = go (nat_le from n)
+      where
+        go : (b : Bool) → IsOnItsWay (Unit {0}) (map_of_list (records_in h a) (Number n)) (earliest_before cs (Number n)) (cond b None (map_of_list (records_in h a) (Number n)))
+        go true = inr (inr (tt, refl))
+        go false = inl refl
+    cut_or_left (Text t) = inl refl
+    cut_or_left End = inl refl
 
     step : IsStep h cs (records_in h a) back (records_in new b)
     step = subst (λ (rs : List (List ℕ)). IsStep h cs (records_in h a) back rs) (sym cut_records) (cut_goes_back h cs (records_in h a) back from goes off)
@@ -147,6 +159,7 @@ module _ (a b : List (List ℕ)) (h new : FileHead) (cs : List Change) (form : I
       begins = goes;
       goes = step.goes;
       images = step.images has;
+      straight = λ key changed. subst (λ (v : Option (List ℕ)). IsOnItsWay (Unit {0}) (map_of_list (records_in h a) key) (earliest_before cs key) v) (sym (ap (λ (m : Map). m key) maps)) (cut_or_left key);
       done = λ n first below changed. absurd (omega (arith, below));
       in_place = step.in_place;
     }
@@ -225,6 +238,14 @@ module _ (a b : List (List ℕ)) (h mid : FileHead) (cs : List Change) (from n :
       went : IsStep h cs (records_in mid b) t.back (records_in new c)
       went = subst (λ (rs : List (List ℕ)). IsStep h cs (records_in mid b) t.back rs) (sym set_records) (set_goes_back h cs (records_in mid b) t.back n r t.goes t.in_place one filled changed had)
 
+      -- the position has what it had first, and each other what it had
+      set_or_left : (key : Key) → changes_key key cs ≡ true → IsOnItsWay (Unit {0}) (map_of_list (records_in h a) key) (earliest_before cs key) (set_key (Number n) (Some r) (map_of_list (records_in mid b)) key)
+      set_or_left key own = go (same_key key (Number n)) refl
+        where
+          go : (x : Bool) → same_key key (Number n) ≡ x → IsOnItsWay (Unit {0}) (map_of_list (records_in h a) key) (earliest_before cs key) (cond x (Some r) (map_of_list (records_in mid b) key))
+          go true is = inr (inl (sym had ∙ ap (earliest_before cs) (sym (records.same_key key (Number n) is))))
+          go false other = t.straight key own
+
       pub is_set_back : ArePositionsBack a h cs (n + 1) c new
       is_set_back = record {
         same = same_through h mid new t.same same;
@@ -234,6 +255,7 @@ module _ (a b : List (List ℕ)) (h mid : FileHead) (cs : List Change) (from n :
         begins = t.begins;
         goes = went.goes;
         images = went.images t.images;
+        straight = λ key own. subst (λ (v : Option (List ℕ)). IsOnItsWay (Unit {0}) (map_of_list (records_in h a) key) (earliest_before cs key) v) (sym (ap (λ (m : Map). m key) maps)) (set_or_left key own);
         done = λ m m1 lt ck. elim (same_or_other m n) [
           | inl this ↦ (set_at_place m).0 this ∙ sym had ∙ ap (λ k. earliest_before cs (Number k)) (sym this)
           | inr other ↦ (set_at_place m).1 other ∙ below_back m m1 (omega (arith, lt, other)) ck ∙ t.goes.restored m m1 ∙ picked (changes_key (Number m) cs) _ _ ck
@@ -280,6 +302,7 @@ module _ (a b : List (List ℕ)) (h mid : FileHead) (cs : List Change) (from n :
     begins = t.begins;
     goes = t.goes;
     images = t.images;
+    straight = t.straight;
     done = λ m m1 lt ck. elim (same_or_other m n) [
       | inl this ↦ ap (record_at (records_in mid b)) this ∙ stands_none ∙ sym none ∙ ap (λ k. earliest_before cs (Number k)) (sym this)
       | inr other ↦ below_back m m1 (omega (arith, lt, other)) ck ∙ t.goes.restored m m1 ∙ picked (changes_key (Number m) cs) _ _ ck

@@ -19,7 +19,7 @@ use Rattle.volume_files.specs.Staging.{is_of_file}
 use Rattle.unit_undo.specs.Undoing.{ChangesFile, GoesOn, IsFew, MayUndo, journals_at}
 use Rattle.unit_undo.specs.FileWays.{ChangesOnly, IsBackUpTo, Undo}
 use Rattle.unit_undo.specs.UnitWays.{HasUndone, IsUndoneIn, undo_of}
-use Rattle.unit_undo.specs.Way.{AreKeptBeside, IsOnTheWay, IsUnderWay, KeepsJournal}
+use Rattle.unit_undo.specs.Way.{ArePartlyUndone, IsOnTheWay, IsUnderWay, KeepsJournal}
 
 module _ (v w : VolumeState) (same : SameVolume v w) where
   -- from it on
@@ -91,7 +91,7 @@ module _ (v w : VolumeState) (same : SameVolume v w) where
     size = subst (λ (y : VolumeState). length a + 518 ≡ y.store.disk.size) (sym same) way.size;
     sound = subst (λ (y : VolumeState). (node : List ℕ) → IsSound node y.store.disk.size (record y.catalog { heads = heads }) → IsSound node y.store.disk.size y.catalog) (sym same) way.sound;
     grouped = subst (λ (y : VolumeState). AreGrouped a heads directory way.now y.catalog.heads) (sym same) way.grouped;
-    beside = subst (λ (y : VolumeState). AreKeptBeside serial a heads directory way.now y.catalog.heads) (sym same) way.beside;
+    partly = subst (λ (y : VolumeState). ArePartlyUndone serial a heads directory way.now y.catalog.heads) (sym same) way.partly;
     journal = subst (λ (y : VolumeState). KeepsJournal y.catalog.ru a way.now) (sym same) way.journal;
     before = way.before;
     applied = subst (λ (y : VolumeState). content y.store ≡ Some way.before) (sym same) way.applied;

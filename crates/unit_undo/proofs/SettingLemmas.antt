@@ -40,7 +40,7 @@ use Rattle.unit_undo.specs.Undoing.{ChangesFile, SetsToEntry}
 use Rattle.unit_undo.specs.FileWays.{Undo, changes_in, IsStill, IsPartlyBack, IsBack}
 use Rattle.unit_entries.proofs.KeyLemmas.{itself}
 use Rattle.unit_undo.proofs.BackLemmas.{one_back, layout_nothing}
-use Rattle.unit_undo.proofs.FileLemmas.{of_key, suits_relative, suits_indexed, kept_so, grouped_back, kept_others, restored_back}
+use Rattle.unit_undo.proofs.FileLemmas.{of_key, suits_relative, suits_indexed, kept_so, grouped_back, partly_back, restored_back}
 use Rattle.unit_undo.proofs.StepLemmas.{still_going}
 
 -- Entries stand where they stood while the journal is as it was.
@@ -157,7 +157,7 @@ module _ (u : Undo) (f : ℕ) (first : FileHead) (file : File) (ks : List KeyTol
         keys_more = record {
           way = still_going u f first h new file node w x long sound there p.way done.0 done.1 changes s.there s.named
               (grouped_back u.content done.0 first new u.serial file.history.live (map_in (records file.history)) (k.key ∷ p.done) other s.left.represents s.left.can s.left.laid back)
-              (kept_others u.content done.0 first new u.serial file.history.live (map_in (records file.history)) (k.key ∷ p.done) other s.left.represents s.left.can s.left.laid back);
+              (partly_back u.content done.0 first new u.serial file.history.live (map_in (records file.history)) (k.key ∷ p.done) other s.left.represents s.left.can s.left.laid back);
           done = k.key ∷ p.done;
           back = back;
           each = λ j y below is_at is. elim (cases_lt j i) [

@@ -8,6 +8,8 @@ use Rattle.careful_write.specs.State.{StoreState, EachWhole, IsEither, IsReady, 
 use Rattle.careful_write.specs.Steps.{AgreesOff, CountsOnce, Quiet}
 use Rattle.change_set.specs.Files.{AgreesOn, AgreesOut, SameFile, free_frames}
 use Rattle.file_base.specs.declared.head.FileHead.{FileHead}
+use Rattle.file_base.specs.declared.head.Organization.TheVariants.{Sequential}
+use Rattle.record_files.specs.Any.{map_of}
 use Rattle.journal_store.specs.Rings.{IsRing}
 use Rattle.volume.specs.declared.catalog.Catalog.{Catalog}
 use Rattle.volume.specs.Catalogs.{IsSound, TellsCatalog}
@@ -19,10 +21,11 @@ use Rattle.volume_files.specs.Staging.{StagesFile, is_of_file}
 use Rattle.volume_files.proofs.Places.{head_below}
 use Rattle.unit_undo.proofs.ApartLemmas.{carried_keep, others_keep, journal_off}
 use Rattle.unit_undo.specs.Undoing.{GoesOn, ChangesFile, ChangesHeads, Journals, MayGoOn, MayUndo, IsFew, journals_at, journals_of}
-use Rattle.unit_undo.specs.FileWays.{Undo, IsGoing, FailsGoing, ChangesOnly}
-use Rattle.unit_undo.specs.Way.{AreKeptBeside, IsOnTheWay, KeepsBeside, KeepsJournal}
+use Rattle.unit_undo.specs.FileWays.{Undo, IsGoing, FailsGoing, ChangesOnly, changes_in}
+use Rattle.unit_undo.specs.Steps.{IsPartlyUndone}
+use Rattle.unit_undo.specs.Way.{ArePartlyUndone, IsOnTheWay, KeepsJournal}
 use Rattle.unit_undo.proofs.BackLemmas.{same_through}
-use Rattle.unit_undo.proofs.GroupLemmas.{beside_more, grouped_more}
+use Rattle.unit_undo.proofs.GroupLemmas.{partly_more, grouped_more}
 
 -- Nothing is counted where a call went well.
 
@@ -188,7 +191,7 @@ same_way u k j c same way = record {
   sound = λ node s.
       subst (IsSound node (length u.content + 518)) (sym (λ i. record (same i) { heads = way.new })) (way.sound node (subst (IsSound node (length u.content + 518)) (λ i. record (same i) { heads = u.heads }) s));
   grouped = way.grouped;
-  beside = way.beside;
+  partly = way.partly;
   journal = subst (λ (x : Catalog). KeepsJournal x.ru u.content c) (sym same) way.journal;
 }
 
@@ -198,7 +201,7 @@ now_on_the_way u v g = record {
   tells = g.tells;
   sound = λ node s. subst (λ (n : ℕ). IsSound node n v.catalog) (sym g.size) (g.sound node (subst (λ (n : ℕ). IsSound node n (record v.catalog { heads = u.heads })) g.size s));
   grouped = g.grouped;
-  beside = g.beside;
+  partly = g.partly;
   journal = g.journal;
 }
 
@@ -243,15 +246,15 @@ module _ (u : Undo) (f : ℕ) (first h new : FileHead) (file : File) (node : Lis
           let same = subst (λ (y : FileHead). StandsCarried y g.now c) is.same.is stands in
           record { after = same.after; before = same.before; save = same.save }
 
-  unfoldable pub still_going : head_at u.heads f ≡ Some first → file_at u.directory f ≡ Some file → IsGrouped u.content first file.history.live c new → KeepsBeside u.serial u.content first file c new → IsGoing u w
-  still_going in_heads in_directory grouped beside = record {
+  unfoldable pub still_going : head_at u.heads f ≡ Some first → file_at u.directory f ≡ Some file → IsGrouped u.content first file.history.live c new → IsPartlyUndone (first.organization ≡ Sequential) (changes_in u file) (map_of first u.content) (map_of new c) → IsGoing u w
+  still_going in_heads in_directory grouped partly = record {
     now = c;
     told = now;
     tells = if_told w.store.current c (TellsCatalog w.catalog) now (changes.goes.holds (told_if v.store.current g.now (TellsCatalog v.catalog) g.told g.tells));
     grouped = subst (λ (hs : List (Option FileHead)). AreGrouped u.content u.heads u.directory c hs) (sym changes.heads)
         (grouped_more u.content g.now c u.heads v.catalog.heads u.directory f first h new file g.grouped (let below = head_below v.catalog.heads f h long there in omega (arith, below, long)) in_heads in_directory grouped others_still carried_still);
-    beside = subst (λ (hs : List (Option FileHead)). AreKeptBeside u.serial u.content u.heads u.directory c hs) (sym changes.heads)
-        (beside_more u.serial u.content g.now c u.heads v.catalog.heads u.directory f first h new file g.grouped g.beside (let below = head_below v.catalog.heads f h long there in omega (arith, below, long)) in_heads in_directory beside others_still);
+    partly = subst (λ (hs : List (Option FileHead)). ArePartlyUndone u.serial u.content u.heads u.directory c hs) (sym changes.heads)
+        (partly_more u.serial u.content g.now c u.heads v.catalog.heads u.directory f first h new file g.grouped g.partly (let below = head_below v.catalog.heads f h long there in omega (arith, below, long)) in_heads in_directory partly others_still);
     size = g.size ∙ sym changes.goes.quiet.size;
     sound = sound_on u.heads v w changes.goes g.sound;
     journal = record {

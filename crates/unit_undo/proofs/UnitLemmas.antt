@@ -21,10 +21,10 @@ use Rattle.volume_files.specs.Staging.{is_of_file}
 use Rattle.unit_entries.specs.Keys.{keys_told}
 use Rattle.unit_entries.specs.Told.{TellsKeys}
 use Rattle.unit_undo.specs.FileWays.{Undo, IsStill, IsBack, ChangesOnly}
-use Rattle.unit_undo.specs.Way.{AreKeptBeside, IsUndoable, IsUndone, KeepsJournal}
+use Rattle.unit_undo.specs.Way.{ArePartlyUndone, IsUndoable, IsUndone, KeepsJournal}
 use Rattle.unit_undo.specs.UnitWays.{undo_of, IsUndoneIn}
 use Rattle.unit_undo.proofs.ApartLemmas.{others_keep}
-use Rattle.unit_undo.proofs.GroupLemmas.{beside_itself, grouped_itself}
+use Rattle.unit_undo.proofs.GroupLemmas.{partly_itself, grouped_itself}
 use Rattle.unit_entries.proofs.KeyLemmas.{keys_tell}
 
 -- a file that is restored stays so while its blocks stay
@@ -83,11 +83,11 @@ module _ (serial : Id) (ps : List ℕ) (v : VolumeState) (a : List (List ℕ)) (
       size = if_told v.store.current (λ blocks. length blocks + 518 ≡ w.store.disk.size) can.told size;
       sound = λ node s. subst (IsSound node w.store.disk.size) (λ i. record w.catalog { heads = sym (ap (λ (k : Catalog). k.heads) same) i }) s;
       grouped = subst (λ k. AreGrouped a v.catalog.heads directory a k.heads) (sym same) grouped;
-      beside = subst (λ k. AreKeptBeside serial a v.catalog.heads directory a k.heads) (sym same) (beside_itself serial a v.catalog.heads directory);
+      partly = subst (λ k. ArePartlyUndone serial a v.catalog.heads directory a k.heads) (sym same) (partly_itself serial a v.catalog.heads directory);
       journal = keeps;
       before = a;
       applied = was ∙ sym idle.current ∙ can.told;
-      way = record { new = v.catalog.heads; tells = subst (λ k. TellsCatalog (record k { heads = v.catalog.heads }) a) (sym same) tells; sound = λ node s. s; grouped = grouped; beside = beside_itself serial a v.catalog.heads directory; journal = keeps };
+      way = record { new = v.catalog.heads; tells = subst (λ k. TellsCatalog (record k { heads = v.catalog.heads }) a) (sym same) tells; sound = λ node s. s; grouped = grouped; partly = partly_itself serial a v.catalog.heads directory; journal = keeps };
     };
     done = λ f below. absurd (omega (arith, below));
     rest = λ f le. ap (λ k. head_at k.heads f) same;

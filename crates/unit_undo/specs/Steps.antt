@@ -14,8 +14,9 @@ use Rattle.record_files.specs.Any.{map_of, layout_of, room_at, IsLaidOut}
 use Rattle.seq_file.specs.Layout as sequential
 use Rattle.seq_file.specs.Layout.{IsSequential, records_in}
 use Rattle.seq_file.specs.Records.{record_at, map_of_list}
-use Rattle.unit_laws.specs.Units.{earliest_before, HasImages, moves_end}
+use Rattle.unit_laws.specs.Units.{Map, earliest_before, HasImages, moves_end}
 use Rattle.sequence_laws.specs.Undoing.{GoesBack, AllInPlace}
+use Rattle.run_model.specs.World.{IsOnItsWay}
 
 -- whether a key is one of these
 abbrev pub has_key : Key → List Key → Bool
@@ -53,8 +54,15 @@ pub record ArePositionsBack (a : List (List ℕ)) (h : FileHead) (cs : List Chan
   pub begins : GoesBack h cs (records_in h a) back
   pub goes : GoesBack h cs (records_in new b) back
   pub images : HasImages (map_of_list (records_in new b)) cs
+  pub straight : (key : Key) → changes_key key cs ≡ true → IsOnItsWay (Unit {0}) (map_of_list (records_in h a) key) (earliest_before cs key) (map_of_list (records_in new b) key)
   pub done : (n : ℕ) → 1 ≤ n → n < from → changes_key (Number n) cs ≡ true → record_at (records_in new b) n ≡ earliest_before cs (Number n)
   pub in_place : AllInPlace cs (records_in new b) back
+
+-- What the keys of a file have while these changes of a branch are undone in it: those that it did not change have what they had. Each other has that still, or its earliest before image
+-- again; where it may be gone meanwhile, it may have no record.
+pub record IsPartlyUndone (may_be_gone : Type 0) (cs : List Change) (old new : Map) : Type 0 where
+  pub others : (key : Key) → changes_key key cs ≡ false → new key ≡ old key
+  pub own : (key : Key) → changes_key key cs ≡ true → IsOnItsWay may_be_gone (old key) (earliest_before cs key) (new key)
 
 -- each key that was changed is a position
 abbrev pub ArePositions : List Change → Type 0

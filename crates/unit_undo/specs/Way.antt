@@ -1,5 +1,5 @@
 -- What a unit's undo leaves on its way, and at its end.
-use Rattle.std.specs.Prelude.{◌≡◌, ℕ, ◌+◌, ◌-◌, ◌<◌, ◌≤◌, false, List, Option, Some, None, length, map}
+use Rattle.std.specs.Prelude.{◌≡◌, ℕ, ◌+◌, ◌-◌, ◌<◌, ◌≤◌, List, Option, Some, None, length, map}
 use Rattle.block_disk.specs.Blocks.{block_at}
 use Rattle.careful_write.specs.State.{EachWhole, Leaves, content}
 use Rattle.file_base.specs.declared.head.FileHead.{FileHead}
@@ -7,8 +7,7 @@ use Rattle.file_base.specs.declared.head.Organization.TheVariants.{Sequential}
 use Rattle.file_base.specs.declared.head.Span.{Span}
 use Rattle.record_files.specs.Any.{map_of}
 use Rattle.vms_model.specs.Ids.{Id}
-use Rattle.vms_model.specs.Keys.{Key}
-use Rattle.records_model.specs.History.{changes_by, changes_key}
+use Rattle.records_model.specs.History.{changes_by}
 use Rattle.unit_laws.specs.Journal.{note_of}
 use Rattle.unit_laws.specs.Units.{OneMovesEnd}
 use Rattle.run_model.specs.World.{File}
@@ -20,7 +19,7 @@ use Rattle.volume.specs.Catalogs.{IsSound, TellsCatalog}
 use Rattle.volume.specs.State.{VolumeState, Holds}
 use Rattle.unit_entries.specs.Collecting.{AreChangesAt}
 use Rattle.unit_entries.specs.Told.{notes_of}
-use Rattle.unit_undo.specs.Steps.{ArePositions}
+use Rattle.unit_undo.specs.Steps.{ArePositions, IsPartlyUndone}
 
 -- A content of as many whole blocks as another has the same blocks of the journal.
 pub record KeepsJournal (s : Span) (a c : List (List ℕ)) : Type 0 where
@@ -28,28 +27,25 @@ pub record KeepsJournal (s : Span) (a c : List (List ℕ)) : Type 0 where
   pub whole : EachWhole c
   pub blocks : (n : ℕ) → 65 ≤ n → n < s.start - 518 + s.blocks → block_at c n ≡ block_at a n
 
--- Keys of a file that this branch did not change have what they had.
-abbrev pub KeepsBeside : Id → List (List ℕ) → FileHead → File → List (List ℕ) → FileHead → Type 0
-KeepsBeside serial a h file b new = (key : Key) → changes_key key (changes_by serial file.history.live) ≡ false → map_of new b key ≡ map_of h a key
-
-abbrev pub IsPlaceKept : Id → List (List ℕ) → Option FileHead → Option File → List (List ℕ) → Option FileHead → Type 0
-IsPlaceKept serial a (Some h) (Some file) b (Some new) = KeepsBeside serial a h file b new
-IsPlaceKept serial a (Some h) (Some file) b None = Unit {0}
-IsPlaceKept serial a (Some h) None b new = Unit {0}
-IsPlaceKept serial a None file b new = Unit {0}
+-- What a branch changed in a file is partly undone.
+abbrev pub IsPlacePartly : Id → List (List ℕ) → Option FileHead → Option File → List (List ℕ) → Option FileHead → Type 0
+IsPlacePartly serial a (Some h) (Some file) b (Some new) = IsPartlyUndone (h.organization ≡ Sequential) (changes_by serial file.history.live) (map_of h a) (map_of new b)
+IsPlacePartly serial a (Some h) (Some file) b None = Unit {0}
+IsPlacePartly serial a (Some h) None b new = Unit {0}
+IsPlacePartly serial a None file b new = Unit {0}
 
 -- so in each file
-abbrev pub AreKeptBeside : Id → List (List ℕ) → List (Option FileHead) → List (Option File) → List (List ℕ) → List (Option FileHead) → Type 0
-AreKeptBeside serial a heads directory b new = (f : ℕ) → IsPlaceKept serial a (head_at heads f) (file_at directory f) b (head_at new f)
+abbrev pub ArePartlyUndone : Id → List (List ℕ) → List (Option FileHead) → List (Option File) → List (List ℕ) → List (Option FileHead) → Type 0
+ArePartlyUndone serial a heads directory b new = (f : ℕ) → IsPlacePartly serial a (head_at heads f) (file_at directory f) b (head_at new f)
 
--- A content that an undo of a branch may leave: the same volume, to whose files groups of the undo were applied, with the same journal. It is sound where it was, and
--- what the branch did not change is as it was.
+-- A content that an undo of a branch may leave: the same volume, to whose files groups of the undo were applied, with the same journal. It is sound where it was, what
+-- the branch did not change is as it was, and what it changed is partly undone.
 pub record IsOnTheWay (serial : Id) (a : List (List ℕ)) (heads : List (Option FileHead)) (directory : List (Option File)) (k : Catalog) (c : List (List ℕ)) : Type 0 where
   pub new : List (Option FileHead)
   pub tells : TellsCatalog (record k { heads = new }) c
   pub sound : (node : List ℕ) → IsSound node (length a + 518) (record k { heads = heads }) → IsSound node (length a + 518) (record k { heads = new })
   pub grouped : AreGrouped a heads directory c new
-  pub beside : AreKeptBeside serial a heads directory c new
+  pub partly : ArePartlyUndone serial a heads directory c new
   pub journal : KeepsJournal k.ru a c
 
 -- A volume in which an undo of a branch is under way, from this content and these heads on: what is staged is on the way, and so is what was applied.
@@ -60,7 +56,7 @@ pub record IsUnderWay (serial : Id) (a : List (List ℕ)) (heads : List (Option 
   pub size : length a + 518 ≡ v.store.disk.size
   pub sound : (node : List ℕ) → IsSound node v.store.disk.size (record v.catalog { heads = heads }) → IsSound node v.store.disk.size v.catalog
   pub grouped : AreGrouped a heads directory now v.catalog.heads
-  pub beside : AreKeptBeside serial a heads directory now v.catalog.heads
+  pub partly : ArePartlyUndone serial a heads directory now v.catalog.heads
   pub journal : KeepsJournal v.catalog.ru a now
   pub before : List (List ℕ)
   pub applied : content v.store ≡ Some before

@@ -1,4 +1,4 @@
-use Rattle.recovery_rows.proofs.Rows.{loads_rows}
+use Rattle.recovered_nodes.proofs.Rows.{loads_rows}
 use Rattle.recovered_nodes.proofs.Counted.{counted, needed}
 use Rattle.recovered_nodes.proofs.Known.{asked_so, knows, refused_so}
 use Rattle.recovered_nodes.proofs.Left.{either_left, stays_left}

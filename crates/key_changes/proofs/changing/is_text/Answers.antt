@@ -5,7 +5,7 @@ use Rattle.std.specs.Str.{bytes_eq}
 use Rattle.vms_base.specs.Keys.{key_of}
 use Rattle.vms_model.specs.Keys.{Text}
 use Rattle.records_model.specs.Records.{key_cmp}
-use Rattle.record_locks.proofs.LockLemmas.{same_text}
+use Rattle.table_keys.proofs.PlaceLemmas.{same_text}
 use Rattle.key_changes.proofs.changing.is_text.Goals as goal
 
 pub returns-in-Text : goal.returns-in-Text

@@ -22,13 +22,13 @@ follow_entry-requires-clause-room c =
     let e = entry_of c.args.e.now [] in
     let may : is_out_of_order e c.args.state.now ≡ false = sym c.take.ensures.order ∙ sym c.is_err.ensures.value ∙ c.if-is_err.false in
     if_some (first_that (is_of (serial_of c.args.e.now.serial)) (begun c.args.units.now))
-    (λ w at kind. room_opened c.args.position e c.args.state.now (begun c.args.units.now) (prepared_kind c.args.e.now.kind) c.requires.alike may w at (ap (λ (k : ℕ). k == 3) kind) (ap (λ (k : ℕ). k == 1) kind))
+    (λ w at kind. room_opened c.args.position e c.args.state.now (begun c.args.units.now) (prepared_kind c.args.e.now.kind) (c.requires.alike c.if-not-whole.false) may w at (ap (λ (k : ℕ). k == 3) kind) (ap (λ (k : ℕ). k == 1) kind))
 
 pub follow_entry-requires-clause-places : goal.follow_entry-requires-clause-places
 follow_entry-requires-clause-places c = λ none change.
     let e = entry_of c.args.e.now [] in
     let may : is_out_of_order e c.args.state.now ≡ false = sym c.take.ensures.order ∙ sym c.is_err.ensures.value ∙ c.if-is_err.false in
-    places_opened c.args.position e c.args.state.now (begun c.args.units.now) (prepared_kind c.args.e.now.kind) c.requires.alike may none change
+    places_opened c.args.position e c.args.state.now (begun c.args.units.now) (prepared_kind c.args.e.now.kind) (c.requires.alike c.if-not-whole.false) may none change
 
 pub returns-clause-alike : goal.returns-clause-alike
 returns-clause-alike c = λ _.
@@ -37,4 +37,4 @@ returns-clause-alike c = λ _.
     let took = of_ok c.take.result (sym c.is_err.ensures.value ∙ c.if-is_err.false) c.take.ensures.takes in
     subst (λ (t : Told). AreAlike t.units (begun c.follow_entry.new.units)) (sym took)
     (subst (AreAlike (after c.args.position e c.args.state.now).units) (sym c.follow_entry.ensures)
-    (alike_after c.args.position e c.args.state.now (begun c.args.units.now) (prepared_kind c.args.e.now.kind) c.requires.alike may))
+    (alike_after c.args.position e c.args.state.now (begun c.args.units.now) (prepared_kind c.args.e.now.kind) (c.requires.alike c.if-not-whole.false) may))

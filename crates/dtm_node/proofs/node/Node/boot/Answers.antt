@@ -4,7 +4,7 @@ use Rattle.run_model.specs.Answers.{Serves}
 use Rattle.emitter_model.specs.Emitting.{Emits}
 use Rattle.transcript_model.specs.Lines.{NormalCount}
 use Rattle.dtm_node.specs.Nodes.{kept_of}
-use Rattle.dtm_node.proofs.BootPlaces.{later_node}
+use Rattle.dtm_node.proofs.Going.{later_keeps}
 use Rattle.dtm_node.proofs.Boots.{boot_at_up, boot_performs, boot_tells, boot_unmade}
 use Rattle.dtm_node.proofs.node.Node.boot.Goals as goal
 
@@ -20,11 +20,11 @@ returns-then-self-clause-tells g c = (true, (boot_unmade (kept_of g.D.Disk.state
 pub returns-then-self-clause-performs : goal.returns-then-self-clause-performs
 returns-then-self-clause-performs g c = (boot_unmade (kept_of g.D.Disk.state g.U.RecoveryUnits.state c.args.self.now) c.args.shared.now _ _ (sym c.is_up.ensures ∙ c.if-is_up.false) c.if-self.true c.emit-then-self.ensures.emits).1
 
-pub returns-in-Some-clause-node : goal.returns-in-Some-clause-node
-returns-in-Some-clause-node g c = λ count h. later_node g.D.Disk.state g.U.RecoveryUnits.state count c.come_up.new.shared c.come_up.new.self (c.in-Some.ensures.node count h)
+pub returns-in-Some-clause-keeps : goal.returns-in-Some-clause-keeps
+returns-in-Some-clause-keeps g c = later_keeps g.D.Disk.state g.U.RecoveryUnits.state _ _ _ _ c.in-Some.ensures.keeps
 
-pub returns-in_default-clause-node : goal.returns-in_default-clause-node
-returns-in_default-clause-node g c = λ count h. later_node g.D.Disk.state g.U.RecoveryUnits.state count c.come_up.new.shared c.come_up.new.self (c.in_default.ensures.node count h)
+pub returns-in_default-clause-keeps : goal.returns-in_default-clause-keeps
+returns-in_default-clause-keeps g c = later_keeps g.D.Disk.state g.U.RecoveryUnits.state _ _ _ _ c.in_default.ensures.keeps
 
 pub returns-in-Some-clause-tells : goal.returns-in-Some-clause-tells
 returns-in-Some-clause-tells g c = (

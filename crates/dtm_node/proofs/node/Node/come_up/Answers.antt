@@ -1,4 +1,4 @@
-use Rattle.std.proofs.Common.{None, [], ap, false, subst, sym, true, ◌∷◌}
+use Rattle.std.proofs.Common.{None, [], ap, false, refl, subst, sym, true, ◌∷◌}
 use Rattle.transcript.specs.Forms.{line_of}
 use Rattle.transcript_model.specs.Lines as line
 use Rattle.run_shared.specs.Sharing.{SharedState}
@@ -7,6 +7,7 @@ use Rattle.dtm_node.specs.Nodes.{kept_of, place_of}
 use Rattle.dtm_node.specs.Opening.{ComesTo}
 use Rattle.node_standing.specs.Standing.{Kept}
 use Rattle.dtm_node.proofs.BootPlaces.{left_place}
+use Rattle.dtm_node.proofs.Going.{same_moment}
 use Rattle.dtm_node.proofs.Boots.{ended_comes, opens_fell, opens_lacks, opens_open, opens_refused, up_comes}
 use Rattle.dtm_node.proofs.node.Node.come_up.Goals as goal
 
@@ -46,26 +47,46 @@ rise-requires-clause-open g c = opens_open (record (kept_of g.D.Disk.state g.U.R
 pub emit-requires-in-Refused : goal.emit-requires-in-Refused
 emit-requires-in-Refused g c = (opens_refused (record (kept_of g.D.Disk.state g.U.RecoveryUnits.state c.args.self.now) { unmade = false }) (place_of g.D.Disk.state g.U.RecoveryUnits.state c.replace_with.new.dest) c.in-Refused.form (c.in-Refused.ensures.1 c.args.self.now.clock.0)).1
 
-pub returns-in-Up-clause-node : goal.returns-in-Up-clause-node
-returns-in-Up-clause-node g c = λ count h. c.rise.ensures.node count c.occupy.new.self (ap (λ (t : SharedState). t.in_use) c.occupy.ensures) c.requires.made
-
-pub returns-in-NoMemory-clause-node : goal.returns-in-NoMemory-clause-node
-returns-in-NoMemory-clause-node g c = λ count h. record {
-  place = left_place g.D.Disk.state g.U.RecoveryUnits.state count c.args.shared.now (record c.args.self.now { place = c.replace_with.new.dest }) c.replace_with.new.dest
-      (opens_lacks (record (kept_of g.D.Disk.state g.U.RecoveryUnits.state c.args.self.now) { unmade = false }) (place_of g.D.Disk.state g.U.RecoveryUnits.state c.replace_with.new.dest) (c.in-NoMemory.ensures.1 c.args.self.now.clock.0)).0 c.in-NoMemory.ensures.0;
-  clock = h.clock;
+pub returns-in-Up-clause-keeps : goal.returns-in-Up-clause-keeps
+returns-in-Up-clause-keeps g c = record {
+  name = ap (λ (k : Kept). k.name) c.rise.ensures.kept;
+  clock = same_moment _ _ (ap (λ (k : Kept). k.clock) c.rise.ensures.kept);
+  in_use = λ used. ap (λ (t : SharedState). t.in_use) c.occupy.ensures;
+  node = λ count h. c.rise.ensures.node count c.occupy.new.self (ap (λ (t : SharedState). t.in_use) c.occupy.ensures) c.requires.made;
 }
 
-pub returns-in-Refused-clause-node : goal.returns-in-Refused-clause-node
-returns-in-Refused-clause-node g c = λ count h. record {
-  place = left_place g.D.Disk.state g.U.RecoveryUnits.state count c.args.shared.now (record c.args.self.now { place = c.replace_with.new.dest }) c.replace_with.new.dest
-      (opens_refused (record (kept_of g.D.Disk.state g.U.RecoveryUnits.state c.args.self.now) { unmade = false }) (place_of g.D.Disk.state g.U.RecoveryUnits.state c.replace_with.new.dest) c.in-Refused.form (c.in-Refused.ensures.1 c.args.self.now.clock.0)).0 c.in-Refused.ensures.0;
-  clock = h.clock;
+pub returns-in-NoMemory-clause-keeps : goal.returns-in-NoMemory-clause-keeps
+returns-in-NoMemory-clause-keeps g c = record {
+  name = refl;
+  clock = refl;
+  in_use = λ used. used;
+  node = λ count h. record {
+    place = left_place g.D.Disk.state g.U.RecoveryUnits.state count c.args.shared.now (record c.args.self.now { place = c.replace_with.new.dest }) c.replace_with.new.dest
+        (opens_lacks (record (kept_of g.D.Disk.state g.U.RecoveryUnits.state c.args.self.now) { unmade = false }) (place_of g.D.Disk.state g.U.RecoveryUnits.state c.replace_with.new.dest) (c.in-NoMemory.ensures.1 c.args.self.now.clock.0)).0 c.in-NoMemory.ensures.0;
+    clock = h.clock;
+  };
 }
 
-pub returns-in-Fell-clause-node : goal.returns-in-Fell-clause-node
-returns-in-Fell-clause-node g c = λ count h. record {
-  place = left_place g.D.Disk.state g.U.RecoveryUnits.state count c.occupy-in-Fell.new.self (record c.args.self.now { place = c.replace_with.new.dest }) c.replace_with.new.dest
-      (opens_fell (record (kept_of g.D.Disk.state g.U.RecoveryUnits.state c.args.self.now) { unmade = false }) (place_of g.D.Disk.state g.U.RecoveryUnits.state c.replace_with.new.dest) c.in-Fell.down (c.in-Fell.ensures.1 c.args.self.now.clock.0)).0 c.in-Fell.ensures.0;
-  clock = h.clock;
+pub returns-in-Refused-clause-keeps : goal.returns-in-Refused-clause-keeps
+returns-in-Refused-clause-keeps g c = record {
+  name = refl;
+  clock = refl;
+  in_use = λ used. used;
+  node = λ count h. record {
+    place = left_place g.D.Disk.state g.U.RecoveryUnits.state count c.args.shared.now (record c.args.self.now { place = c.replace_with.new.dest }) c.replace_with.new.dest
+        (opens_refused (record (kept_of g.D.Disk.state g.U.RecoveryUnits.state c.args.self.now) { unmade = false }) (place_of g.D.Disk.state g.U.RecoveryUnits.state c.replace_with.new.dest) c.in-Refused.form (c.in-Refused.ensures.1 c.args.self.now.clock.0)).0 c.in-Refused.ensures.0;
+    clock = h.clock;
+  };
+}
+
+pub returns-in-Fell-clause-keeps : goal.returns-in-Fell-clause-keeps
+returns-in-Fell-clause-keeps g c = record {
+  name = refl;
+  clock = refl;
+  in_use = λ used. ap (λ (t : SharedState). t.in_use) c.occupy-in-Fell.ensures;
+  node = λ count h. record {
+    place = left_place g.D.Disk.state g.U.RecoveryUnits.state count c.occupy-in-Fell.new.self (record c.args.self.now { place = c.replace_with.new.dest }) c.replace_with.new.dest
+        (opens_fell (record (kept_of g.D.Disk.state g.U.RecoveryUnits.state c.args.self.now) { unmade = false }) (place_of g.D.Disk.state g.U.RecoveryUnits.state c.replace_with.new.dest) c.in-Fell.down (c.in-Fell.ensures.1 c.args.self.now.clock.0)).0 c.in-Fell.ensures.0;
+    clock = h.clock;
+  };
 }

@@ -1,8 +1,8 @@
-use Rattle.std.proofs.Common.{sym, true, ◌∙◌}
+use Rattle.std.proofs.Common.{refl, sym, true, ◌∙◌}
 use Rattle.dtm_node.specs.Nodes.{kept_of}
 use Rattle.dtm_node.proofs.NodeCrash.{crashes, crashes_tell}
 use Rattle.dtm_node.proofs.NodePlaces.{fallen_node}
-use Rattle.dtm_node.proofs.NodeRequests.{node_more}
+use Rattle.dtm_node.proofs.Going.{same_keeps}
 use Rattle.dtm_node.proofs.Simple.{crash_down_performs, crash_down_tells}
 use Rattle.dtm_node.proofs.node.Node.crash.Goals as goal
 
@@ -18,8 +18,13 @@ returns-clause-tells g c = crashes_tell g.D.Disk.state g.U.RecoveryUnits.state c
 pub returns-clause-performs : goal.returns-clause-performs
 returns-clause-performs g c = crashes g.D.Disk.state g.U.RecoveryUnits.state c.args.self.now c.args.shared.now c.requires.node (sym c.is_up.ensures ∙ c.if-not-is_up.false) _ _ _ c.replace_with.new.dest c.replace_with.ensures.0 c.emit-2.ensures.emits c.emit-3.ensures.emits c.the_laws.ensures.nodes
 
-pub returns-then-not-is_up-clause-node : goal.returns-then-not-is_up-clause-node
-returns-then-not-is_up-clause-node g c = λ count h. node_more g.D.Disk.state g.U.RecoveryUnits.state count c.args.shared.now c.args.self.now h
+pub returns-then-not-is_up-clause-keeps : goal.returns-then-not-is_up-clause-keeps
+returns-then-not-is_up-clause-keeps g c = same_keeps g.D.Disk.state g.U.RecoveryUnits.state c.args.shared.now c.args.self.now
 
-pub returns-clause-node : goal.returns-clause-node
-returns-clause-node g c = λ count h. fallen_node g.D.Disk.state g.U.RecoveryUnits.state c.replace_with.new.dest count c.args.shared.now c.args.self.now c.replace_with.ensures.1 h
+pub returns-clause-keeps : goal.returns-clause-keeps
+returns-clause-keeps g c = record {
+  name = refl;
+  clock = refl;
+  in_use = λ used. used;
+  node = λ count h. fallen_node g.D.Disk.state g.U.RecoveryUnits.state c.replace_with.new.dest count c.args.shared.now c.args.self.now c.replace_with.ensures.1 h;
+}

@@ -1,4 +1,4 @@
-use Rattle.std.proofs.Common.{false, subst, sym, true}
+use Rattle.std.proofs.Common.{false, refl, subst, sym, true}
 use Rattle.script_model.specs.Statements.{Fuse}
 use Rattle.run_model.specs.Answers.{Serves}
 use Rattle.node_standing.specs.Keeping.{PerformsRequest}
@@ -21,5 +21,10 @@ returns-clause-performs g c =
     let k = kept_of g.D.Disk.state g.U.RecoveryUnits.state c.args.self.now in
     subst (λ (p : Place). PerformsRequest (Fuse c.args.writes c.args.choice) k c.args.shared.now (g.E.Emit.shows c.args.out.now) (g.E.Emit.shows c.emit.new.self) (record k { place = p }) c.args.shared.now) (sym c.arm.ensures.place) (fuse_performs c.args.writes c.args.choice k c.args.shared.now _ _ c.emit.ensures.emits c.the_laws.ensures.nodes)
 
-pub returns-clause-node : goal.returns-clause-node
-returns-clause-node g c = λ count h. armed_node g.D.Disk.state g.U.RecoveryUnits.state c.arm.new.place c.args.self.now c.arm.ensures.kept count c.args.shared.now h
+pub returns-clause-keeps : goal.returns-clause-keeps
+returns-clause-keeps g c = record {
+  name = refl;
+  clock = refl;
+  in_use = λ used. used;
+  node = λ count h. armed_node g.D.Disk.state g.U.RecoveryUnits.state c.arm.new.place c.args.self.now c.arm.ensures.kept count c.args.shared.now h;
+}

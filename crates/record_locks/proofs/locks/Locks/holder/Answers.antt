@@ -7,5 +7,5 @@ use Rattle.record_locks.proofs.locks.Locks.holder.Goals as goal
 
 pub returns : goal.returns
 returns c =
-    ap (option_map serial_of) (c.copied.ensures ∙ c.get.ensures.value) ∙ sym (holder_found c.self.inside.held.entries record { file = c.args.file; key = c.args.key.now } c.self.invariant.unique)
+    ap (option_map serial_of) c.holder.ensures.holder ∙ sym (holder_found c.self.inside.log.held record { file = c.args.file; key = c.args.key.now } c.holder.ensures.distinct)
     ∙ ap (λ (t : LockTable). holder t.locks c.args.file (key_of c.args.key.now)) c.self.view_is

@@ -20,7 +20,7 @@ returns-in-Some-clause-nodes g c = λ count h.
     let es = c.args.self.now.nodes.entries in
     let n = c.in-Some.node.now in
     let at : slice_get (map (λ e. e.1) es) c.args.place ≡ Some n = sym c.in-Some.ensures.value in
-    put_nodes state units count c.args.shared.now c.hear.new.shared es c.args.place n c.hear.new.self c.hear.ensures.in_use h at c.hear.ensures.name (c.hear.ensures.node count (node_at state units count c.args.shared.now es c.args.place n h at))
+    put_nodes state units count c.args.shared.now c.hear.new.shared es c.args.place n c.hear.new.self c.hear.ensures.keeps.in_use h at c.hear.ensures.keeps.name (c.hear.ensures.keeps.node count (node_at state units count c.args.shared.now es c.args.place n h at))
 
 pub returns-in-Some-clause-names : goal.returns-in-Some-clause-names
 returns-in-Some-clause-names g c = put_names g.D.Disk.state g.U.RecoveryUnits.state c.args.self.now.nodes.entries c.args.place c.hear.new.self
@@ -37,7 +37,7 @@ returns-in-Some-clause-does g c =
       new = kept_of state units c.hear.new.self;
       here = kept_there state units es c.args.place n at;
       put = put_kept state units es c.args.place c.hear.new.self;
-      named = c.hear.ensures.name;
+      named = c.hear.ensures.keeps.name;
       tells = c.hear.ensures.tells;
       performs = c.hear.ensures.performs;
     }

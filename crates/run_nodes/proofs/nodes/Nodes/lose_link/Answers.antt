@@ -29,7 +29,7 @@ returns-in-Some-clause-nodes g c = λ count h.
     let es = c.args.self.now.nodes.entries in
     let n = c.in-Some.node.now in
     let at : slice_get (map (λ e. e.1) es) c.args.place ≡ Some n = sym c.in-Some.ensures.value in
-    put_nodes state units count c.args.shared.now c.lose_link.new.shared es c.args.place n c.lose_link.new.self c.lose_link.ensures.in_use h at c.lose_link.ensures.name (c.lose_link.ensures.node count (node_at state units count c.args.shared.now es c.args.place n h at))
+    put_nodes state units count c.args.shared.now c.lose_link.new.shared es c.args.place n c.lose_link.new.self c.lose_link.ensures.keeps.in_use h at c.lose_link.ensures.keeps.name (c.lose_link.ensures.keeps.node count (node_at state units count c.args.shared.now es c.args.place n h at))
 
 pub returns-in-Some-clause-names : goal.returns-in-Some-clause-names
 returns-in-Some-clause-names g c = put_names g.D.Disk.state g.U.RecoveryUnits.state c.args.self.now.nodes.entries c.args.place c.lose_link.new.self
@@ -46,7 +46,7 @@ returns-in-Some-clause-does g c =
       new = kept_of state units c.lose_link.new.self;
       here = kept_there state units es c.args.place n at;
       put = put_kept state units es c.args.place c.lose_link.new.self;
-      named = c.lose_link.ensures.name;
+      named = c.lose_link.ensures.keeps.name;
       tells = c.lose_link.ensures.tells;
       performs = c.lose_link.ensures.performs;
     }

@@ -29,7 +29,7 @@ returns-in-Some-clause-nodes g c = λ count h.
     let es = c.args.self.now.nodes.entries in
     let n = c.in-Some.node.now in
     let at : slice_get (map (λ e. e.1) es) c.args.place ≡ Some n = sym c.in-Some.ensures.value in
-    put_nodes state units count c.args.shared.now c.restart.new.shared es c.args.place n c.restart.new.self c.restart.ensures.in_use h at c.restart.ensures.name (c.restart.ensures.node count (node_at state units count c.args.shared.now es c.args.place n h at))
+    put_nodes state units count c.args.shared.now c.restart.new.shared es c.args.place n c.restart.new.self c.restart.ensures.keeps.in_use h at c.restart.ensures.keeps.name (c.restart.ensures.keeps.node count (node_at state units count c.args.shared.now es c.args.place n h at))
 
 pub returns-in-Some-clause-names : goal.returns-in-Some-clause-names
 returns-in-Some-clause-names g c = put_names g.D.Disk.state g.U.RecoveryUnits.state c.args.self.now.nodes.entries c.args.place c.restart.new.self
@@ -46,7 +46,7 @@ returns-in-Some-clause-does g c =
       new = kept_of state units c.restart.new.self;
       here = kept_there state units es c.args.place n at;
       put = put_kept state units es c.args.place c.restart.new.self;
-      named = c.restart.ensures.name;
+      named = c.restart.ensures.keeps.name;
       tells = c.restart.ensures.tells;
       performs = c.restart.ensures.performs;
     }

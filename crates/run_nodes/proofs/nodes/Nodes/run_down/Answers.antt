@@ -20,7 +20,7 @@ returns-in-Some-clause-nodes g c = λ count h.
     let es = c.args.self.now.nodes.entries in
     let n = c.in-Some.node.now in
     let at : slice_get (map (λ e. e.1) es) c.args.place ≡ Some n = sym c.in-Some.ensures.value in
-    put_nodes state units count c.args.shared.now c.run_down.new.shared es c.args.place n c.run_down.new.self c.run_down.ensures.in_use h at c.run_down.ensures.name (c.run_down.ensures.node count (node_at state units count c.args.shared.now es c.args.place n h at))
+    put_nodes state units count c.args.shared.now c.run_down.new.shared es c.args.place n c.run_down.new.self c.run_down.ensures.keeps.in_use h at c.run_down.ensures.keeps.name (c.run_down.ensures.keeps.node count (node_at state units count c.args.shared.now es c.args.place n h at))
 
 pub returns-in-Some-clause-names : goal.returns-in-Some-clause-names
 returns-in-Some-clause-names g c = put_names g.D.Disk.state g.U.RecoveryUnits.state c.args.self.now.nodes.entries c.args.place c.run_down.new.self
@@ -37,7 +37,7 @@ returns-in-Some-clause-does g c =
       new = kept_of state units c.run_down.new.self;
       here = kept_there state units es c.args.place n at;
       put = put_kept state units es c.args.place c.run_down.new.self;
-      named = c.run_down.ensures.name;
+      named = c.run_down.ensures.keeps.name;
       tells = c.run_down.ensures.tells;
       performs = c.run_down.ensures.performs;
     }

@@ -21,8 +21,8 @@ returns-in-Some-clause-nodes g c = λ count h.
     let es = c.args.self.now.nodes.entries in
     let n = c.in-Some.node.now in
     let at : slice_get (map (λ e. e.1) es) c.args.place ≡ Some n = sym c.in-Some.ensures.value in
-    put_nodes state units (count + 1) c.args.shared.now c.serve.new.shared es c.args.place n c.serve.new.self c.serve.ensures.in_use (more_nodes state units count c.args.shared.now es h) at c.serve.ensures.name
-    (c.serve.ensures.node count (node_at state units count c.args.shared.now es c.args.place n h at))
+    put_nodes state units (count + 1) c.args.shared.now c.serve.new.shared es c.args.place n c.serve.new.self c.serve.ensures.keeps.in_use (more_nodes state units count c.args.shared.now es h) at c.serve.ensures.keeps.name
+    (c.serve.ensures.keeps.node count (node_at state units count c.args.shared.now es c.args.place n h at))
 
 pub returns-in-Some-clause-names : goal.returns-in-Some-clause-names
 returns-in-Some-clause-names g c = put_names g.D.Disk.state g.U.RecoveryUnits.state c.args.self.now.nodes.entries c.args.place c.serve.new.self
@@ -34,7 +34,7 @@ returns-in-Some-clause-clocks g c =
     let es = c.args.self.now.nodes.entries in
     let n = c.in-Some.node.now in
     let at : slice_get (map (λ e. e.1) es) c.args.place ≡ Some n = sym c.in-Some.ensures.value in
-    put_clocks state units es c.args.place n c.serve.new.self at (ap (λ (m : Moment). m.0) c.serve.ensures.clock)
+    put_clocks state units es c.args.place n c.serve.new.self at (ap (λ (m : Moment). m.0) c.serve.ensures.keeps.clock)
 
 pub returns-in-Some-clause-does : goal.returns-in-Some-clause-does
 returns-in-Some-clause-does g c =
@@ -48,7 +48,7 @@ returns-in-Some-clause-does g c =
       new = kept_of state units c.serve.new.self;
       here = kept_there state units es c.args.place n at;
       put = put_kept state units es c.args.place c.serve.new.self;
-      named = c.serve.ensures.name;
+      named = c.serve.ensures.keeps.name;
       ends = c.serve.ensures.tells.0;
       tells = c.serve.ensures.tells.1;
       performs = c.serve.ensures.performs;

@@ -20,7 +20,7 @@ returns-in-Some-clause-nodes g c = λ count h.
     let es = c.args.self.now.nodes.entries in
     let n = c.in-Some.node.now in
     let at : slice_get (map (λ e. e.1) es) c.args.place ≡ Some n = sym c.in-Some.ensures.value in
-    put_nodes state units count c.args.shared.now c.take.new.shared es c.args.place n c.take.new.self c.take.ensures.in_use h at c.take.ensures.name (c.take.ensures.node count (node_at state units count c.args.shared.now es c.args.place n h at))
+    put_nodes state units count c.args.shared.now c.take.new.shared es c.args.place n c.take.new.self c.take.ensures.keeps.in_use h at c.take.ensures.keeps.name (c.take.ensures.keeps.node count (node_at state units count c.args.shared.now es c.args.place n h at))
 
 pub returns-in-Some-clause-names : goal.returns-in-Some-clause-names
 returns-in-Some-clause-names g c = put_names g.D.Disk.state g.U.RecoveryUnits.state c.args.self.now.nodes.entries c.args.place c.take.new.self
@@ -37,7 +37,7 @@ returns-in-Some-clause-does g c =
       new = kept_of state units c.take.new.self;
       here = kept_there state units es c.args.place n at;
       put = put_kept state units es c.args.place c.take.new.self;
-      named = c.take.ensures.name;
+      named = c.take.ensures.keeps.name;
       tells = c.take.ensures.tells;
       performs = c.take.ensures.performs;
     }

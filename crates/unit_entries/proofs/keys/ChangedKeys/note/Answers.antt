@@ -2,7 +2,7 @@ use Rattle.std.proofs.Common.{◌≡◌, ◌≤◌, ◌^◌, ◌||◌, Bool, fal
 use Rattle.std.proofs.lemmas.List.{length-map}
 use Rattle.std.specs.List.{list_any}
 use Rattle.std.specs.Vec.{with_item}
-use Rattle.record_locks.specs.Table.{same_place}
+use Rattle.table_keys.specs.Places.{same_place}
 use Rattle.unit_entries.specs.declared.keys.ChangedKey.{ChangedKey}
 use Rattle.unit_entries.specs.Keys.{keys_after}
 use Rattle.unit_entries.specs.Rows.{key_said, place_said, IsPlace}

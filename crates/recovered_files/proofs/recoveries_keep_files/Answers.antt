@@ -1,5 +1,0 @@
-use Rattle.recovered_files.proofs.Recovering.{recoveries_keep}
-use Rattle.recovered_files.proofs.recoveries_keep_files.Goals as goal
-
-pub returns : goal.returns
-returns c = recoveries_keep
