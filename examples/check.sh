@@ -51,6 +51,7 @@ transcript orders A=orders.img
 transcript stopped A=stopped.img
 transcript undone A=undone.img
 transcript recovered A=recovered.img
+transcript damaged A=damaged.img
 transcript doubt A=here.img B=there.img
 transcript manager A=manager.img
 

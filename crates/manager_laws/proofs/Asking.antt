@@ -1,5 +1,5 @@
 -- An END_TRANS that is answered that something is missing names just the resource managers that it asks.
-use Rattle.std.proofs.Common.{◌≡◌, ◌⊎◌, ◌+◌, ℕ, Bool, true, false, ◌&&◌, List, [], ◌∷◌, ◌++◌, inl, inr, Option, Some, None, if◌then◌else◌, refl, sym, ◌∙◌, ap, subst}
+use Rattle.std.proofs.Common.{◌≡◌, ◌⊎◌, ◌+◌, Bool, true, false, ◌&&◌, List, [], ◌∷◌, ◌++◌, inl, inr, Option, Some, None, if◌then◌else◌, refl, sym, ◌∙◌, ap, subst}
 use Rattle.std.specs.Prelude.{length, nat_lt}
 use Rattle.vms_model.specs.Ids.{Id}
 use Rattle.vms_model.specs.Transactions.{SyncFail}
@@ -14,11 +14,10 @@ use Rattle.commit_protocol.specs.Rows as rows
 use Rattle.commit_protocol.specs.Rows.{all_replied, all_voted, asks, begins_ending, commits_if_all, ending, joined, sends_all, tells, to_each, which_event}
 use Rattle.commit_protocol.specs.World.{In}
 use Rattle.commit_protocol.proofs.Lists.{in_left, in_right}
-use Rattle.run_model.specs.World.{DiskCounts, Node, Shared, Tables, World, acted, message_limit, next_moment, opened, shared_after}
+use Rattle.run_model.specs.World.{Node, Shared, Tables, acted, message_limit, next_moment, shared_after}
 use Rattle.run_model.specs.Answers as answers
 use Rattle.run_model.specs.Answers.{Row, branch_labelled, is_declared, just, service, table_rows, told_rows}
 use Rattle.run_model.specs.Steps.{lines_of_rows}
-use Rattle.run_model.specs.Transcript.{AreOpening, Entry, Legal}
 use Rattle.run_laws.proofs.Ending.{active_is, active_unprepared, done, end_lists, end_row, ends_waiting, row_is, standing}
 use Rattle.run_laws.proofs.Labelling.{label_of, served_up}
 use Rattle.manager_laws.specs.Asking.{IsAsked, PendingAskedHold}
@@ -27,11 +26,11 @@ use Rattle.manager_laws.proofs.Declared.{joined_declared}
 -- Managers.
 
 -- none of those that are asked has replied
-asked_names : (e : RmEvent) (ms : List Manager) → answers.unreplied (asks e ms) ≡ joined ms
+pub asked_names : (e : RmEvent) (ms : List Manager) → answers.unreplied (asks e ms) ≡ joined ms
 asked_names e [] = refl
 asked_names e (m ∷ ms) = ap (λ xs. m.rm ∷ xs) (asked_names e ms)
 
-joined_in : (ms : List Manager) (rm : Name) → In rm (joined ms) → (m : Manager) × In m ms × (m.rm ≡ rm)
+pub joined_in : (ms : List Manager) (rm : Name) → In rm (joined ms) → (m : Manager) × In m ms × (m.rm ≡ rm)
 joined_in [] rm i = absurd i
 joined_in (m ∷ ms) rm (inl same) = (m, inl refl, sym same)
 joined_in (m ∷ ms) rm (inr i) = let r = joined_in ms rm i in (r.0, inr r.1, r.2)

@@ -39,6 +39,7 @@ use Rattle.run_laws.specs.Promises.{commitment}
 use Rattle.run_laws.proofs.Keeping.{AllTake, Kept, Keeps, Scheme, any_effect, closes_plain, init_ready}
 use Rattle.run_laws.proofs.MadeAnew.{made_says}
 use Rattle.run_laws.proofs.Named.{Ended, Refused, Turned, ended}
+use Rattle.run_laws.proofs.Once.{once, once_keeps}
 use Rattle.run_laws.proofs.Owed.{InRecords, in_table}
 use Rattle.run_laws.proofs.RowFits.{Fits}
 use Rattle.run_laws.proofs.SoundWorlds.{IsPlainReading, IsSound, IsSoundNode, Tracked, Tracks, legal_sound, opening_sound, sound_node, turn_tracked, unused}
@@ -98,7 +99,7 @@ module _ (tid serial : Id) (rm : Name) where
       (p, inl refl, serials ∙ (ap (λ (x : LogRecord). x.serial) (sym same) ∙ s), tids ∙ (ap (λ (x : LogRecord). x.tid) (sym same) ∙ t), more (subst (λ (x : LogRecord). In rm x.rms) same w))
   was_like q p rs serials tids more (r, inr i, s, t, w) = (r, inr i, s, t, w)
 
-  was_acknowledged : (k : BranchKey) (rs : List LogRecord) → Has (acknowledge k rs) → Has rs
+  pub was_acknowledged : (k : BranchKey) (rs : List LogRecord) → Has (acknowledge k rs) → Has rs
   was_acknowledged k [] h = h
   was_acknowledged k (q ∷ rs) h = go (waits_for k q) h (was_acknowledged k rs)
     where
@@ -116,7 +117,7 @@ module _ (tid serial : Id) (rm : Name) where
       go false (inl same) more = inl same
       go false (inr j) more = inr (more j)
 
-  was_released : (z : Id) (x : Name) (rs : List LogRecord) → Has (release z x rs) → Has rs
+  pub was_released : (z : Id) (x : Name) (rs : List LogRecord) → Has (release z x rs) → Has rs
   was_released z x [] h = h
   was_released z x (q ∷ rs) h = go (holds z x q) h (was_released z x rs)
     where
@@ -131,7 +132,7 @@ module _ (tid serial : Id) (rm : Name) where
   Writes _ = ⊥
 
   was_before : (a : table.Act) (rs : List LogRecord) → HoldsIn AnyBranch a → Has (records_after a rs) → Has rs ⊎ Writes a
-  was_before (table.Settles k settles.Commit reason (Some x)) rs (b, any, key, nothing, q) (r, i, s, t, w) = elim (in_parts r rs (x ∷ []) i) [
+  was_before (table.Settles k settles.Commit reason (Some x)) rs (b, any, key, nothing, q, owed) (r, i, s, t, w) = elim (in_parts r rs (x ∷ []) i) [
     | inl old ↦ inl (r, old, s, t, w)
     | inr new ↦ elim new [
       | inl same ↦ inr (sym q.0 ∙ (ap (λ (y : LogRecord). y.tid) (sym same) ∙ t), sym q.1 ∙ (ap (λ (y : LogRecord). y.serial) (sym same) ∙ s))
@@ -205,7 +206,7 @@ module _ (tid serial : Id) (rm : Name) where
       comes = λ a n up h closed. h;
     }
 
-    none_made : (slots : ℕ) → records_in (replicate slots None) ≡ []
+    pub none_made : (slots : ℕ) → records_in (replicate slots None) ≡ []
     none_made zero = refl
     none_made (suc slots) = none_made slots
 
@@ -239,50 +240,51 @@ module _ (tid serial : Id) (rm : Name) where
 
 -- New volumes.
 
--- nothing is known of a node
-any_node : (tid serial : Id) (rm : Name) (n : Node) → Kept (backing tid serial rm (Unit {0})) (backing_keeps tid serial rm (Unit {0})) tt n
-any_node tid serial rm n = record { disk = λ waits. inr tt; way = λ act e waits. inr tt; runs = λ up waits. inr tt }
+-- a node whose volume was made anew
+abbrev pub IsNew : Node → Type 0
+IsNew m = (slots : ℕ) × (journal : ℕ) × (r : Node) × (m ≡ acted (world.Formats slots journal) r) × (r.under_way ≡ None) × (r.up ≡ false)
 
--- on a new volume no record waits
-made_new : (tid serial : Id) (rm : Name) (Else : Type 0) (w v : World) (slots journal : ℕ) → IsSound w → Step w (At serial.node (Init slots journal)) (line.Normal ∷ []) v → Tracked (backing tid serial rm Else) (backing_keeps tid serial rm Else) serial.node tt v
-made_new tid serial rm Else w v slots journal sound step m now = go (ended w v (At serial.node (Init slots journal)) (line.Normal ∷ []) serial.node (Serves (Init slots journal)) refl step)
+pub made_at : (w v : World) (node : List ℕ) (slots journal : ℕ) → IsSound w → Step w (At node (Init slots journal)) (line.Normal ∷ []) v → (m : Node) → find_node node v.nodes ≡ Some m → IsNew m
+made_at w v node slots journal sound step m now = go (ended w v (At node (Init slots journal)) (line.Normal ∷ []) node (Serves (Init slots journal)) refl step)
   where
-    Goal : Node → Type 0
-    Goal m = Kept (backing tid serial rm Else) (backing_keeps tid serial rm Else) tt m
-
-    go : Ended w v serial.node (Serves (Init slots journal)) (line.Normal ∷ []) → Goal m
+    go : Ended w v node (Serves (Init slots journal)) (line.Normal ∷ []) → IsNew m
     go (Refused refusal h shows goes) = let same : line.Normal ≡ refusal = (same_last [] [] line.Normal refusal shows).1 in let clash : false ≡ true = ap is_refusal same ∙ h in let no : ⊥ = cc in absurd no
-    go (Turned n found c allowed shows goes) = subst Goal (some_is e.node m (sym there ∙ now)) (done c allowed shows)
+    go (Turned n found c allowed shows goes) = subst IsNew (some_is e.node m (sym there ∙ now)) (done c allowed shows)
       where
         e : TaskEffect
-        e = task_effect w.shared (stops_at serial.node w) n (Serves (Init slots journal)) c
+        e = task_effect w.shared (stops_at node w) n (Serves (Init slots journal)) c
 
-        there : find_node serial.node v.nodes ≡ Some (task_effect w.shared (stops_at serial.node w) n (Serves (Init slots journal)) c).node
-        there = ap (λ (x : World). find_node serial.node x.nodes) goes ∙ put_node serial.node n e.node w.nodes (effect_name w.shared (stops_at serial.node w) n (Serves (Init slots journal)) c) found
+        there : find_node node v.nodes ≡ Some (task_effect w.shared (stops_at node w) n (Serves (Init slots journal)) c).node
+        there = ap (λ (x : World). find_node node x.nodes) goes ∙ put_node node n e.node w.nodes (effect_name w.shared (stops_at node w) n (Serves (Init slots journal)) c) found
 
         known : IsSoundNode w.shared n
-        known = sound_node w sound serial.node n found
+        known = sound_node w sound node n found
 
-        whole_done : (o : Outturn) → MayTurnOut n o → (q : Option Line) → refused_before_reading w.shared n (service (Init slots journal)) ≡ q → let x = whole w.shared n (ready_node o (stops_at serial.node w) (service (Init slots journal)) n) (service (Init slots journal)) q in line.Normal ∷ [] ≡ x.lines ++ x.answer ∷ [] → Goal x.node
+        whole_done : (o : Outturn) → MayTurnOut n o → (q : Option Line) → refused_before_reading w.shared n (service (Init slots journal)) ≡ q → let x = whole w.shared n (ready_node o (stops_at node w) (service (Init slots journal)) n) (service (Init slots journal)) q in line.Normal ∷ [] ≡ x.lines ++ x.answer ∷ [] → IsNew x.node
         whole_done o may (Some refusal) first k =
             let same : line.Normal ≡ refusal = (same_last [] [] line.Normal refusal k).1 in
             let clash : true ≡ false = sym ((refuses_first w.shared n (Serves (Init slots journal))).says refusal first) ∙ ap is_refusal (sym same) in let no : ⊥ = cc in absurd no
         whole_done o may None first k =
-            let r = init_ready (backing tid serial rm (Unit {0})) (backing_keeps tid serial rm (Unit {0})) w.shared (stops_at serial.node w) n (Serves (Init slots journal)) tt known.kept (any_node tid serial rm n) (unused w.shared n known) slots journal o may first in
-            let x = acted (world.Formats slots journal) (spoilt true (powered o (stops_at serial.node w) n)) in
-            let none : IsBacked tid serial rm Else x.durable x.settled = made_backed tid serial rm Else slots journal (spoilt true (powered o (stops_at serial.node w) n)) in
-            record {
-              disk = none;
-              way = λ act is. let clash : ◌≡◌ {A = Option Act} None (Some act) = sym r.1 ∙ is in let no : ⊥ = cc in absurd no;
-              runs = λ up. none;
-            }
+            let r = init_ready once once_keeps w.shared (stops_at node w) n (Serves (Init slots journal)) tt known.kept known.once (unused w.shared n known) slots journal o may first in
+            (slots, journal, spoilt true (powered o (stops_at node w) n), refl, r.1, r.2)
 
-        done : (c : Choice) → TaskAllowed w.shared (stops_at serial.node w) n (Serves (Init slots journal)) (λ cause. RoseAt w serial.node cause v.disks) c → line.Normal ∷ [] ≡ (task_effect w.shared (stops_at serial.node w) n (Serves (Init slots journal)) c).lines ++ (task_effect w.shared (stops_at serial.node w) n (Serves (Init slots journal)) c).answer ∷ [] →
-            Goal (task_effect w.shared (stops_at serial.node w) n (Serves (Init slots journal)) c).node
+        done : (c : Choice) → TaskAllowed w.shared (stops_at node w) n (Serves (Init slots journal)) (λ cause. RoseAt w node cause v.disks) c → line.Normal ∷ [] ≡ (task_effect w.shared (stops_at node w) n (Serves (Init slots journal)) c).lines ++ (task_effect w.shared (stops_at node w) n (Serves (Init slots journal)) c).answer ∷ [] →
+            IsNew (task_effect w.shared (stops_at node w) n (Serves (Init slots journal)) c).node
         done (Whole o) may k = whole_done o may (refused_before_reading w.shared n (service (Init slots journal))) refl k
         done WithoutMemory may k = let no : ⊥ = cc in absurd no
         done Unpowered may k = let no : ⊥ = cc in absurd no
-        done (Cut o j b cause) may k = let x = task_effect w.shared (stops_at serial.node w) n (Serves (Init slots journal)) (Cut o j b cause) in let same : line.Normal ≡ line.Broken cause = (same_last [] x.lines line.Normal (line.Broken cause) k).1 in let no : ⊥ = cc in absurd no
+        done (Cut o j b cause) may k = let x = task_effect w.shared (stops_at node w) n (Serves (Init slots journal)) (Cut o j b cause) in let same : line.Normal ≡ line.Broken cause = (same_last [] x.lines line.Normal (line.Broken cause) k).1 in let no : ⊥ = cc in absurd no
+
+-- on a new volume no record waits
+made_new : (tid serial : Id) (rm : Name) (Else : Type 0) (w v : World) (slots journal : ℕ) → IsSound w → Step w (At serial.node (Init slots journal)) (line.Normal ∷ []) v → Tracked (backing tid serial rm Else) (backing_keeps tid serial rm Else) serial.node tt v
+made_new tid serial rm Else w v slots journal sound step m now = go (made_at w v serial.node slots journal sound step m now)
+  where
+    go : IsNew m → Kept (backing tid serial rm Else) (backing_keeps tid serial rm Else) tt m
+    go (s, j, r, is, none, down) = subst (Kept (backing tid serial rm Else) (backing_keeps tid serial rm Else) tt) (sym is) (record {
+      disk = made_backed tid serial rm Else s j r;
+      way = λ act under. let clash : ◌≡◌ {A = Option Act} None (Some act) = sym none ∙ under in let no : ⊥ = cc in absurd no;
+      runs = λ up. made_backed tid serial rm Else s j r;
+    })
 
 -- So it is in each world.
 module _ (nodes : List Node) (disks : List DiskCounts) (opening : AreOpening nodes) (tid serial : Id) (rm : Name) where

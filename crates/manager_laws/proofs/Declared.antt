@@ -41,12 +41,12 @@ abbrev IsAmong : List Name → Name → Type 0
 IsAmong names rm = list_any (λ x. same_name x rm) names ≡ true
 
 -- managers with the names of others
-asked_names : (e : RmEvent) (ms : List Manager) (m : Manager) → In m (asks e ms) → (y : Manager) × In y ms × (m.rm ≡ y.rm)
+pub asked_names : (e : RmEvent) (ms : List Manager) (m : Manager) → In m (asks e ms) → (y : Manager) × In y ms × (m.rm ≡ y.rm)
 asked_names e [] m i = absurd i
 asked_names e (x ∷ ms) m (inl same) = (x, inl refl, ap (λ (y : Manager). y.rm) same)
 asked_names e (x ∷ ms) m (inr i) = let y = asked_names e ms m i in (y.0, inr y.1, y.2)
 
-noted_names : (x : Name) (r : Reply) (ms : List Manager) (m : Manager) → In m (note_reply x r ms) → (y : Manager) × In y ms × (m.rm ≡ y.rm)
+pub noted_names : (x : Name) (r : Reply) (ms : List Manager) (m : Manager) → In m (note_reply x r ms) → (y : Manager) × In y ms × (m.rm ≡ y.rm)
 noted_names x r [] m i = absurd i
 noted_names x r (y ∷ ms) m i = go (same_name y.rm x) i (noted_names x r ms m)
   where

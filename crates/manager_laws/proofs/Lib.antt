@@ -3,6 +3,10 @@ pub mod TasksTake
 pub mod Worlds
 pub mod Declared
 pub mod Asking
+pub mod Carrying
+pub mod JoinedOnly
+pub mod JoinedStay
+pub mod Pending
 pub mod Requests
 pub mod Unreplied
 pub mod Replied
@@ -12,4 +16,8 @@ pub mod Ordering
 pub mod Telling
 pub mod Backing
 pub mod Told
+pub mod Members
+pub mod MembersReply
+pub mod Tells
 pub mod Retelling
+pub mod Hearing

@@ -83,7 +83,7 @@ module _ (t : Scheme) (k : Keeps t) (node : List ℕ) where
       go n c allowed x (Some refusal) is = refused_kept a w.shared (stops_at node w) n (Serves (Init slots journal)) c (λ cause. RoseAt w node cause v.disks) refusal is allowed x
       go n c allowed x None first = absurd (both_ways w.shared.in_use (not_refused w.shared.in_use line.VolumeInUse (neither (refused_if w.shared.in_use line.VolumeInUse) _ (neither (refused_if (not (n.up || true)) line.NodeDown) _ first).1).0) used)
 
-not_so : (b : Bool) → not b ≡ false → b ≡ true
+pub not_so : (b : Bool) → not b ≡ false → b ≡ true
 not_so true e = refl
 not_so false e = let no : ⊥ = cc in absurd no
 

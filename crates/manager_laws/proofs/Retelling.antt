@@ -1,5 +1,5 @@
 -- What a manager was told of a commitment it is owed behind that statement, and so it is told again until it forgets.
-use Rattle.std.proofs.Common.{◌≡◌, ℕ, ◌+◌, zero, suc, Bool, true, false, not, ◌&&◌, ◌||◌, List, [], ◌∷◌, ◌++◌, map, take, drop, inl, inr, Option, Some, None, if◌then◌else◌, refl, sym, ◌∙◌, ap, subst}
+use Rattle.std.proofs.Common.{◌≡◌, ℕ, ◌+◌, zero, suc, Bool, true, false, ◌&&◌, List, [], ◌∷◌, ◌++◌, map, take, drop, inl, inr, Option, Some, None, if◌then◌else◌, refl, sym, ◌∙◌, ap, subst}
 use Rattle.std.specs.Prelude.{nat_lt, length}
 use Rattle.std.specs.Option.{option_map, option_and_then}
 use Rattle.std.specs.Str.{bytes_eq}
@@ -20,14 +20,13 @@ use Rattle.commit_protocol.specs.Table as table
 use Rattle.commit_protocol.specs.Table.{Accepts, Acknowledges, Branch, Key as BranchKey, Leaves, Notes, Prepares, Prints, Releases, Sends, Settles, Undoes, add_record}
 use Rattle.commit_protocol.specs.Rows as rows
 use Rattle.commit_protocol.specs.Rows.{row}
-use Rattle.commit_protocol.specs.World.{In, undo_all}
+use Rattle.commit_protocol.specs.World.{In}
 use Rattle.commit_protocol.proofs.Lists.{in_left, in_parts, in_right}
 use Rattle.log_laws.specs.Slots.{committed_of, records_in, slot_records, waiting_for}
 use Rattle.run_model.specs.World as world
 use Rattle.run_model.specs.World.{Act, DiskCounts, Node, Outturn, Shared, Tables, World, acted, fallen, find_node, message_limit, next_moment, opened, shared_after, tm_of}
 use Rattle.run_model.specs.Answers as answers
 use Rattle.run_model.specs.Answers.{Hears, LosesLink, Restarts, Row, RunsDown, Serves, Service, Takes, Task, Telling, Ticks, begins, branch_labelled, branch_named, is_declared, just, owed_line, powers, refused_before_reading, service, spoils, table_rows, task_service, told_if, told_rows, touches}
-use Rattle.run_model.specs.Operations.{refused_if}
 use Rattle.run_model.specs.Steps.{Choice, Cut, TaskAllowed, TaskEffect, Unpowered, Whole, WithoutMemory, act_begun, begun, lines_of_rows, node_after, node_after_rows, ready_node, rows_if, rows_to_cut, spoilt, task_effect, whole}
 use Rattle.run_model.specs.Statements.{Allowed, Begins, Does, Part, PartEffect, Phase, Phases, RoseAt, Step, begun_with, message_at, part_effect, phases_of, refused_at_once, stops_at}
 use Rattle.run_model.specs.StepLaws.{task_of_part}
@@ -38,9 +37,8 @@ use Rattle.run_model.proofs.Refusing.{same_last}
 use Rattle.run_model.proofs.PartTasks.{Doing, Fixed, View, all_asked, each_restart, each_run_down, each_up, view}
 use Rattle.run_model.proofs.TaskLemmas.{effect_name}
 use Rattle.world_laws.specs.Nodes.{IsKeptNode, IsUp}
-use Rattle.world_laws.proofs.AnswerLemmas.{neither, not_refused}
 use Rattle.world_laws.proofs.NodeLemmas.{acted_name, rows_way}
-use Rattle.run_said.proofs.Passing.{AllPass, acknowledged_passes, append_passes, prepared_passes, released_passes}
+use Rattle.run_said.proofs.Passing.{AllPass, acknowledged_passes, released_passes}
 use Rattle.run_laws.specs.Owing.{MayForget, Waits}
 use Rattle.run_laws.specs.Promises.{commitment}
 use Rattle.run_laws.proofs.Deciding.{split_legal}
@@ -56,22 +54,10 @@ use Rattle.run_laws.proofs.Walking.{phases_walk, sighted, walk_keeps}
 use Rattle.manager_laws.specs.Telling.{DeclaresHold, RetoldHold}
 use Rattle.manager_laws.proofs.Backing.{in_log}
 use Rattle.manager_laws.proofs.Ordering.{Announces, Known, Orderly, With, row_orderly}
-use Rattle.manager_laws.proofs.Telling.{Nothing, Preceded, Unknown, effect_told, is_declaring, is_untold, lasts_untold, preceded_split}
+use Rattle.manager_laws.proofs.Telling.{Nothing, Preceded, Unknown, effect_told, is_declaring, is_untold, preceded_split}
+use Rattle.manager_laws.proofs.Tells.{sent_untold, settled_untold, tells_by_rows, untold_none}
 use Rattle.manager_laws.proofs.Told.{answer_untold, declare_lines, in_split, name_owed, owed_of_line, serial_owed, tid_owed}
 use Rattle.world_laws.proofs.FileRows.{images_by, recovers_by, saves_by, sets_by, IsEntryLine}
-
-untold_none : (ls : List Line) (v : RmEvent) (t s : Id) (x : Name) → AllPass is_untold ls → In (line.ManagerTold v t s x) ls → ⊥
-untold_none [] v t s x h i = i
-untold_none (l ∷ ls) v t s x h (inl same) = let no : false ≡ true = ap is_untold same ∙ h.0 in let none : ⊥ = cc in none
-untold_none (l ∷ ls) v t s x h (inr i) = untold_none ls v t s x h.1 i
-
-settled_untold : (k : BranchKey) (o : settles.Outcome) (reason : Reason) (moment : ℕ) → AllPass is_untold (answers.settled_line k o reason moment ∷ [])
-settled_untold k settles.Commit reason moment = (refl, tt)
-settled_untold k settles.Abort reason moment = (refl, tt)
-
-sent_untold : (b : Bool) (k : ℕ) (m : Message) → AllPass is_untold ((if b then line.Sent k m else line.Unsent m) ∷ [])
-sent_untold true k m = (refl, tt)
-sent_untold false k m = (refl, tt)
 
 after_name : (o : Option Act) (n : Node) → (node_after o n).name ≡ n.name
 after_name None n = refl
@@ -376,100 +362,8 @@ module _ (tid serial : Id) (rm : Name) where
         up_owed (Cut o j b cause) rises may =
             subst (λ m. let rs = rows_to_cut s m e in In it (lines_of_rows (take j rs) ++ line.Down m.name cause ∷ []) → Result (fallen (act_begun b (drop j rs)) (node_after_rows (take j rs) m))) (sym (same_ready o)) (cut_owed j b cause may.0 (e.refused_after_reading s n) refl)
 
-      -- at a node that is down it tells nothing
-      module _ (down : n.up ≡ false) where
-        served : refused_before_reading s n e ≡ None → e.while_down ≡ true
-        served first = go e.while_down (subst (λ up. not (up || e.while_down) ≡ false) down (not_refused _ line.NodeDown (neither (refused_if (not (n.up || e.while_down)) line.NodeDown) (e.refused_before_reading s n) first).0))
-          where
-            go : (b : Bool) → not (false || b) ≡ false → b ≡ true
-            go true q = refl
-            go false q = let no : ⊥ = cc in absurd no
-
-        quietly : (u : Task) → (task_service u).while_down ≡ true → powers (task_service u) ≡ false → (touches (task_service u) ≡ false) × ((m : Node) (q : Option Line) → In it (begun s m (task_service u) q).lines → ⊥)
-        quietly (Serves r) serves quiet = of_request r serves quiet
-          where
-            of_request : (r : Request) → (service r).while_down ≡ true → powers (service r) ≡ false → (touches (service r) ≡ false) × ((m : Node) (q : Option Line) → In it (begun s m (service r) q).lines → ⊥)
-            of_request (Fuse writes choice) q p = (refl, λ m o. elim o as (λ o. In it (begun s m (service (Fuse writes choice)) o).lines → ⊥) [ Some refusal ↦ λ i. i | None ↦ λ i. i ])
-            of_request (Clock now) q p = (refl, λ m o. elim o as (λ o. In it (begun s m (service (Clock now)) o).lines → ⊥) [ Some refusal ↦ λ i. i | None ↦ λ i. i ])
-            of_request (Init slots journal) q p = let no : ⊥ = cc in absurd no
-            of_request Boot q p = let no : ⊥ = cc in absurd no
-            of_request _ q p = let no : ⊥ = cc in absurd no
-        quietly Restarts serves quiet = let no : ⊥ = cc in absurd no
-        quietly _ serves quiet = let no : ⊥ = cc in absurd no
-
-        whole_down : (m : Node) (q : Option Line) → refused_before_reading s n e ≡ q → In it (whole s n m e q).lines → ⊥
-        whole_down m (Some refusal) first i = i
-        whole_down m None first i = (quietly task (served first) off).1 m (e.refused_after_reading s m) i
-
-        down_told : (c : Choice) (rises : Cause → Type 0) → TaskAllowed s stops n task rises c → In it (task_effect s stops n task c).lines → ⊥
-        down_told (Whole o) rises may i = whole_down (ready_node o stops e n) (refused_before_reading s n e) refl i
-        down_told WithoutMemory rises may i = i
-        down_told Unpowered rises may i = both_ways (powers e) off may.1
-        down_told (Cut o j b cause) rises may i = both_ways (touches e) (quietly task (served may.0) off).0 may.1
-
-    -- A task that makes a disk run again tells nothing either.
-
-    abbrev AllQuiet : List Row → Type 0
-    AllQuiet [] = Unit {0}
-    AllQuiet (r ∷ rs) = AllPass is_untold r.lines × AllQuiet rs
-
-    quiet_lines : (rs : List Row) → AllQuiet rs → AllPass is_untold (lines_of_rows rs)
-    quiet_lines [] h = tt
-    quiet_lines (r ∷ rs) h = append_passes is_untold r.lines (lines_of_rows rs) h.0 (quiet_lines rs h.1)
-
-    quiet_take : (j : ℕ) (rs : List Row) → AllQuiet rs → AllQuiet (take j rs)
-    quiet_take zero rs h = tt
-    quiet_take (suc j) [] h = tt
-    quiet_take (suc j) (r ∷ rs) h = (h.0, quiet_take j rs h.1)
-
-    quiet_if : (q : Option Line) (rs : List Row) → AllQuiet rs → AllQuiet (rows_if q rs)
-    quiet_if (Some refusal) rs h = tt
-    quiet_if None rs h = h
-
-    undone_quiet : (ks : List BranchKey) (u : Shared) (m : Node) → AllQuiet (table_rows (undo_all ks) u m)
-    undone_quiet [] u m = tt
-    undone_quiet (k ∷ ks) u m = ((refl, tt), undone_quiet ks (shared_after (Tables (Undoes k) (next_moment m)) u) (acted (Tables (Undoes k) (next_moment m)) m))
-
-    boot_quiet : (u : Shared) (m : Node) → AllQuiet (answers.boot_rows u m)
-    boot_quiet u m = (lasts_untold m, undone_quiet (map answers.unit_key (answers.left_active m)) u (acted world.Boots m))
-
-    prepared_quiet : (m : Node) → AllPass is_untold (answers.prepared_lines m)
-    prepared_quiet m = prepared_passes is_untold (λ t s. refl) (world.booted m.durable).branches
-
-    power_quiet : (t : Task) → powers (task_service t) ≡ true → (u : Shared) (m : Node) → AllQuiet ((task_service t).rows u m) × AllPass is_untold ((task_service t).closing_lines m)
-    power_quiet (Serves (Init slots journal)) on u m = (tt, tt)
-    power_quiet (Serves Boot) on u m = (boot_quiet u m, prepared_quiet m)
-    power_quiet (Serves _) on u m = let no : ⊥ = cc in absurd no
-    power_quiet Restarts on u m = (boot_quiet u m, append_passes is_untold (answers.prepared_lines m) (line.Booted m.name (m.durable.boot + 1) ∷ []) (prepared_quiet m) (refl, tt))
-    power_quiet _ on u m = let no : ⊥ = cc in absurd no
-
-    power_told : powers e ≡ true → (c : Choice) → In it (task_effect s stops n task c).lines → ⊥
-    power_told on (Whole o) i = go (refused_before_reading s n e) i
-      where
-        m : Node
-        m = ready_node o stops e n
-
-        late : (q : Option Line) → In it (begun s m e q).lines → ⊥
-        late (Some refusal) j = j
-        late None j = let h = power_quiet task on s m in never_in (lines_of_rows (e.rows s m) ++ e.closing_lines m) (append_passes is_untold (lines_of_rows (e.rows s m)) (e.closing_lines m) (quiet_lines (e.rows s m) h.0) h.1) j
-
-        go : (q : Option Line) → In it (whole s n m e q).lines → ⊥
-        go (Some refusal) j = j
-        go None j = late (e.refused_after_reading s m) j
-    power_told on WithoutMemory i = i
-    power_told on Unpowered i = never_in (line.Down n.name line.Failed ∷ []) (refl, tt) i
-    power_told on (Cut o j b cause) i =
-        let m = ready_node o stops e n in
-        let rs = rows_to_cut s m e in
-        never_in (lines_of_rows (take j rs) ++ line.Down m.name cause ∷ []) (append_passes is_untold (lines_of_rows (take j rs)) (line.Down m.name cause ∷ []) (quiet_lines (take j rs) (quiet_take j rs (quiet_if (e.refused_after_reading s m) (e.rows s m) (power_quiet task on s m).0))) (refl, tt)) i
-
     pub effect_owed : (c : Choice) (rises : Cause → Type 0) → TaskAllowed s stops n task rises c → In it (task_effect s stops n task c).lines → Result (task_effect s stops n task c).node
-    effect_owed c rises may i = go (powers e) refl n.up refl
-      where
-        go : (b : Bool) → powers e ≡ b → (u : Bool) → n.up ≡ u → Result (task_effect s stops n task c).node
-        go true on u is = absurd (power_told on c i)
-        go false off true up = up_owed off up c rises may i
-        go false off false down = absurd (down_told off down c rises may i)
+    effect_owed c rises may i = let x = tells_by_rows s stops n task CommitEvent tid serial rm c rises may i in up_owed x.off x.up c rises may i
 
   -- Parts.
 

@@ -1,12 +1,12 @@
 -- What the rows of the table do to branches of which something holds: what they note and prepare has it too, and what they commit or let go has it and lacks nothing.
-use Rattle.std.proofs.Common.{◌≡◌, ◌⊎◌, Bool, true, false, not, ◌&&◌, ◌||◌, List, [], ◌∷◌, ◌++◌, inl, inr, Option, Some, None, if◌then◌else◌, refl, sym, ◌∙◌, ap}
+use Rattle.std.proofs.Common.{◌≡◌, ◌⊎◌, Bool, true, false, not, ◌&&◌, ◌||◌, List, [], ◌∷◌, ◌++◌, inl, inr, Option, Some, None, if◌then◌else◌, refl, sym, ◌∙◌, ap, subst}
 use Rattle.std.specs.List.{list_any}
 use Rattle.std.proofs.lemmas.Bool.{and_parts}
 use Rattle.vms_model.specs.Ids.{Id}
 use Rattle.vms_model.specs.Transactions.{Commit as ToCommit, Abort as ToAbort, Reason, Vetoed, SyncFail, Timeout, CommFail, SegFail, Aborted}
-use Rattle.commit_protocol.specs.Messages.{Name, Kind, Join, JoinOk, JoinNo, Prepare, Yes, ReadOnly, No, Commit, Abort, Ack, Inquire, Message, RmEvent, PrepareEvent, CommitEvent, AbortEvent, OnePhaseEvent, Reply, LogRecord, same_id}
-use Rattle.commit_protocol.specs.Table.{Key, Branch, State, Joining, Active, Ending, Voting, Prepared, Child, Manager, Act, Notes, Accepts, Prepares, Settles, Leaves, Acknowledges, Releases, Sends, Tm, first, key_of, is_first, find, find_serial, waits_for, holds, holding}
-use Rattle.commit_protocol.specs.Rows.{owing, down, up, sends_all, to_each, tells, joined, interested, serials, yes_of, all_voted, all_replied, blank, has_bid, has_serial, asks, others, all_taken, joined_as, ended, told_abort, aborts_telling, aborts, undone_quietly, refuses, commits, commits_if_all, refuses_join, grants_join, join_state, join_row, join_ok_state, join_ok_row, join_no_state, join_no_row, which_event, ending, begins_ending, end_trans_state, end_trans_row, abort_running, abort_by_state, abort_branch_row, authorise_state, authorise_row, lacks_vote, with_vote, vote_state, vote_row, refused, no_state, no_row, answer_state, answer, inquire_row, is_empty, casts, casts_if_all, voting, begins_vote, asked_branch, votes_if_ended, prepare_state, prepare_row, ended_branch, end_branch_state, end_branch_row, commit_state, commit_row, abort_state, abort_row, with_reply, is_veto, is_forget, first_reply, branch_reply, reply_state, reply_row, note_state, has_changed, note_row, with_manager, asks_state, asks_row, aborted_if, sweep, is_due, is_cut_off, is_under, is_other, got, row, Event, Start, Authorise, Begin, JoinRm, Changed, EndTrans, EndBranch, AbortBranch, Replied, Got, Clock, LinkDown, RunDown, InquireBranch}
+use Rattle.commit_protocol.specs.Messages.{Name, Kind, Join, JoinOk, JoinNo, Prepare, Yes, ReadOnly, No, Commit, Abort, Ack, Inquire, Message, RmEvent, PrepareEvent, CommitEvent, AbortEvent, OnePhaseEvent, Reply, LogRecord, same_id, same_name}
+use Rattle.commit_protocol.specs.Table.{Key, Branch, State, Joining, Active, Ending, Voting, Prepared, Child, Manager, Act, Notes, Accepts, Prepares, Settles, Leaves, Acknowledges, Releases, Sends, Prints, Told, Tm, first, key_of, is_first, find, find_serial, waits_for, holds, holding, replied_prepared}
+use Rattle.commit_protocol.specs.Rows.{owing, down, up, sends_all, to_each, tells, joined, has_left, interested, serials, yes_of, all_voted, all_replied, blank, has_bid, has_serial, asks, others, all_taken, joined_as, ended, told_abort, aborts_telling, aborts, undone_quietly, refuses, commits, commits_if_all, refuses_join, grants_join, join_state, join_row, join_ok_state, join_ok_row, join_no_state, join_no_row, which_event, ending, begins_ending, end_trans_state, end_trans_row, abort_running, abort_by_state, abort_branch_row, authorise_state, authorise_row, lacks_vote, with_vote, vote_state, vote_row, refused, no_state, no_row, answer_state, answer, inquire_row, is_empty, casts, casts_if_all, voting, begins_vote, asked_branch, votes_if_ended, prepare_state, prepare_row, ended_branch, end_branch_state, end_branch_row, commit_state, commit_row, abort_state, abort_row, note_reply, with_reply, is_veto, is_forget, first_reply, branch_reply, reply_state, reply_row, note_state, has_changed, note_row, with_manager, asks_state, asks_row, aborted_if, sweep, is_due, is_cut_off, is_under, is_other, got, row, Event, Start, Authorise, Begin, JoinRm, Changed, EndTrans, EndBranch, AbortBranch, Replied, Got, Clock, LinkDown, RunDown, InquireBranch}
 use Rattle.commit_protocol.specs.Allowed.{is_prepared}
 use Rattle.commit_protocol.specs.World.{In}
 use Rattle.commit_protocol.proofs.Lists.{find-key, find_serial-serial}
@@ -50,15 +50,21 @@ abbrev pub IsRecordOf : Key → Option LogRecord → Type 0
 IsRecordOf k None = Unit {0}
 IsRecordOf k (Some r) = (r.tid ≡ k.tid) × (r.serial ≡ k.serial)
 
+-- it waits for managers of the branch alone
+abbrev pub AreOwed : Branch → Option LogRecord → Type 0
+AreOwed b None = Unit {0}
+AreOwed b (Some r) = (x : Name) → In x r.rms → In x (joined b.managers)
+
 module _ (P : Branch → Type 0) where
-  -- what an act notes, prepares, commits and lets go
+  -- what an act notes, prepares, commits and lets go, and of which branches it tells managers
   abbrev pub HoldsIn : Act → Type 0
   HoldsIn (Notes b) = P b
   HoldsIn (Accepts b c) = P b
   HoldsIn (Prepares b) = P b × (all_replied b.managers ≡ true)
-  HoldsIn (Settles k ToCommit reason r) = (b : Branch) × P b × (b.key ≡ k) × LacksNothing b × IsRecordOf k r
+  HoldsIn (Settles k ToCommit reason r) = (b : Branch) × P b × (b.key ≡ k) × LacksNothing b × IsRecordOf k r × AreOwed b r
   HoldsIn (Settles k ToAbort reason r) = r ≡ None
   HoldsIn (Leaves k) = (b : Branch) × P b × (b.key ≡ k) × (all_replied b.managers ≡ true) × (b.state ≡ Voting) × (is_empty (holding b.managers) ≡ true)
+  HoldsIn (Prints (Told v k x)) = (b : Branch) × P b × (b.key ≡ k) × In x (joined b.managers)
   HoldsIn _ = Unit {0}
 
   abbrev pub AllHold : List Act → Type 0
@@ -83,6 +89,45 @@ owing_of : (k : Key) (ss : List Id) (xs : List Name) → IsRecordOf k (owing k s
 owing_of k [] [] = tt
 owing_of k [] (x ∷ xs) = (refl, refl)
 owing_of k (s ∷ ss) xs = (refl, refl)
+
+-- managers that are owed something, or hear of an abort, are managers of the branch
+pub held_joined : (ms : List Manager) (x : Name) → In x (holding ms) → In x (joined ms)
+held_joined [] x i = absurd i
+held_joined (m ∷ ms) x i = go (replied_prepared m.reply) i (held_joined ms x)
+  where
+    go : (t : Bool) → In x (if t then m.rm ∷ holding ms else holding ms) → (In x (holding ms) → In x (joined ms)) → In x (m.rm ∷ joined ms)
+    go true (inl same) more = inl same
+    go true (inr j) more = inr (more j)
+    go false j more = inr (more j)
+
+interested_joined : (ms : List Manager) (x : Name) → In x (interested ms) → In x (joined ms)
+interested_joined [] x i = absurd i
+interested_joined (m ∷ ms) x i = go (has_left m.reply) i (interested_joined ms x)
+  where
+    go : (t : Bool) → In x (if t then interested ms else m.rm ∷ interested ms) → (In x (interested ms) → In x (joined ms)) → In x (m.rm ∷ joined ms)
+    go true j more = inr (more j)
+    go false (inl same) more = inl same
+    go false (inr j) more = inr (more j)
+
+pub asked_names : (e : RmEvent) (ms : List Manager) → joined (asks e ms) ≡ joined ms
+asked_names e [] = refl
+asked_names e (m ∷ ms) = ap (λ xs. m.rm ∷ xs) (asked_names e ms)
+
+pub noted_names : (x : Name) (r : Reply) (ms : List Manager) → joined (note_reply x r ms) ≡ joined ms
+noted_names x r [] = refl
+noted_names x r (m ∷ ms) = go (same_name m.rm x) (noted_names x r ms)
+  where
+    go : (b : Bool) → joined (note_reply x r ms) ≡ joined ms → joined (if b then record m { event = None; reply = Some r } ∷ ms else m ∷ note_reply x r ms) ≡ m.rm ∷ joined ms
+    go true more = refl
+    go false more = ap (λ xs. m.rm ∷ xs) more
+
+owing_held : (b : Branch) (ss : List Id) → AreOwed b (owing b.key ss (holding b.managers))
+owing_held b ss = go ss (holding b.managers) (held_joined b.managers)
+  where
+    go : (ss : List Id) (xs : List Name) → ((x : Name) → In x xs → In x (joined b.managers)) → AreOwed b (owing b.key ss xs)
+    go [] [] h = tt
+    go [] (x ∷ xs) h = h
+    go (s ∷ ss) xs h = h
 
 -- a branch that joins or is active is not ending
 joining_on : (b : Branch) → b.state ≡ Joining → b.state ≡ Ending → ⊥
@@ -115,32 +160,39 @@ module _ (P : Branch → Type 0) (steady : IsSteady P) where
   sends_hold [] = tt
   sends_hold (m ∷ ms) = (tt, sends_hold ms)
 
-  tells_hold : (v : RmEvent) (k : Key) (xs : List Name) → AllHold P (tells v k xs)
-  tells_hold v k [] = tt
-  tells_hold v k (x ∷ xs) = (tt, tells_hold v k xs)
+  -- such a branch has the key and the managers of this one
+  abbrev Stands : Branch → Type 0
+  Stands b = (y : Branch) × P y × (y.key ≡ b.key) × (joined y.managers ≡ joined b.managers)
+
+  itself : (b : Branch) → P b → Stands b
+  itself b h = (b, h, refl, refl)
+
+  tells_hold : (v : RmEvent) (b : Branch) → Stands b → (xs : List Name) → ((x : Name) → In x xs → In x (joined b.managers)) → AllHold P (tells v b.key xs)
+  tells_hold v b y [] f = tt
+  tells_hold v b y (x ∷ xs) f = ((y.0, y.1, y.2, subst (In x) (sym y.3) (f x (inl refl))), tells_hold v b y xs (λ z i. f z (inr i)))
 
   ended_hold : (b : Branch) (s : State) (reason : Option Reason) → AllHold P (ended b s reason)
   ended_hold b Ending reason = (tt, tt)
   ended_hold b _ reason = tt
 
-  aborts_hold : (cs : List Child) (why : Reason) (b : Branch) → AllHold P (aborts_telling cs why b)
-  aborts_hold cs why b = (
+  aborts_hold : (cs : List Child) (why : Reason) (b : Branch) → Stands b → AllHold P (aborts_telling cs why b)
+  aborts_hold cs why b y = (
     refl,
     append_hold (sends_all (told_abort b.key.tid cs)) (tells AbortEvent b.key (interested b.managers) ++ ended b b.state (Some why)) (sends_hold (told_abort b.key.tid cs))
-        (append_hold (tells AbortEvent b.key (interested b.managers)) (ended b b.state (Some why)) (tells_hold AbortEvent b.key (interested b.managers)) (ended_hold b b.state (Some why))),
+        (append_hold (tells AbortEvent b.key (interested b.managers)) (ended b b.state (Some why)) (tells_hold AbortEvent b y (interested b.managers) (interested_joined b.managers)) (ended_hold b b.state (Some why))),
   )
 
-  undone_hold : (why : Reason) (b : Branch) → AllHold P (undone_quietly why b)
-  undone_hold why b = (refl, tells_hold AbortEvent b.key (interested b.managers))
+  undone_hold : (why : Reason) (b : Branch) → Stands b → AllHold P (undone_quietly why b)
+  undone_hold why b y = (refl, tells_hold AbortEvent b y (interested b.managers) (interested_joined b.managers))
 
-  refuses_hold : (why : Reason) (b : Branch) → AllHold P (refuses why b)
-  refuses_hold why b = (refl, (tt, tells_hold AbortEvent b.key (interested b.managers)))
+  refuses_hold : (why : Reason) (b : Branch) → Stands b → AllHold P (refuses why b)
+  refuses_hold why b y = (refl, (tt, tells_hold AbortEvent b y (interested b.managers) (interested_joined b.managers)))
 
   commits_hold : (b : Branch) (shown : List Act) → P b → AllHold P shown → AllHold P (commits_if_all b shown)
   commits_hold b shown p h = if_hold (all_voted b.accepted && all_replied b.managers) (commits b shown) [] (λ t. (
-    (b, p, refl, inr (and_parts (all_voted b.accepted) (all_replied b.managers) t), owing_of b.key (yes_of b.accepted) (holding b.managers)),
+    (b, p, refl, inr (and_parts (all_voted b.accepted) (all_replied b.managers) t), owing_of b.key (yes_of b.accepted) (holding b.managers), owing_held b (yes_of b.accepted)),
     append_hold (sends_all (to_each Commit b.key.tid (yes_of b.accepted))) (tells CommitEvent b.key (holding b.managers) ++ shown) (sends_hold (to_each Commit b.key.tid (yes_of b.accepted)))
-        (append_hold (tells CommitEvent b.key (holding b.managers)) shown (tells_hold CommitEvent b.key (holding b.managers)) h),
+        (append_hold (tells CommitEvent b.key (holding b.managers)) shown (tells_hold CommitEvent b (itself b p) (holding b.managers) (held_joined b.managers)) h),
   )) (λ t. tt)
 
   casts_hold : (b : Branch) → b.state ≡ Voting → P b → AllHold P (casts_if_all b)
@@ -148,7 +200,7 @@ module _ (P : Branch → Type 0) (steady : IsSteady P) where
       (λ u. ((h, t), (tt, tt))) (λ u. ((b, h, refl, t, s, none_held b.changed (is_empty (holding b.managers)) u), (tt, tt)))) (λ t. tt)
 
   votes_hold : (b : Branch) → P (voting b) → AllHold P (begins_vote b)
-  votes_hold b h = (h, append_hold (tells PrepareEvent b.key (joined b.managers)) (casts_if_all (voting b)) (tells_hold PrepareEvent b.key (joined b.managers)) (casts_hold (voting b) refl h))
+  votes_hold b h = (h, append_hold (tells PrepareEvent b.key (joined b.managers)) (casts_if_all (voting b)) (tells_hold PrepareEvent b (voting b, h, refl, asked_names PrepareEvent b.managers) (joined b.managers) (λ x i. i)) (casts_hold (voting b) refl h))
 
   join_hold : (m : Message) (o : Option Branch) → FoundSo o → AllHold P (join_row m o)
   join_hold m None h = (tt, tt)
@@ -173,14 +225,14 @@ module _ (P : Branch → Type 0) (steady : IsSteady P) where
       go Joining e = (steady.alike b (record b { state = Active }) (ap is_prepared e) refl (joining_on b e) refl refl refl (h b refl), (tt, tt))
       go _ e = tt
 
-  join_no_hold : (o : Option Branch) → AllHold P (join_no_row o)
-  join_no_hold None = tt
-  join_no_hold (Some b) = go b.state
+  join_no_hold : (o : Option Branch) → FoundSo o → AllHold P (join_no_row o)
+  join_no_hold None h = tt
+  join_no_hold (Some b) h = go b.state
     where
       go : (s : State) → AllHold P (join_no_state b s)
-      go Joining = undone_hold SyncFail b
-      go Active = undone_hold SyncFail b
-      go Voting = undone_hold SyncFail b
+      go Joining = undone_hold SyncFail b (itself b (h b refl))
+      go Active = undone_hold SyncFail b (itself b (h b refl))
+      go Voting = undone_hold SyncFail b (itself b (h b refl))
       go Ending = tt
       go Prepared = tt
 
@@ -210,12 +262,12 @@ module _ (P : Branch → Type 0) (steady : IsSteady P) where
           (λ t. (h b refl, commits_hold (with_vote s v b) (ended b b.state None) (h b refl) (ended_hold b b.state None))) (λ t. tt)
       go _ = tt
 
-  no_hold : (s : Id) (o : Option Branch) → AllHold P (no_row s o)
-  no_hold s None = tt
-  no_hold s (Some b) = go b.state
+  no_hold : (s : Id) (o : Option Branch) → FoundSo o → AllHold P (no_row s o)
+  no_hold s None h = tt
+  no_hold s (Some b) h = go b.state
     where
       aborted : AllHold P (refused s b)
-      aborted = if_hold (has_serial s b.accepted) (aborts_telling (others s b.accepted) Vetoed b) [] (λ t. aborts_hold (others s b.accepted) Vetoed b) (λ t. tt)
+      aborted = if_hold (has_serial s b.accepted) (aborts_telling (others s b.accepted) Vetoed b) [] (λ t. aborts_hold (others s b.accepted) Vetoed b (itself b (h b refl))) (λ t. tt)
 
       go : (z : State) → AllHold P (no_state s b z)
       go Active = aborted
@@ -227,16 +279,16 @@ module _ (P : Branch → Type 0) (steady : IsSteady P) where
   commit_hold m (Some b) h = go b.state refl
     where
       go : (s : State) → b.state ≡ s → AllHold P (commit_state b s)
-      go Prepared e = ((b, h b refl, refl, inl (ap is_prepared e), owing_of b.key [] (holding b.managers)), (tt, tells_hold CommitEvent b.key (holding b.managers)))
+      go Prepared e = ((b, h b refl, refl, inl (ap is_prepared e), owing_of b.key [] (holding b.managers), owing_held b []), (tt, tells_hold CommitEvent b (itself b (h b refl)) (holding b.managers) (held_joined b.managers)))
       go _ e = tt
 
-  abort_hold : (o : Option Branch) → AllHold P (abort_row o)
-  abort_hold None = tt
-  abort_hold (Some b) = go b.state
+  abort_hold : (o : Option Branch) → FoundSo o → AllHold P (abort_row o)
+  abort_hold None h = tt
+  abort_hold (Some b) h = go b.state
     where
       go : (s : State) → AllHold P (abort_state b s)
       go Ending = tt
-      go _ = undone_hold Aborted b
+      go _ = undone_hold Aborted b (itself b (h b refl))
 
   inquire_hold : (m : Message) (o : Option Branch) (rs : List LogRecord) → AllHold P (inquire_row m o rs)
   inquire_hold m o rs = if_hold (list_any (λ r. same_id r.tid m.tid) rs) (Sends (down Commit (key_of m)) ∷ []) (answer m o) (λ t. (tt, tt)) (λ t. answers o)
@@ -268,8 +320,8 @@ module _ (P : Branch → Type 0) (steady : IsSteady P) where
       go Active e = if_hold (all_taken b.bids b.accepted) (begins_ending b) (aborts SyncFail b) (λ t. (
         so (ap is_prepared e),
         append_hold (sends_all (to_each Prepare b.key.tid (serials b.accepted))) (tells (which_event b.changed b.accepted b.managers) b.key (joined b.managers) ++ commits_if_all (ending b) []) (sends_hold (to_each Prepare b.key.tid (serials b.accepted)))
-            (append_hold (tells (which_event b.changed b.accepted b.managers) b.key (joined b.managers)) (commits_if_all (ending b) []) (tells_hold (which_event b.changed b.accepted b.managers) b.key (joined b.managers)) (commits_hold (ending b) [] (so (ap is_prepared e)) tt)),
-      )) (λ t. aborts_hold b.accepted SyncFail b)
+            (append_hold (tells (which_event b.changed b.accepted b.managers) b.key (joined b.managers)) (commits_if_all (ending b) []) (tells_hold (which_event b.changed b.accepted b.managers) b (itself b (h b refl)) (joined b.managers) (λ x i. i)) (commits_hold (ending b) [] (so (ap is_prepared e)) tt)),
+      )) (λ t. aborts_hold b.accepted SyncFail b (itself b (h b refl)))
       go _ e = tt
 
   end_branch_hold : (o : Option Branch) → FoundSo o → AllHold P (end_branch_row o)
@@ -286,16 +338,19 @@ module _ (P : Branch → Type 0) (steady : IsSteady P) where
       )
       go _ e = tt
 
-  reply_hold : (s : Id) (x : Name) (r : Reply) (o : Option Branch) (rs : List LogRecord) → ((b : Branch) → o ≡ Some b → is_veto r ≡ false → P (with_reply x r b)) → AllHold P (reply_row s x r o rs)
-  reply_hold s x r None rs h = if_hold (is_forget r && list_any (λ q. holds s x q) rs) (Releases s x ∷ []) [] (λ t. (tt, tt)) (λ t. tt)
-  reply_hold s x r (Some b) rs h = go b.state refl
+  reply_hold : (s : Id) (x : Name) (r : Reply) (o : Option Branch) (rs : List LogRecord) → FoundSo o → ((b : Branch) → o ≡ Some b → is_veto r ≡ false → P (with_reply x r b)) → AllHold P (reply_row s x r o rs)
+  reply_hold s x r None rs there h = if_hold (is_forget r && list_any (λ q. holds s x q) rs) (Releases s x ∷ []) [] (λ t. (tt, tt)) (λ t. tt)
+  reply_hold s x r (Some b) rs there h = go b.state refl
     where
+      stands : Stands (with_reply x r b)
+      stands = (b, there b refl, refl, sym (noted_names x r b.managers))
+
       at_first : AllHold P (first_reply x r b)
-      at_first = if_hold (is_veto r) (aborts Vetoed (with_reply x r b)) (Notes (with_reply x r b) ∷ commits_if_all (with_reply x r b) (ended b b.state None)) (λ t. aborts_hold b.accepted Vetoed (with_reply x r b))
+      at_first = if_hold (is_veto r) (aborts Vetoed (with_reply x r b)) (Notes (with_reply x r b) ∷ commits_if_all (with_reply x r b) (ended b b.state None)) (λ t. aborts_hold b.accepted Vetoed (with_reply x r b) stands)
           (λ t. (h b refl t, commits_hold (with_reply x r b) (ended b b.state None) (h b refl t) (ended_hold b b.state None)))
 
       at_other : b.state ≡ Voting → AllHold P (branch_reply x r b)
-      at_other e = if_hold (is_veto r) (refuses Vetoed (with_reply x r b)) (Notes (with_reply x r b) ∷ casts_if_all (with_reply x r b)) (λ t. refuses_hold Vetoed (with_reply x r b)) (λ t. (h b refl t, casts_hold (with_reply x r b) e (h b refl t)))
+      at_other e = if_hold (is_veto r) (refuses Vetoed (with_reply x r b)) (Notes (with_reply x r b) ∷ casts_if_all (with_reply x r b)) (λ t. refuses_hold Vetoed (with_reply x r b) stands) (λ t. (h b refl t, casts_hold (with_reply x r b) e (h b refl t)))
 
       go : (z : State) → b.state ≡ z → AllHold P (reply_state x r b z)
       go Ending e = if_hold (is_first b) (first_reply x r b) [] (λ t. at_first) (λ t. tt)
@@ -318,23 +373,23 @@ module _ (P : Branch → Type 0) (steady : IsSteady P) where
       go Prepared = (tt, tt)
       go _ = tt
 
-  running_hold : (why : Reason) (b : Branch) → AllHold P (abort_running why b)
-  running_hold why b = if_hold (is_first b) (aborts why b) (refuses why b) (λ t. aborts_hold b.accepted why b) (λ t. refuses_hold why b)
+  running_hold : (why : Reason) (b : Branch) → P b → AllHold P (abort_running why b)
+  running_hold why b h = if_hold (is_first b) (aborts why b) (refuses why b) (λ t. aborts_hold b.accepted why b (itself b h)) (λ t. refuses_hold why b (itself b h))
 
-  by_state_hold : (why : Reason) (b : Branch) (s : State) → AllHold P (abort_by_state why b s)
-  by_state_hold why b Prepared = tt
-  by_state_hold why b _ = running_hold why b
+  by_state_hold : (why : Reason) (b : Branch) (s : State) → P b → AllHold P (abort_by_state why b s)
+  by_state_hold why b Prepared h = tt
+  by_state_hold why b _ h = running_hold why b h
 
-  abort_branch_hold : (why : Reason) (o : Option Branch) → AllHold P (abort_branch_row why o)
-  abort_branch_hold why None = tt
-  abort_branch_hold why (Some b) = by_state_hold why b b.state
+  abort_branch_hold : (why : Reason) (o : Option Branch) → FoundSo o → AllHold P (abort_branch_row why o)
+  abort_branch_hold why None h = tt
+  abort_branch_hold why (Some b) h = by_state_hold why b b.state (h b refl)
 
-  sweep_hold : (why : Reason) (chosen : Branch → Bool) (bs : List Branch) → AllHold P (sweep why chosen bs)
-  sweep_hold why chosen [] = tt
-  sweep_hold why chosen (b ∷ bs) = append_hold (aborted_if (chosen b) why b) (sweep why chosen bs) (go (chosen b)) (sweep_hold why chosen bs)
+  sweep_hold : (why : Reason) (chosen : Branch → Bool) (bs : List Branch) → ((b : Branch) → In b bs → P b) → AllHold P (sweep why chosen bs)
+  sweep_hold why chosen [] h = tt
+  sweep_hold why chosen (b ∷ bs) h = append_hold (aborted_if (chosen b) why b) (sweep why chosen bs) (go (chosen b)) (sweep_hold why chosen bs (λ x i. h x (inr i)))
     where
       go : (t : Bool) → AllHold P (aborted_if t why b)
-      go true = by_state_hold why b b.state
+      go true = by_state_hold why b b.state (h b (inl refl))
       go false = tt
 
   -- so it is of all that a row notes, prepares, commits and lets go
@@ -350,13 +405,13 @@ module _ (P : Branch → Type 0) (steady : IsSteady P) where
       message : (m : Message) (d : Kind) → VoteHolds P tm.table m d → AllHold P (got tm m d)
       message m Join v = join_hold m (find (first m.tid) tm.table) (found (first m.tid))
       message m JoinOk v = join_ok_hold (find (key_of m) tm.table) (found (key_of m))
-      message m JoinNo v = join_no_hold (find (key_of m) tm.table)
+      message m JoinNo v = join_no_hold (find (key_of m) tm.table) (found (key_of m))
       message m Prepare v = prepare_hold m (find (key_of m) tm.table) (found (key_of m))
       message m Yes v = vote_hold m.serial Yes (find (first m.tid) tm.table) (λ b f. v b (found_in (first m.tid) tm.table b f) (find-key (first m.tid) tm.table b f) (found (first m.tid) b f))
       message m ReadOnly v = vote_hold m.serial ReadOnly (find (first m.tid) tm.table) (λ b f. v b (found_in (first m.tid) tm.table b f) (find-key (first m.tid) tm.table b f) (found (first m.tid) b f))
-      message m No v = no_hold m.serial (find (first m.tid) tm.table)
+      message m No v = no_hold m.serial (find (first m.tid) tm.table) (found (first m.tid))
       message m Commit v = commit_hold m (find (key_of m) tm.table) (found (key_of m))
-      message m Abort v = abort_hold (find (key_of m) tm.table)
+      message m Abort v = abort_hold (find (key_of m) tm.table) (found (key_of m))
       message m Ack v = if_hold (list_any (λ r. waits_for (key_of m) r) tm.records) (Acknowledges (key_of m) ∷ []) [] (λ t. (tt, tt)) (λ t. tt)
       message m Inquire v = inquire_hold m (find (first m.tid) tm.table) tm.records
 
@@ -368,10 +423,10 @@ module _ (P : Branch → Type 0) (steady : IsSteady P) where
       go (Changed s) v = note_hold has_changed (find_serial s tm.table) (λ b f active. steady.changed b (found_serial s b f))
       go (EndTrans t) v = end_trans_hold (find (first t) tm.table) (found (first t))
       go (EndBranch s) v = end_branch_hold (find_serial s tm.table) (found_serial s)
-      go (AbortBranch s why) v = abort_branch_hold why (find_serial s tm.table)
-      go (Replied s x r) v = reply_hold s x r (find_serial s tm.table) tm.records (λ b f plain. v b (serial_in s tm.table b f) (find_serial-serial s tm.table b f) plain (found_serial s b f))
+      go (AbortBranch s why) v = abort_branch_hold why (find_serial s tm.table) (found_serial s)
+      go (Replied s x r) v = reply_hold s x r (find_serial s tm.table) tm.records (found_serial s) (λ b f plain. v b (serial_in s tm.table b f) (find_serial-serial s tm.table b f) plain (found_serial s b f))
       go (Got m) v = message m m.kind v
-      go (Clock now) v = sweep_hold Timeout (is_due now) tm.table
-      go (LinkDown x) v = append_hold (sweep CommFail (is_cut_off x) tm.table) (sweep CommFail (is_under x) tm.table) (sweep_hold CommFail (is_cut_off x) tm.table) (sweep_hold CommFail (is_under x) tm.table)
-      go RunDown v = append_hold (sweep SegFail is_first tm.table) (sweep SegFail is_other tm.table) (sweep_hold SegFail is_first tm.table) (sweep_hold SegFail is_other tm.table)
+      go (Clock now) v = sweep_hold Timeout (is_due now) tm.table h
+      go (LinkDown x) v = append_hold (sweep CommFail (is_cut_off x) tm.table) (sweep CommFail (is_under x) tm.table) (sweep_hold CommFail (is_cut_off x) tm.table h) (sweep_hold CommFail (is_under x) tm.table h)
+      go RunDown v = append_hold (sweep SegFail is_first tm.table) (sweep SegFail is_other tm.table) (sweep_hold SegFail is_first tm.table h) (sweep_hold SegFail is_other tm.table h)
       go (InquireBranch s) v = asks_hold (find_serial s tm.table)

@@ -317,7 +317,7 @@ closing_told L n _ = tt
 
 -- What tasks show.
 
-take_rest : (j : ℕ) (rs : List Row) → (rest : List Line) × (lines_of_rows rs ≡ lines_of_rows (take j rs) ++ rest)
+pub take_rest : (j : ℕ) (rs : List Row) → (rest : List Line) × (lines_of_rows rs ≡ lines_of_rows (take j rs) ++ rest)
 take_rest zero rs = (lines_of_rows rs, refl)
 take_rest (suc j) [] = ([], refl)
 take_rest (suc j) (r ∷ rs) = let more = take_rest j rs in (more.0, ap (λ ls. r.lines ++ ls) more.1 ∙ sym (append_assoc r.lines (lines_of_rows (take j rs)) more.0))
@@ -355,7 +355,7 @@ abbrev pub Quiet : Part → Type 0
 Quiet (Does node t) = is_declaring t ≡ false
 Quiet (Asks node serial) = Unit {0}
 
-quiet_task : (w : World) (p : Part) (node : List ℕ) (t : Task) → task_of_part w p ≡ Some (record { node = node; task = t }) → Quiet p → is_declaring t ≡ false
+pub quiet_task : (w : World) (p : Part) (node : List ℕ) (t : Task) → task_of_part w p ≡ Some (record { node = node; task = t }) → Quiet p → is_declaring t ≡ false
 quiet_task w (Does other u) node t e q = subst (λ (x : TaskAt). is_declaring x.task ≡ false) (some_is _ _ e) q
 quiet_task w (Asks other serial) node t e q = hears (question w other serial) e
   where

@@ -81,7 +81,7 @@ answer_untold w v s lines step = go (refused_at_once w s) refl step.does
 
 -- Lines of a DECLARE_RM.
 
-among : (rm : Name) (xs : List Name) → list_any (λ x. same_name x rm) xs ≡ true → In rm xs
+pub among : (rm : Name) (xs : List Name) → list_any (λ x. same_name x rm) xs ≡ true → In rm xs
 among rm [] e = let no : ⊥ = cc in absurd no
 among rm (x ∷ xs) e = go (same_name x rm) refl e (among rm xs)
   where
@@ -128,11 +128,11 @@ declare_lines s stops n rm Unpowered rises may l i = let no : ⊥ = cc in absurd
 declare_lines s stops n rm (Cut o j b cause) rises may l i = let no : ⊥ = cc in absurd no
 
 -- a statement declares a manager, or none
-data Declaring (s : Statement) : Type 0 where
+pub data Declaring (s : Statement) : Type 0 where
   Declares : (node : List ℕ) (rm : Name) → s ≡ At node (DeclareRm rm) → Declaring s
   None_declared : QuietStatement s → Declaring s
 
-declaring : (s : Statement) → Declaring s
+pub declaring : (s : Statement) → Declaring s
 declaring (At node request) = go request
   where
     go : (r : Request) → Declaring (At node r)

@@ -57,7 +57,7 @@ left_in (q ∷ rs) serial r i = go (same_id serial q.serial) i (left_in rs seria
     go false (inl same) more = inl same
     go false (inr j) more = inr (more j)
 
-record_in : (rs : List LogRecord) (serial : Id) (r : LogRecord) → find_record serial rs ≡ Some r → In r rs
+pub record_in : (rs : List LogRecord) (serial : Id) (r : LogRecord) → find_record serial rs ≡ Some r → In r rs
 record_in [] serial r e = let no : ⊥ = cc in absurd no
 record_in (q ∷ rs) serial r e = go (same_id serial q.serial) e (record_in rs serial r)
   where
@@ -65,7 +65,7 @@ record_in (q ∷ rs) serial r e = go (same_id serial q.serial) e (record_in rs s
     go true f more = inl (sym (Rattle.run_model.proofs.NodeLists.some_is q r f))
     go false f more = inr (more f)
 
-ordered_in : (ids : List Id) (rs : List LogRecord) (r : LogRecord) → In r (records_by ids rs) → In r rs
+pub ordered_in : (ids : List Id) (rs : List LogRecord) (r : LogRecord) → In r (records_by ids rs) → In r rs
 ordered_in [] rs r i = i
 ordered_in (x ∷ ids) rs r i = go (find_record x rs) refl i (λ qs j. ordered_in ids qs r j)
   where
@@ -276,7 +276,7 @@ module _ (tid serial : Id) (rm : Name) where
       go false (inr j) more = more j
 
   settled_late : (a : table.Act) (moment : ℕ) (ss : List Settlement) → HoldsIn Awaits a → NotCommitted ss → NotCommitted (settled_more (settlement_of a moment) ss)
-  settled_late (table.Settles k Commit reason r) moment ss (b, h, key, nothing, written) q s (inl same) e =
+  settled_late (table.Settles k Commit reason r) moment ss (b, h, key, nothing, written, owed) q s (inl same) e =
       absurd (lacks b h nothing (ap (λ (j : BranchKey). j.serial) key ∙ (ap (λ (x : Settlement). x.serial) (sym same) ∙ e)))
   settled_late (table.Settles k Commit reason r) moment ss h q s (inr i) e = q s i e
   settled_late (table.Settles k Abort reason r) moment ss h q s (inl same) e = ap (λ (x : Settlement). x.outcome) same

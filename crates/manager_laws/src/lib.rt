@@ -5,6 +5,8 @@
 
 ghost use Rattle.manager_laws.specs.Asking.{PendingAskedHold};
 ghost use Rattle.manager_laws.specs.Joined.{JoinedAreDeclared};
+ghost use Rattle.manager_laws.specs.Joining.{AtOnceHold, PendingJoinedHold};
+ghost use Rattle.manager_laws.specs.Members.{EventsOfMembersHold, RepliesOfMembersHold};
 ghost use Rattle.manager_laws.specs.Promises.{ManagerPromisesHold};
 ghost use Rattle.manager_laws.specs.Replying.{LeavesHold, RepliesHold};
 ghost use Rattle.manager_laws.specs.Telling.{AbortsToldHold, CommitsToldHold, DeclaresHold, RetoldHold};
@@ -30,6 +32,18 @@ pub fn pending_are_asked()
     ensures { PendingAskedHold }
 {}
 
+/// In every legal transcript an END_TRANS that is answered PENDING names just the resource managers that joined the first branch of its transaction: each
+/// that it names did so, by a JOIN_RM that succeeded with a label of that branch at its node, and each that did so is named.
+pub fn pending_are_joined()
+    ensures { PendingJoinedHold }
+{}
+
+/// In every legal transcript an END_TRANS that commits at once ends a transaction in which nothing else takes part: no branch was told to have joined it,
+/// and no resource manager joined its first branch, by a JOIN_RM that succeeded.
+pub fn ends_at_once_alone()
+    ensures { AtOnceHold }
+{}
+
 /// In every legal transcript what a resource manager is told of the outcome of a branch is its outcome, over all stops and restarts. An event COMMIT
 /// stands behind a line that shows the commitment, in its statement or an earlier one, and the branch is committed so for good; or it is shown for a
 /// DECLARE_RM, of a branch whose committed record stood on its node's disk before the first line and waited for the manager, where no INIT has made
@@ -45,6 +59,14 @@ pub fn outcomes_are_told()
 /// succeeds at the branch's node, over all failures and restarts, until a statement has it reply SS$_FORGET there, or may make the volume anew.
 pub fn commitments_are_retold()
     ensures { RetoldHold }
+{}
+
+/// In every legal transcript resource managers take part only in branches that they joined. A reply of one is taken only for a branch which it joined by
+/// a JOIN_RM that succeeded, or of which a record stood on its node's disk before the first line and named the manager, where no INIT has made that
+/// volume anew since; and only of such a branch is it told an event, be it PREPARE, ONEPHASE, COMMIT or ABORT.
+pub fn members_take_part()
+    ensures replies { RepliesOfMembersHold }
+    ensures events { EventsOfMembersHold }
 {}
 
 /// Every legal transcript keeps the promises of `ManagerPromises`: those of this crate, and that of `run_laws` that a veto aborts its branch.

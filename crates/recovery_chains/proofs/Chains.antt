@@ -13,7 +13,7 @@ use Rattle.commit_protocol.proofs.Gathered.{is_shown}
 use Rattle.commit_protocol.proofs.Lists.{same_id-refl, same_id-true}
 use Rattle.recovery_model.specs.Journal.{is_commit}
 use Rattle.recovery_model.specs.Opening.{IsOpening}
-use Rattle.run_model.specs.World.{Act, DiskCounts, Node, Settlement, Sound, World, acted, find_node, opened, state_of}
+use Rattle.run_model.specs.World.{Act, DiskCounts, File, Node, Settlement, Sound, World, acted, find_node, opened, state_of}
 use Rattle.run_model.specs.Transcript.{Entry, Legal}
 use Rattle.run_model.proofs.NodeLists.{found_name, some_is}
 use Rattle.world_laws.specs.Running.{AllFound}
@@ -29,18 +29,19 @@ use Rattle.run_laws.proofs.LastSettled.{left_found}
 use Rattle.run_laws.proofs.SoundWorlds.{legal_sound, opening_sound}
 use Rattle.run_laws.proofs.Staying.{after_grows, found_settled}
 use Rattle.run_laws.proofs.Undecided.{home, used}
-use Rattle.run_chains.specs.Chains.{Follow, LeftSo, MayAgree, RunOf}
+use Rattle.run_chains.specs.Chains.{AreNext, Follow, LeftSo, MadeAreNew, MayAgree, RunOf}
 use Rattle.run_chains.specs.Reopenings.{IsReopened}
 use Rattle.run_chains.proofs.Anew.{Turns, prepared_before, shows_in}
 use Rattle.run_chains.proofs.Names.{Both, Nowhere, Place, place}
 use Rattle.run_chains.proofs.Next.{Lands, chains_agree, next_runs_agree, turned, turns}
-use Rattle.recovery_runs.specs.Promises.{FilesAgree, may_yet_commit}
+use Rattle.recovery_runs.specs.LastImages.{LastImagesStand}
+use Rattle.recovery_runs.specs.Promises.{FilesAgree, LastImagesAgree, may_yet_commit}
 use Rattle.recovery_runs.specs.Runs.{AreLawful, EndMay, HasNoGaps, MayOnly}
 use Rattle.recovery_runs.proofs.Awaited.{awaited, lawful_with, recorded}
 use Rattle.recovery_runs.proofs.CommittedLemmas.{is_committed}
 use Rattle.recovery_runs.proofs.PromiseLemmas.{recovery_promises_hold, whole_of}
-use Rattle.recovery_runs.proofs.RunLemmas.{next_files_hold, next_files_whole}
-use Rattle.recovery_chains.specs.Chains.{FilesAgreeAgain, FilesBegin, RecoveryChainsAgree}
+use Rattle.recovery_runs.proofs.RunLemmas.{next_files_hold, next_files_whole, next_last_images_hold}
+use Rattle.recovery_chains.specs.Chains.{AreBare, FilesAgreeAgain, FilesBegin, LastImageChainsAgree, LastImagesAgreeAgain, RecoveryChainsAgree}
 use Rattle.recovery_chains.proofs.Bound.{IsBound, bound_commits, bound_known, bound_there, goes, of_node}
 use Rattle.recovery_chains.proofs.Doomed.{doomed_apart, is_doomed}
 
@@ -165,39 +166,74 @@ module _ (nodes : List Node) (disks : List DiskCounts) (es : List Entry) (closin
           (bound_known a.base q closing x t b (λ u. (c : LogRecord) × In c (image_at (opening_of a.base) x.node).prepared × (c.serial ≡ x) × (c.tid ≡ u)) (recorded nodes disks es closing may.opening may.names legal a x n left unit there (q x.node) b.node b.found))
           (λ dead. (goes_on.later.dead t dead).commits (bound_commits a.base closing a.since a.run.is_run q (opening_of a.base) a.run.is_run.agrees (run reached.steps (raised (opening_of a.base))) goes_on reached.shows x t b).0)
 
-  pub left_agree : FilesAgree (opened nodes disks) es → (node : List ℕ) (n m : Node) → find_node node closing.nodes ≡ Some n → n.durable.volume ≡ Sound → IsReopened n m →
+  abbrev agreed : Id → Bool
+  agreed = may_yet_commit (opening_told nodes es)
+
+  lawful : FilesAgree (opened nodes disks) es → AreLawful (may_commit closing next) agreed (opened nodes disks) es
+  lawful = lawful_with nodes disks es closing may.opening may.names legal a (may_commit closing next) waits
+
+  next_may : (x : Id) → may_yet_commit next x ≡ true → may_commit closing next x ≡ true
+  next_may x = or_right (ends_committed closing x) (may_yet_commit next x)
+
+  left_agree : FilesAgree (opened nodes disks) es → (node : List ℕ) (n m : Node) → find_node node closing.nodes ≡ Some n → n.durable.volume ≡ Sound → IsReopened n m →
       AllFound (λ file f. IsOpening (may_yet_commit next) m.durable.greatest (state_of f) × HasNoGaps f) m.durable.directory
   left_agree agree node n m found sound again file f there = (
-    next_files_hold nodes disks es closing (may_commit closing next) (may_yet_commit (opening_told nodes es)) (may_yet_commit next) may.opening lawful only end_may legal (λ x h. or_right (ends_committed closing x) (may_yet_commit next x) h)
-        node n m found sound again file f there,
-    next_files_whole nodes disks es closing (may_commit closing next) (may_yet_commit (opening_told nodes es)) may.opening lawful (whole_of (opened nodes disks) es agree) only end_may legal node n m found sound again file f there,
+    next_files_hold nodes disks es closing (may_commit closing next) agreed (may_yet_commit next) may.opening (lawful agree) only end_may legal next_may node n m found sound again file f there,
+    next_files_whole nodes disks es closing (may_commit closing next) agreed may.opening (lawful agree) (whole_of (opened nodes disks) es agree) only end_may legal node n m found sound again file f there,
   )
-    where
-      lawful : AreLawful (may_commit closing next) (may_yet_commit (opening_told nodes es)) (opened nodes disks) es
-      lawful = lawful_with nodes disks es closing may.opening may.names legal a (may_commit closing next) waits agree
+
+  left_stand : FilesAgree (opened nodes disks) es → LastImagesAgree (opened nodes disks) es → (node : List ℕ) (n m : Node) → find_node node closing.nodes ≡ Some n → n.durable.volume ≡ Sound → IsReopened n m →
+      AllFound (λ file f. LastImagesStand (may_yet_commit next) (state_of f)) m.durable.directory
+  left_stand agree stand node n m found sound again =
+      next_last_images_hold nodes disks es closing (may_commit closing next) agreed (may_yet_commit next) may.opening (lawful agree) stand only legal next_may node n m found sound again
 
 -- The next run.
 
+module _ (promised : AgreedPromisesAreKept) (nodes : List Node) (disks : List DiskCounts) (es : List Entry) (closing : World) (may : MayAgree nodes es) (legal : Legal (opened nodes disks) es closing)
+    (next : List Node) (are : AreNext closing.nodes next) (others : List DiskCounts) (fs : List Entry) (bare : AreBare (opened next others) fs) (new : MadeAreNew next fs) where
+  a : AgreedPromises (opened nodes disks) es closing
+  a = promised nodes disks es closing may.opening may.names may.disks may.agree legal
+
+  so : LeftSo closing next
+  so = next_runs_agree promised nodes disks es closing may legal next are
+
+  abbrev told : Opening
+  told = opening_told next fs
+
+  abbrev turning : Resolution
+  turning = (turned closing.nodes next are).0
+
+  turn : (name : List ℕ) → Turns (next_opening a.base turning closing) told name
+  turn = turns a.base closing a.since a.run.is_run a.run.leaves next are so.names fs new
+
+  -- What holds of the files on a disk that this run leaves sound, as the next run finds it, holds of each file that this one finds.
+  found_so : (Q : ℕ → File → Type 0) →
+      ((node : List ℕ) (n m : Node) → find_node node closing.nodes ≡ Some n → n.durable.volume ≡ Sound → IsReopened n m → AllFound (λ file f. Q m.durable.greatest f) m.durable.directory) →
+      (node : List ℕ) (m : Node) → left_at node fs (opened next others) ≡ Some m → AllFound (λ file f. Q m.durable.greatest f) m.durable.directory
+  found_so Q leaves node m left = go (place node closing.nodes next are)
+    where
+      there : find_node node next ≡ Some m
+      there = left_found node fs (opened next others) m left
+
+      go : Place node closing.nodes next → AllFound (λ file f. Q m.durable.greatest f) m.durable.directory
+      go (Nowhere x y) = let clash : ◌≡◌ {A = Option Node} None (Some m) = sym y ∙ there in let no : ⊥ = cc in absurd no
+      go (Both n y found at is) = by ((turned closing.nodes next are).1 node n m found there)
+        where
+          by : Lands n m ((turned closing.nodes next are).0 node) → AllFound (λ file f. Q m.durable.greatest f) m.durable.directory
+          by (inl has) = leaves node n m found (sound_of n has.0) (subst (λ (x : Node). IsReopened n x) (some_is y m (sym at ∙ there)) is.reopened)
+          by (inr none) = λ file f e. absurd (bare node m left none.1 file f e)
+
+  again : FilesAgree (opened nodes disks) es → FilesAgree (opened next others) fs
+  again agree = found_so (λ g f. IsOpening (may_yet_commit told) g (state_of f) × HasNoGaps f) (left_agree nodes disks es closing may legal a turning told (so.told fs new) turn agree)
+
+  stand_again : FilesAgree (opened nodes disks) es → LastImagesAgree (opened nodes disks) es → LastImagesAgree (opened next others) fs
+  stand_again agree stand = found_so (λ g f. LastImagesStand (may_yet_commit told) (state_of f)) (left_stand nodes disks es closing may legal a turning told (so.told fs new) turn agree stand)
+
 pub files_agree_again : AgreedPromisesAreKept → FilesAgreeAgain
-files_agree_again promised nodes disks es closing may legal agree next are others fs bare new node m left = go (place node closing.nodes next are)
-  where
-    a : AgreedPromises (opened nodes disks) es closing
-    a = promised nodes disks es closing may.opening may.names may.disks may.agree legal
+files_agree_again promised nodes disks es closing may legal agree next are others fs bare new = again promised nodes disks es closing may legal next are others fs bare new agree
 
-    so : LeftSo closing next
-    so = next_runs_agree promised nodes disks es closing may legal next are
-
-    there : find_node node next ≡ Some m
-    there = left_found node fs (opened next others) m left
-
-    go : Place node closing.nodes next → AllFound (λ file f. IsOpening (may_yet_commit (opening_told next fs)) m.durable.greatest (state_of f) × HasNoGaps f) m.durable.directory
-    go (Nowhere x y) = let clash : ◌≡◌ {A = Option Node} None (Some m) = sym y ∙ there in let no : ⊥ = cc in absurd no
-    go (Both n y found at is) = by ((turned closing.nodes next are).1 node n m found there)
-      where
-        by : Lands n m ((turned closing.nodes next are).0 node) → AllFound (λ file f. IsOpening (may_yet_commit (opening_told next fs)) m.durable.greatest (state_of f) × HasNoGaps f) m.durable.directory
-        by (inl has) = left_agree nodes disks es closing may legal a (turned closing.nodes next are).0 (opening_told next fs) (so.told fs new) (turns a.base closing a.since a.run.is_run a.run.leaves next are so.names fs new) agree node n m found
-            (sound_of n has.0) (subst (λ (x : Node). IsReopened n x) (some_is y m (sym at ∙ there)) is.reopened)
-        by (inr none) = λ file f e. absurd (bare node m left none.1 file f e)
+pub last_images_agree_again : AgreedPromisesAreKept → LastImagesAgreeAgain
+last_images_agree_again promised nodes disks es closing may legal agree stand next are others fs bare new = stand_again promised nodes disks es closing may legal next are others fs bare new agree stand
 
 -- Any number of runs.
 
@@ -212,3 +248,9 @@ recovery_chains_agree promised r rs follow begins =
     let files = chain_files promised r rs follow begins in
     let may = (chains_agree promised r rs follow).0 in
     (files, (recovery_promises_hold promised r.nodes r.disks r.entries r.closing may.opening follow.3).agree may.names may.disks may.agree files)
+
+pub last_image_chains_agree : AgreedPromisesAreKept → LastImageChainsAgree
+last_image_chains_agree promised r [] follow files stand = stand
+last_image_chains_agree promised r (before ∷ rs) follow files stand =
+    last_images_agree_again promised before.nodes before.disks before.entries before.closing (chains_agree promised before rs follow.0).0 follow.0.3 (chain_files promised before rs follow.0 files.0)
+    (last_image_chains_agree promised before rs follow.0 files.0 stand) r.nodes follow.1.0 r.disks r.entries files.1 follow.1.1

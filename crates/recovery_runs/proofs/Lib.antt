@@ -1,3 +1,4 @@
+pub mod LastImageLemmas
 pub mod Awaited
 pub mod CommittedLemmas
 mod FilesKept

@@ -12,7 +12,7 @@ use Rattle.recovery_runs.specs.Promises.{FilesAgree, RecoveriesGive, RecoveryPro
 use Rattle.recovery_runs.proofs.AnsweredLemmas.{is_answered}
 use Rattle.recovery_runs.proofs.Awaited.{lawful}
 use Rattle.recovery_runs.proofs.CommittedLemmas.{committed_only}
-use Rattle.recovery_runs.proofs.RunLemmas.{next_files_hold, next_files_whole, no_file_has_gaps}
+use Rattle.recovery_runs.proofs.RunLemmas.{next_files_hold, next_files_whole, next_last_images_hold, no_file_has_gaps}
 use Rattle.recovery_runs.proofs.ShownLemmas.{shown_recoveries_hold}
 
 -- those that are shown gave what they were to, where aborts stand
@@ -42,5 +42,6 @@ recovery_promises_hold promised nodes disks es closing opens legal = record {
       (split.1.0, split.0, split.1.1, split.1, is_answered split.1.0 split.0 node file way _ there.entry.lines there.said split.1.2);
   leaves = λ may waits next lawful only ends fewer. next_files_hold nodes disks es closing may waits next opens lawful only ends legal fewer;
   whole = λ may waits lawful whole only ends. next_files_whole nodes disks es closing may waits opens lawful whole only ends legal;
+  lasts = λ may waits next lawful stands only fewer. next_last_images_hold nodes disks es closing may waits next opens lawful stands only legal fewer;
   gapless = λ gapless. no_file_has_gaps nodes disks es closing opens gapless legal;
 }

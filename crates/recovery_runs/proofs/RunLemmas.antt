@@ -27,12 +27,14 @@ use Rattle.run_laws.proofs.SoundWorlds.{IsPlainReading, Tracked, Tracks, legal_s
 use Rattle.run_laws.proofs.Staying.{Stay, found_settled, stays}
 use Rattle.run_chains.specs.Reopenings.{IsReopened, rebased_file, reopened}
 use Rattle.recovery_laws.specs.Led.{IsTold}
+use Rattle.recovery_runs.specs.LastImages.{LastImagesStand}
+use Rattle.recovery_runs.proofs.LastImageLemmas.{fewer_last_images, more_last_images}
 use Rattle.recovery_laws.proofs.LedLemmas.{told_agree}
 use Rattle.recovery_laws.proofs.MappedLemmas.{mapped_give}
 use Rattle.recovery_laws.proofs.RecoveringLemmas.{recoveries_give_records}
-use Rattle.recovery_runs.specs.Runs.{AreLawful, AreWhole, EndMay, FilesStayTold, FilesStayWhole, HasNoGaps, LeftFilesHold, NextFilesHold, NextFilesWhole, NoFileHasGaps, RecoveriesHold}
+use Rattle.recovery_runs.specs.Runs.{AreLawful, AreStanding, AreWhole, EndMay, FilesStayTold, FilesStayWhole, HasNoGaps, LastImagesHold, LeftFilesHold, NextFilesHold, NextFilesWhole, NextLastImagesHold, NoFileHasGaps, RecoveriesHold}
 use Rattle.recovery_runs.proofs.FilesKept.{ActsKeep, AreSo, Betrays, half_known, scheme, scheme_keeps}
-use Rattle.recovery_runs.proofs.ToldKept.{HasNone, IsWhole, gapless_acts, told_acts, whole_acts}
+use Rattle.recovery_runs.proofs.ToldKept.{DoStand, HasNone, IsWhole, gapless_acts, standing_acts, told_acts, whole_acts}
 
 stay_after : (w closing : World) (after : List Entry) → Legal w after closing → Stay w closing
 stay_after w closing after legal = let r = stays w closing after [] (subst (λ es. Legal w es closing) (sym (append-nil after)) legal) in subst (λ x. Stay x closing) r.1 r.2
@@ -183,6 +185,9 @@ module _ (may waits : Id → Bool) (nodes : List Node) (disks : List DiskCounts)
       let w = whole node n left file f there in
       (inl (record { found = record { acts = []; moment = n.durable.greatest; first = state_of f; opening = l.0; commits = l.1; leads = (refl, refl) }; each = w.gapless.committed; given = w.given }), w.gapless)
 
+  found_standing : AreStanding waits (opened nodes disks) es → (n : Node) → left_at node es (opened nodes disks) ≡ Some n → AllFound (λ file f. DoStand may n.durable.greatest f) n.durable.directory
+  found_standing stands n left file f there = let l = lawful node n left file f there in more_last_images may waits (state_of f) l.1 l.0.lawful.ai_keys (stands node n left file f there)
+
 pub files_stay_told : FilesStayTold
 files_stay_told nodes disks later after es w closing may waits opens lawful only legal on node n found =
     stays_so may (λ x. may x ≡ false) (IsTold may waits) (told_acts may waits) node nodes disks later after es w closing opens (found_told may waits nodes disks es lawful node) only.commits only.aborts legal on n found
@@ -217,3 +222,14 @@ pub next_files_whole : NextFilesWhole
 next_files_whole nodes disks es closing may waits opens lawful whole only ends legal node n m found sound again =
     next_so may (λ x. may x ≡ false) (IsWhole may waits) (whole_acts may waits) node nodes disks es closing opens (found_whole may waits nodes disks es lawful node whole) only.commits only.aborts ends legal (λ g f. HasNoGaps f)
     (λ g f k. record { gapless = record { stands = k.1.stands; committed = k.1.committed }; given = (mapped_give may waits g f k.0).next }) n m found sound again
+
+-- Last after images.
+
+pub last_images_hold : LastImagesHold
+last_images_hold nodes disks later after es w closing may waits opens lawful stands only legal on node n found =
+    stays_so (λ x. true) (λ x. may x ≡ false) (DoStand may) (standing_acts may) node nodes disks later after es w closing opens (found_standing may waits nodes disks es lawful node stands) (λ s i commits. refl) only.aborts legal on n found
+
+pub next_last_images_hold : NextLastImagesHold
+next_last_images_hold nodes disks es closing may waits next opens lawful stands only legal fewer node n m found sound again =
+    next_so (λ x. true) (λ x. may x ≡ false) (DoStand may) (standing_acts may) node nodes disks es closing opens (found_standing may waits nodes disks es lawful node stands) (λ s i commits. refl) only.aborts (λ other x act s at under i commits. refl) legal
+    (λ g f. LastImagesStand next (state_of f)) (λ g f h. fewer_last_images may next (state_of f) fewer h) n m found sound again

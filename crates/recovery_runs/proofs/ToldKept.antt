@@ -25,7 +25,9 @@ use Rattle.recovery_laws.specs.Loading.{HasNoGap}
 use Rattle.recovery_laws.specs.Gaps.{IsGapless, MayChangeOn}
 use Rattle.recovery_laws.specs.Mapped.{IsMapped, WasFoundSo, WasMadeSo}
 use Rattle.recovery_model.specs.Acts.{MayHalfAbort}
+use Rattle.recovery_runs.specs.LastImages.{LastImagesStand}
 use Rattle.recovery_laws.proofs.GapLemmas.{files_stay_gapless, half_gapless, recovered_gapless}
+use Rattle.recovery_runs.proofs.LastImageLemmas.{acts_keep_last_images}
 use Rattle.recovery_laws.proofs.MappedLemmas.{acts_keep_mapped, mapped_give}
 use Rattle.recovery_laws.proofs.PositionLemmas.{no_positions}
 use Rattle.recovery_runs.proofs.FilesKept.{ActsKeep}
@@ -133,6 +135,28 @@ gapless_acts may Doomed = record {
   saves = λ g f start h rests. h;
   recovers = λ g f start buckets m h rests gaps. recovered_gapless f start buckets g m rests gaps;
   creates = λ g f made. bare_gapless g f made;
+}
+
+-- Last after images stand.
+
+abbrev pub DoStand : (may : Id → Bool) → ℕ → File → Type 0
+DoStand may g f = LastImagesStand may (state_of f)
+
+bare_stands : (may : Id → Bool) (g : ℕ) → LastImagesStand may (recovery.created g (λ u. empty))
+bare_stands may g on = let no : ⊥ = cc in absurd no
+
+-- whichever branches are committed, where none of these aborts
+pub standing_acts : (may : Id → Bool) → ActsKeep (λ x. true) (λ x. may x ≡ false) (DoStand may)
+standing_acts may = record {
+  changes = λ g f held tid serial cs shared h m. (acts_keep_last_images may f h).changes held tid serial cs;
+  directs = λ g f held s cs shared h m later commits. (acts_keep_last_images may f h).directs held s cs;
+  settles = λ g f s shared h m. (acts_keep_last_images may f h).settles s;
+  passes = λ g f s later off h. h;
+  halves = λ g f serial standing h dies half. (acts_keep_last_images may f h).halves serial standing dies;
+  marks = λ g f mark h rests. (acts_keep_last_images may f h).marks mark g;
+  saves = λ g f start h rests. (acts_keep_last_images may f h).saves start g;
+  recovers = λ g f start buckets m h rests gaps. (acts_keep_last_images may f h).recovers start buckets g m;
+  creates = λ g f made. subst (LastImagesStand may) (sym made) (bare_stands may g);
 }
 
 -- And what recoveries are to give has none.

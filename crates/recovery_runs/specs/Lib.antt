@@ -1,3 +1,4 @@
+pub mod LastImages
 pub mod Runs
 pub mod Answered
 pub mod Promises

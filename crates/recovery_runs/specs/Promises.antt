@@ -16,7 +16,8 @@ use Rattle.run_laws.specs.Anew.{AreKnownOrAnew}
 use Rattle.run_laws.specs.Promises.{AbortsStand, left_at}
 use Rattle.run_chains.specs.Reopenings.{IsReopened}
 use Rattle.recovery_laws.specs.Gaps.{IsGapless}
-use Rattle.recovery_runs.specs.Runs.{AreGapless, AreLawful, AreWhole, EndMay, HasNoGaps, HasRecovered, MayOnly, committed_in}
+use Rattle.recovery_runs.specs.LastImages.{LastImagesStand}
+use Rattle.recovery_runs.specs.Runs.{AreGapless, AreLawful, AreStanding, AreWhole, EndMay, HasNoGaps, HasRecovered, MayOnly, committed_in}
 use Rattle.recovery_runs.specs.Answered.{IsAnswered}
 
 -- an entry of a transcript asks for a recovery, between those after it and those before it
@@ -65,6 +66,16 @@ abbrev pub GapsStayAway : World → List Entry → World → Type 0
 GapsStayAway opening es closing = (may waits : Id → Bool) → AreLawful may waits opening es → AreWhole opening es → MayOnly may opening es closing → EndMay may closing → (node : List ℕ) (n m : Node) →
     find_node node closing.nodes ≡ Some n → n.durable.volume ≡ Sound → IsReopened n m → AllFound (λ file f. HasNoGaps f) m.durable.directory
 
+-- Let besides, in each file that the run finds, the last after images of the branches that may yet commit be the values that stand, over all entries of the journal, with a
+-- save or without. Then so are those of the branches that may yet commit in the next run, in each file that this one finds. What recoveries are promised does not rest on it.
+abbrev pub LastImagesGoOn : World → List Entry → World → Type 0
+LastImagesGoOn opening es closing = (may waits next : Id → Bool) → AreLawful may waits opening es → AreStanding waits opening es → MayOnly may opening es closing → ((x : Id) → next x ≡ true → may x ≡ true) → (node : List ℕ) (n m : Node) →
+    find_node node closing.nodes ≡ Some n → n.durable.volume ≡ Sound → IsReopened n m → AllFound (λ file f. LastImagesStand next (state_of f)) m.durable.directory
+
+-- Of the images with which a run begins, it is so of those branches of whose transaction an image shows a commit.
+abbrev pub LastImagesAgree : World → List Entry → Type 0
+LastImagesAgree opening es = AreStanding (may_yet_commit (opening_told opening.nodes es)) opening es
+
 -- And no sequential file has a gap at the end, neither as it stands nor as it was committed, where none has that the run finds; for nothing else is asked.
 abbrev pub FilesHaveNoGaps : World → List Entry → World → Type 0
 FilesHaveNoGaps opening es closing = AreGapless opening es → (node : List ℕ) (n : Node) → find_node node closing.nodes ≡ Some n → AllFound (λ file f. IsGapless f.organization f.history) n.durable.directory
@@ -76,6 +87,7 @@ pub record RecoveryPromises (opening : World) (es : List Entry) (closing : World
   pub answered : RecoveriesAreAnswered opening es
   pub leaves : RecoveriesGoOn opening es closing
   pub whole : GapsStayAway opening es closing
+  pub lasts : LastImagesGoOn opening es closing
   pub gapless : FilesHaveNoGaps opening es closing
 
 -- Each legal transcript keeps that.

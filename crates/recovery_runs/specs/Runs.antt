@@ -22,6 +22,7 @@ use Rattle.world_laws.specs.Running.{AllFound}
 use Rattle.run_laws.specs.Promises.{AbortsStand, left_at, settlements_of}
 use Rattle.run_chains.specs.Reopenings.{IsReopened}
 use Rattle.recovery_laws.specs.Gaps.{IsGapless}
+use Rattle.recovery_runs.specs.LastImages.{LastImagesStand}
 use Rattle.recovery_laws.specs.Led.{IsTold}
 use Rattle.recovery_laws.specs.Loading.{HasNoGap}
 use Rattle.recovery_laws.specs.Recovering.{IsRecovered}
@@ -117,3 +118,21 @@ NextFilesHold = (nodes : List Node) (disks : List DiskCounts) (es : List Entry) 
 abbrev pub NextFilesWhole : Type 0
 NextFilesWhole = (nodes : List Node) (disks : List DiskCounts) (es : List Entry) (closing : World) (may waits : Id → Bool) → AreOpening nodes → AreLawful may waits (opened nodes disks) es → AreWhole (opened nodes disks) es → MayOnly may (opened nodes disks) es closing →
     EndMay may closing → Legal (opened nodes disks) es closing → (node : List ℕ) (n m : Node) → find_node node closing.nodes ≡ Some n → n.durable.volume ≡ Sound → IsReopened n m → AllFound (λ file f. HasNoGaps f) m.durable.directory
+
+-- Last after images.
+
+-- In each file that a run with these entries finds, on a volume that none of them makes anew, the last after images of these branches are the values that stand.
+abbrev pub AreStanding : (waits : Id → Bool) → World → List Entry → Type 0
+AreStanding waits opening es = (node : List ℕ) (n : Node) → left_at node es opening ≡ Some n → AllFound (λ file f. LastImagesStand waits (state_of f)) n.durable.directory
+
+-- Then so are those of the branches that may commit, in each file in each world of the run.
+abbrev pub LastImagesHold : Type 0
+LastImagesHold = (nodes : List Node) (disks : List DiskCounts) (later after es : List Entry) (w closing : World) (may waits : Id → Bool) → AreOpening nodes → AreLawful may waits (opened nodes disks) es → AreStanding waits (opened nodes disks) es →
+    MayOnly may (opened nodes disks) (later ++ (after ++ es)) closing → Legal (opened nodes disks) es w → Legal w after closing → (node : List ℕ) (n : Node) → find_node node w.nodes ≡ Some n →
+    AllFound (λ file f. LastImagesStand may (state_of f)) n.durable.directory
+
+-- And in each that the next run finds, those of the branches that may yet commit then, whatever turned out of an act that was under way.
+abbrev pub NextLastImagesHold : Type 0
+NextLastImagesHold = (nodes : List Node) (disks : List DiskCounts) (es : List Entry) (closing : World) (may waits next : Id → Bool) → AreOpening nodes → AreLawful may waits (opened nodes disks) es → AreStanding waits (opened nodes disks) es →
+    MayOnly may (opened nodes disks) es closing → Legal (opened nodes disks) es closing → ((x : Id) → next x ≡ true → may x ≡ true) → (node : List ℕ) (n m : Node) → find_node node closing.nodes ≡ Some n → n.durable.volume ≡ Sound → IsReopened n m →
+    AllFound (λ file f. LastImagesStand next (state_of f)) m.durable.directory

@@ -1,5 +1,5 @@
 -- Accounts of a file: what is told in them, and who has left what it set.
-use Rattle.std.proofs.Common.{◌≡◌, ℕ, List, [], ◌∷◌, ◌++◌, map, Bool, true, false, Option, Some, None, if◌then◌else◌, refl, sym, ◌∙◌, ap, subst}
+use Rattle.std.proofs.Common.{◌≡◌, ℕ, List, [], ◌∷◌, ◌++◌, map, Bool, true, false, Option, Some, None, if◌then◌else◌, refl, sym, ◌∙◌, ap, subst, inl, inr}
 use Rattle.std.specs.Prelude.{slice_set}
 use Rattle.std.specs.List.{AllByRecursion, list_any}
 use Rattle.std.specs.Str.{bytes_eq}
@@ -11,11 +11,11 @@ use Rattle.vms_model.specs.Transactions.{Outcome, Commit, Abort, Reason}
 use Rattle.transcript_model.specs.Lines as line
 use Rattle.transcript_model.specs.Lines.{Line}
 use Rattle.records_model.specs.Records.{Records, Change, applied, set_key}
-use Rattle.records_model.specs.History.{History, LiveChanges, changes_by, same_id, settled_at}
+use Rattle.records_model.specs.History.{History, LiveChanges, changes_by, same_id, settled_at, settled_with}
 use Rattle.unit_laws.specs.Units.{SerialsDiffer}
 use Rattle.run_model.specs.World.{File, Node, Settlement, find_file, free_place, settled_file, with_file}
 use Rattle.run_model.specs.Answers.{last_line, last_lines}
-use Rattle.run_laws.specs.Accounts.{Account, Told, commits_here, left_by, left_sets, told_by, with_sets}
+use Rattle.run_laws.specs.Accounts.{Account, MayHave, Told, commits_here, left_by, left_sets, told_by, with_sets}
 use Rattle.world_laws.specs.Running.{history_in, history_of}
 use Rattle.world_laws.proofs.IdLemmas.{id_is, id_itself}
 use Rattle.world_laws.proofs.FindLemmas.{mapped_file, placed_file}
@@ -29,6 +29,18 @@ IsQuiet told = (x : Id) (m : Records) → told_by x told m ≡ m
 -- one tells just what another does
 abbrev pub TellSame : List Told → List Told → Type 0
 TellSame told new = (x : Id) (m : Records) → told_by x new m ≡ told_by x told m
+
+-- where nothing is in doubt, the file has the records of its account
+pub sure_records : (a : Account) (m : Records) → a.given ≡ None → MayHave a m → a.records ≡ m
+sure_records a m sure (inl is) = is
+sure_records a m sure (inr is) = let clash : ◌≡◌ {A = Option Records} None (Some m) = sym sure ∙ is in let no : ⊥ = cc in absurd no
+
+-- while the records are in doubt, no unsettled branch has changed the file
+abbrev pub IsStill : Account → List LiveChanges → Type 0
+IsStill a ls = (m : Records) → a.given ≡ Some m → ls ≡ []
+
+pub sure_still : (a : Account) (ls : List LiveChanges) → a.given ≡ None → IsStill a ls
+sure_still a ls sure m is = let clash : ◌≡◌ {A = Option Records} None (Some m) = sym sure ∙ is in let no : ⊥ = cc in absurd no
 
 -- of this branch nothing is told, and it has left nothing
 abbrev pub IsUntold : Account → Id → Type 0
@@ -106,22 +118,26 @@ module _ (node : List ℕ) where
       go true false = refl
       go false c = refl
 
-  -- and so does doubt
-  pub left_doubt : (x : Id) (a : Account) → (left_by node x a).in_doubt ≡ a.in_doubt
-  left_doubt x a = go (bytes_eq x.node node) (list_any (same_id x) a.left)
+  -- and so does what is in doubt
+  pub left_given : (x : Id) (a : Account) → (left_by node x a).given ≡ a.given
+  left_given x a = go (bytes_eq x.node node) (list_any (same_id x) a.left)
     where
-      go : (b c : Bool) → (if b then (if c then a else record a { records = told_by x a.told a.records; left = x ∷ a.left }) else a).in_doubt ≡ a.in_doubt
+      go : (b c : Bool) → (if b then (if c then a else record a { records = told_by x a.told a.records; left = x ∷ a.left }) else a).given ≡ a.given
       go true true = refl
       go true false = refl
       go false c = refl
 
-  pub last_doubt : (o : Option Settlement) (a : Account) → (last_left o a).in_doubt ≡ a.in_doubt
-  last_doubt None a = refl
-  last_doubt (Some s) a = go s.outcome
+  pub last_given : (o : Option Settlement) (a : Account) → (last_left o a).given ≡ a.given
+  last_given None a = refl
+  last_given (Some s) a = go s.outcome
     where
-      go : (c : Outcome) → (elim c as (λ x. Account) [ Commit ↦ left_by node s.serial a | Abort ↦ a ]).in_doubt ≡ a.in_doubt
-      go Commit = left_doubt s.serial a
+      go : (c : Outcome) → (elim c as (λ x. Account) [ Commit ↦ left_by node s.serial a | Abort ↦ a ]).given ≡ a.given
+      go Commit = left_given s.serial a
       go Abort = refl
+
+  -- and the file has what it left on top, where that is nothing while there is doubt
+  pub left_may : (x : Id) (a : Account) (m : Records) → x.node ≡ node → list_any (same_id x) a.left ≡ false → (a.given ≡ Some m → told_by x a.told m ≡ m) → MayHave a m → MayHave (left_by node x a) (told_by x a.told m)
+  left_may x a m own e none may = subst (λ (b : Account). MayHave b (told_by x a.told m)) (sym (left_first x a own e)) (elim may [ inl is ↦ inl (ap (told_by x a.told) is) | inr is ↦ inr (is ∙ ap (λ r. Some r) (sym (none is))) ])
 
   -- who has left, before and besides
   pub left_others : (x y : Id) (a : Account) → same_id y x ≡ false → list_any (same_id y) a.left ≡ false → list_any (same_id y) (left_by node x a).left ≡ false
@@ -162,17 +178,17 @@ module _ (node : List ℕ) where
       go Abort = refl
 
   -- the same is told in other words
-  pub last_same : (last : Option Settlement) (a : Account) (told : List Told) → TellSame a.told told → (last_left last (record a { told = told })).records ≡ (last_left last a).records
-  last_same None a told same = refl
-  last_same (Some s) a told same = go s.outcome (bytes_eq s.serial.node node) (list_any (same_id s.serial) a.left)
+  pub last_same : (last : Option Settlement) (a : Account) (told : List Told) (m : Records) → TellSame a.told told → MayHave (last_left last a) m → MayHave (last_left last (record a { told = told })) m
+  last_same None a told m same may = may
+  last_same (Some s) a told m same may = go s.outcome (bytes_eq s.serial.node node) (list_any (same_id s.serial) a.left) may
     where
       go : (o : Outcome) (b c : Bool) →
-          (elim o as (λ x. Account) [ Commit ↦ (if b then (if c then record a { told = told } else record a { records = told_by s.serial told a.records; told = told; left = s.serial ∷ a.left }) else record a { told = told }) | Abort ↦ record a { told = told } ]).records ≡
-          (elim o as (λ x. Account) [ Commit ↦ (if b then (if c then a else record a { records = told_by s.serial a.told a.records; left = s.serial ∷ a.left }) else a) | Abort ↦ a ]).records
-      go Commit true true = refl
-      go Commit true false = same s.serial a.records
-      go Commit false c = refl
-      go Abort b c = refl
+          MayHave (elim o as (λ x. Account) [ Commit ↦ (if b then (if c then a else record a { records = told_by s.serial a.told a.records; left = s.serial ∷ a.left }) else a) | Abort ↦ a ]) m →
+          MayHave (elim o as (λ x. Account) [ Commit ↦ (if b then (if c then record a { told = told } else record a { records = told_by s.serial told a.records; told = told; left = s.serial ∷ a.left }) else record a { told = told }) | Abort ↦ record a { told = told } ]) m
+      go Commit true true k = k
+      go Commit true false k = elim k [ inl is ↦ inl (same s.serial a.records ∙ is) | inr is ↦ inr is ]
+      go Commit false c k = k
+      go Abort b c k = k
 
 -- What an earlier run left.
 
@@ -209,6 +225,10 @@ none_settled file s fs e = go (find_file file fs) (sym (mapped_file file (settle
     go : (o : Option File) → option_map (settled_file s) o ≡ None → o ≡ None
     go (Some f) k = let none : ⊥ = cc in absurd none
     go None k = refl
+
+-- where no branch is unsettled, a settlement leaves none
+pub still_settled : (file : List ℕ) (s : Settlement) (fs : List (Option File)) → (history_in file fs).live ≡ [] → (history_in file (map (option_map (settled_file s)) fs)).live ≡ []
+still_settled file s fs e = ap (λ (h : History). h.live) (history_settled file s fs) ∙ ap (λ (ls : List LiveChanges). (settled_with s.serial s.outcome s.moment (changes_by s.serial ls) (history_in file fs)).live) e ∙ e
 
 -- a change of a file under which these of its history stay
 pub history_kept : {A : Type 0} (part : History → A) (file other : List ℕ) (change : File → File) (fs : List (Option File)) → ((f : File) → (change f).name ≡ f.name) → ((f : File) → part (change f).history ≡ part f.history) →

@@ -15,7 +15,7 @@ use Rattle.run_model.specs.Statements.{Begins, Part, PartEffect, Phases, Step, b
 use Rattle.run_model.specs.Transcript.{Entry, Legal, AreOpening, Turn}
 use Rattle.run_agreement.specs.Seen.{IsKnown, Resolution, landed, outcome_of}
 use Rattle.run_agreement.specs.Following.{opening_of}
-use Rattle.run_agreement.specs.Laws.{CommittedAreOfCommitted, HasOutcome, IsAtRest, IsRun, IsSettled, LeaveAgreement, MakesNoVolume, NamesApart, RestingAreWhole, SettleAlike, SettlingEnds, SettlingLeavesNone, image_here, opening_told}
+use Rattle.run_agreement.specs.Laws.{CommittedAreOfCommitted, HasOutcome, IsAtRest, IsCommitted, IsRun, IsSettled, LeaveAgreement, MakesNoVolume, NamesApart, RestingAreWhole, SettleAlike, SettlingEnds, SettlingLeavesNone, image_here, opening_told}
 use Rattle.run_model.proofs.NodeLists.{found_name}
 use Rattle.run_model.proofs.PartLemmas.{phases_fold}
 use Rattle.run_model.proofs.PartTasks.{View, Doing, Fixed, view}
@@ -23,8 +23,8 @@ use Rattle.run_model.proofs.TaskLemmas.{effect_name}
 use Rattle.run_agreement.proofs.Bases.{used_part}
 use Rattle.run_agreement.proofs.Begun.{AnyPart, any_phases, apart_put, runs_begin}
 use Rattle.run_agreement.proofs.Told.{quiet_images, runs_tell_no_more, unused_are_told}
-use Rattle.run_laws.specs.Agreed.{AcceptedAreWhole, AgreedRun, EndsHoldAll, SettlesWhole}
-use Rattle.run_laws.specs.Promises.{EndsCommit, IsSettledSo, settlements_of}
+use Rattle.run_laws.specs.Agreed.{AcceptedAreWhole, AgreedRun, EndedHoldAll, EndsHoldAll, SettlesWhole}
+use Rattle.run_laws.specs.Promises.{EndedSo, EndsCommit, EndsSo, IsSettledSo, settlements_of}
 use Rattle.run_laws.proofs.AbortsStand.{legal_parts}
 use Rattle.run_laws.proofs.Staying.{after_grows}
 
@@ -64,17 +64,26 @@ landed_settled true n s i = go n.under_way
     go (Some act) = after_grows (Some act) n s i
     go None = i
 
+-- a transaction whose first branch its node committed is committed however acts turn out
+committed_for_all : (base : World) (r : Resolution) (closing : World) (tid : Id) (moment : ℕ) → IsSettledSo tid tid Commit None moment closing → IsCommitted base r closing tid
+committed_for_all base r closing tid moment settled = inl (inr (at settled.0 settled.1 settled.2 (find_node tid.node closing.nodes) refl))
+  where
+    at : (s : Settlement) → In s (settlements_of tid.node closing) → s ≡ record { tid = tid; serial = tid; outcome = Commit; reason = None; moment = moment } → (o : Option Node) → find_node tid.node closing.nodes ≡ o → IsSettled r closing (first tid) Commit
+    at s i same (Some n) found =
+        let j : In s n.settled = subst (λ o. In s (elim o as (λ x. List Settlement) [ Some m ↦ m.settled | None ↦ [] ])) found i in
+        (tid.node, n, found, (s, landed_settled (r tid.node) n s j, ap outcome_of same))
+    at s i same None found = absurd (subst (λ o. In s (elim o as (λ x. List Settlement) [ Some m ↦ m.settled | None ↦ [] ])) found i)
+
 pub ends_for_all : (base : World) (es : List Entry) (closing : World) → EndsCommit es closing → EndsHoldAll base es closing
 ends_for_all base es closing ends before node label events there =
     let x = ends before node label events there in
-    let settled = x.5 in
-    (x.0, x.2, λ r. inl (inr (at x.0 r x.1 settled.0 settled.1 settled.2 (find_node x.0.node closing.nodes) refl)))
-  where
-    at : (tid : Id) (r : Resolution) (moment : ℕ) (s : Settlement) → In s (settlements_of tid.node closing) → s ≡ record { tid = tid; serial = tid; outcome = Commit; reason = None; moment = moment } → (o : Option Node) → find_node tid.node closing.nodes ≡ o → IsSettled r closing (first tid) Commit
-    at tid r moment s i same (Some n) found =
-        let j : In s n.settled = subst (λ o. In s (elim o as (λ x. List Settlement) [ Some m ↦ m.settled | None ↦ [] ])) found i in
-        (tid.node, n, found, (s, landed_settled (r tid.node) n s j, ap outcome_of same))
-    at tid r moment s i same None found = absurd (subst (λ o. In s (elim o as (λ x. List Settlement) [ Some m ↦ m.settled | None ↦ [] ])) found i)
+    (x.0, x.2, λ r. committed_for_all base r closing x.0 x.1 x.5)
+
+pub ended_for_all : (base : World) (es : List Entry) (closing : World) → EndedSo es closing → EndedHoldAll base es closing
+ended_for_all base es closing ended before said front behind tid there =
+    let x = ended before said front behind tid None there in
+    let shown : EndsSo tid None front closing = x.1 in
+    (x.0, λ r. committed_for_all base r closing tid shown.0 shown.2)
 
 -- a branch that its node aborted is so however acts turn out
 pub aborted_for_all : (r : Resolution) (closing : World) (tid serial : Id) (reason : Reason) (moment : ℕ) → IsSettledSo tid serial Abort (Some reason) moment closing → (base : World) → HasOutcome base r closing (child tid serial) Abort

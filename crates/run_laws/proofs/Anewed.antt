@@ -3,7 +3,7 @@ use Rattle.std.specs.List.{last_or}
 use Rattle.std.specs.Str.{bytes_eq}
 use Rattle.std.specs.FinMap.{empty}
 use Rattle.std.proofs.Common.{◌≡◌, ◌⊎◌, inl, inr, ℕ, Bool, true, false, List, [], ◌∷◌, ◌++◌, Option, Some, None, if◌then◌else◌, map, refl, ap, sym, subst, ◌∙◌, append_assoc, arith}
-use Rattle.std.specs.Prelude.{◌&&◌}
+use Rattle.std.specs.Prelude.{◌&&◌, is_some}
 use Rattle.std.proofs.lemmas.Bool.{both_ways}
 use Rattle.transcript_model.specs.Lines as line
 use Rattle.transcript_model.specs.Lines.{Line, Normal}
@@ -27,12 +27,12 @@ use Rattle.run_agreement.specs.Laws.{MakesNoVolume, NamesApart, RunsFrom, image_
 use Rattle.run_agreement.specs.Seen.{IsKnown}
 use Rattle.run_agreement.proofs.Found.{bytes_itself}
 use Rattle.run_agreement.proofs.Told.{used_tell_no_more}
-use Rattle.run_laws.specs.Accounts.{Account, Tells, account_after, account_by, broken_id, given_in, is_up_in, known_again, recovered_by, recovered_here, broken_sets, commits_here, committed_in, created_here, direct_told, file_of, left_sets, made_anew, no_account, one_told, serial_told, sets_here, sets_of, unsettled_in}
+use Rattle.run_laws.specs.Accounts.{Account, MayHave, Tells, account_after, account_by, account_behind, broken_id, given_in, is_up_in, known_again, recovered_by, recovered_here, broken_sets, commits_here, committed_in, created_here, direct_told, file_of, left_sets, made_anew, no_account, one_told, serial_told, sets_here, sets_of, unsettled_in}
 use Rattle.run_laws.specs.Anew.{AreForgotten, AreKnownOrAnew, IsMadeAnew, IsMadeIn, Makes}
-use Rattle.run_laws.specs.Promises.{AbortsStand, AreLastApart, DumpPromises, DumpsShow, DumpsShowByAll, IsLastApart, Shows}
+use Rattle.run_laws.specs.Promises.{AbortsStand, AreLastApart, DumpPromises, DumpsShow, DumpsShowByAll, IsLastApart, RecoveriesAreWhole, Shows}
 use Rattle.run_laws.specs.SaidLaws.{SaidThere}
 use Rattle.run_laws.proofs.AbortsStand.{legal_parts}
-use Rattle.run_laws.proofs.DumpsShown.{dumped, legal_tells}
+use Rattle.run_laws.proofs.DumpsShown.{dumped, legal_on, legal_tells, tells_legal}
 use Rattle.run_laws.proofs.Dying.{runs_used}
 use Rattle.run_laws.proofs.Forgetting.{Again, AllLike, AreLike, Like, M, all_again, apart_like, found_like, legal_like, looked, made_by, missing_like, no_other, no_split, opening_like, path_like, step_like, turn_like}
 use Rattle.run_laws.proofs.SoundWorlds.{IsSound, legal_sound, opening_sound}
@@ -133,24 +133,42 @@ module _ (node file : Name) (w : World) (ms : List Node) (same : find_node node 
   recovered_same : (r : Reading) (lines : List Line) (b : Account) → recovered_here node file x r lines b ≡ recovered_here node file w r lines b
   recovered_same (Says (At n (Recover f way))) (line.NormalCount count ∷ []) b = ap (λ (o : Option File). if bytes_eq n node && bytes_eq f file then
       record b { records = elim o as (λ y. Rattle.records_model.specs.Records.Records) [ Some g ↦ Rattle.run_model.specs.Answers.records_recovered way g | None ↦ empty ] } else b) file_same
+  recovered_same (Says (At n (Recover f way))) (line.Down m cause ∷ answer ∷ []) b = ap (λ (o : Option File). if bytes_eq n node && bytes_eq f file then
+      record b { given = Some (elim o as (λ y. Rattle.records_model.specs.Records.Records) [ Some g ↦ Rattle.run_model.specs.Answers.records_recovered way g | None ↦ empty ]) } else b) file_same
   recovered_same (Says (At n (Recover f way))) _ b = refl
   recovered_same _ lines b = refl
 
-  known_same : (b : Account) → known_again node file x b ≡ known_again node file w b
-  known_same b = (λ i. if b.in_doubt && up_same i then record b { records = committed_same i; in_doubt = false } else b)
-    where
-      up_same : is_up_in node x ≡ is_up_in node w
-      up_same = ap (λ (o : Option Node). elim o as (λ y. Bool) [ Some n ↦ n.up | None ↦ false ]) same
+  behind_same : (es : List Entry) (r : Reading) (lines : List Line) (a : Account) → account_behind node file es x r lines a ≡ account_behind node file es w r lines a
+  behind_same es r lines a = recovered_same r lines (account_by node file es x r lines a) ∙ ap (recovered_here node file w r lines) (account_same es r lines a)
 
-      committed_same : committed_in node file x ≡ committed_in node file w
-      committed_same = ap (λ (o : Option File). elim o as (λ y. Rattle.records_model.specs.Records.Records) [ Some f ↦ records f.history | None ↦ empty ]) file_same
+  up_same : is_up_in node x ≡ is_up_in node w
+  up_same = ap (λ (o : Option Node). elim o as (λ y. Bool) [ Some n ↦ n.up | None ↦ false ]) same
+
+  committed_same : committed_in node file x ≡ committed_in node file w
+  committed_same = ap (λ (o : Option File). elim o as (λ y. Rattle.records_model.specs.Records.Records) [ Some f ↦ records f.history | None ↦ empty ]) file_same
+
+  known_same : (b : Account) → known_again node file x b ≡ known_again node file w b
+  known_same b = (λ i. if is_some b.given && up_same i then record b { records = committed_same i; given = None } else b)
 
 -- and neither does what is told after a line of one world that led to another
 after_same : (node file : Name) (w v : World) (ms ks : List Node) → find_node node ms ≡ find_node node w.nodes → find_node node ks ≡ find_node node v.nodes → (es : List Entry) (r : Reading) (lines : List Line) (a : Account) →
     account_after node file es (record w { nodes = ms }) (record v { nodes = ks }) r lines a ≡ account_after node file es w v r lines a
 after_same node file w v ms ks same later es r lines a =
-    known_same node file v ks later (recovered_here node file (record w { nodes = ms }) r lines (account_by node file es (record w { nodes = ms }) r lines a))
-    ∙ ap (known_again node file v) (recovered_same node file w ms same r lines (account_by node file es (record w { nodes = ms }) r lines a) ∙ ap (recovered_here node file w r lines) (account_same node file w ms same es r lines a))
+    known_same node file v ks later (account_behind node file es (record w { nodes = ms }) r lines a) ∙ ap (known_again node file v) (behind_same node file w ms same es r lines a)
+
+-- nothing is told of a file behind the INIT of its node
+behind_anew : (node file : Name) (before : List Entry) (e : Entry) (u : World) (y : Account) (m : Makes node e) (mid w : World) → Turn mid (reading e.source.text) e.lines w → account_behind node file before u (reading e.source.text) e.lines y ≡ no_account
+behind_anew node file before e u y m mid w turn =
+    let lines : e.lines ≡ Normal ∷ [] = init_lines mid w node m.slots m.journal e.lines (subst (λ (q : Reading). Turn mid q e.lines w) m.says turn) m.answered in
+    (λ i. account_behind node file before u (m.says i) (lines i) y) ∙ ap (λ (b : Bool). if b then no_account else (commits_here node (Normal ∷ []) (record y { told = sets_here node file before u (Says (At node (Init m.slots m.journal))) (Normal ∷ []) y.told }))) (bytes_itself node node refl)
+
+-- a node is up only where one may be in use
+up_used : (mid : World) → IsSound mid → (node : Name) (n : Node) → find_node node mid.nodes ≡ Some n → n.up ≡ true → mid.shared.in_use ≡ true
+up_used mid sound node n found up = by mid.shared.in_use refl
+  where
+    by : (b : Bool) → mid.shared.in_use ≡ b → mid.shared.in_use ≡ true
+    by true is = is
+    by false is = absurd (both_ways n.up ((sound.kept node n found).unused is).0 up)
 
 -- From some nodes to others.
 module _ (es : List Entry) (ns ms : List Node) (disks : List DiskCounts) (opening : AreOpening ns) (opens : AreOpening ms) (apart : NamesApart ns) (forgotten : AreForgotten es ns ms) where
@@ -198,11 +216,11 @@ module _ (es : List Entry) (ns ms : List Node) (disks : List DiskCounts) (openin
     tells_like : (later before : List Entry) (w : World) (a : Account) → es ≡ later ++ before → Tells node file (opened ns disks) before w a → AccountLike before w a
     tells_like later [] w a parts tells = record {
       nodes = ms;
-      account = record { records = committed_in node file (opened ms disks); told = unsettled_in node file (opened ms disks); left = []; in_doubt = false };
+      account = record { records = committed_in node file (opened ms disks); told = unsettled_in node file (opened ms disks); left = []; given = None };
       tells = (ap (λ (y : World). record y { nodes = ms }) tells.0, refl);
       like = subst (λ (y : World). Like es Same [] y.nodes ms) (sym tells.0) (record { all = opening_like es Same ns ms opening opens forgotten; again = λ name s. elim s [ inl t ↦ t | inr m ↦ absurd (no_split m.1 m.2 m.0 m.3) ] });
       same = λ s. elim s [
-        | inl t ↦ ap (λ (o : Option File). record { records = elim o as (λ y. Rattle.records_model.specs.Records.Records) [ Some f ↦ records f.history | None ↦ empty ]; told = elim o as (λ y. List Rattle.run_laws.specs.Accounts.Told) [ Some f ↦ map left_sets f.history.live | None ↦ [] ]; left = []; in_doubt = false }) (file_same node file (opened ns disks) ms t) ∙ sym tells.1
+        | inl t ↦ ap (λ (o : Option File). record { records = elim o as (λ y. Rattle.records_model.specs.Records.Records) [ Some f ↦ records f.history | None ↦ empty ]; told = elim o as (λ y. List Rattle.run_laws.specs.Accounts.Told) [ Some f ↦ map left_sets f.history.live | None ↦ [] ]; left = []; given = None }) (file_same node file (opened ns disks) ms t) ∙ sym tells.1
         | inr m ↦ absurd (no_split m.1 m.2 m.0 m.3)
       ];
     }
@@ -229,59 +247,71 @@ module _ (es : List Entry) (ns ms : List Node) (disks : List DiskCounts) (openin
             account_after node file before (record mid { nodes = ks }) (record w { nodes = vs }) (reading e.source.text) e.lines y ≡ account_after node file before mid w (reading e.source.text) e.lines x
         step_on mid ks vs x y is found later = ap (account_after node file before (record mid { nodes = ks }) (record w { nodes = vs }) (reading e.source.text) e.lines) is ∙ after_same node file mid w ks vs found later before (reading e.source.text) e.lines x
 
-        -- nothing is told of it behind its INIT
         anew : (u v : World) (y : Account) (m : Makes node e) (mid : World) → Turn mid (reading e.source.text) e.lines w → account_after node file before u v (reading e.source.text) e.lines y ≡ no_account
-        anew u v y m mid turn =
-            let lines : e.lines ≡ Normal ∷ [] = init_lines mid w node m.slots m.journal e.lines (subst (λ (q : Reading). Turn mid q e.lines w) m.says turn) m.answered in
-            (λ i. account_after node file before u v (m.says i) (lines i) y) ∙ ap (λ (b : Bool). known_again node file v (if b then no_account else (commits_here node (Normal ∷ []) (record y { told = sets_here node file before u (Says (At node (Init m.slots m.journal))) (Normal ∷ []) y.told })))) (bytes_itself node node refl)
+        anew u v y m mid turn = ap (known_again node file v) (behind_anew node file before e u y m mid w turn)
+
+  -- where a node may be in use, each is the same again, or its volume was made before
+  made_again : (later now : List Entry) (v w : World) (node : Name) → es ≡ later ++ now → Legal v later w → v.shared.in_use ≡ true → (find_node node ms ≡ find_node node ns) ⊎ IsMadeIn node now
+  made_again later now v w node parts on used = go (find_node node ns) refl
+    where
+      all : AllLike (M es no_other) ns ms
+      all = opening_like es no_other ns ms opening opens forgotten
+
+      made_now : IsMadeIn node es → IsMadeIn node now
+      made_now made = elim (made_split node later now (subst (IsMadeIn node) parts made)) [ inl late ↦ absurd (run_makes node v w later (runs_used v w later on used).0 late) | inr early ↦ early ]
+
+      go : (o : Option Node) → find_node node ns ≡ o → (find_node node ms ≡ find_node node ns) ⊎ IsMadeIn node now
+      go None none = inl (missing_like (M es no_other) node ns ms all none ∙ sym none)
+      go (Some n) found = let f = found_like (M es no_other) node ns ms n all found in by f.node f.there f.like
+        where
+          by : (m : Node) → find_node node ms ≡ Some m → AreLike (M es no_other) n m → (find_node node ms ≡ find_node node ns) ⊎ IsMadeIn node now
+          by m at (inl same) = inl (at ∙ ap (λ (y : Node). Some y) same ∙ sym found)
+          by m at (inr other) = inr (made_now (subst (λ (y : Name). IsMadeAnew y es) (found_name node ns n found) other.may).made)
 
   module _ (closing : World) (legal : Legal (opened ns disks) es closing) where
     -- a node of which a dump shows a file is the same again
     dumped_again : (before : List Entry) (node file : Name) (events : List Line) (count : ℕ) → SaidThere es before (At node (Dump file)) events (line.NormalCount count) → (find_node node ms ≡ find_node node ns) ⊎ IsMadeIn node before
-    dumped_again before node file events count there = go (find_node node ns) refl
-      where
-        all : AllLike (M es no_other) ns ms
-        all = opening_like es no_other ns ms opening opens forgotten
-
-        not_after : IsMadeIn node there.after → ⊥
-        not_after made =
-            let parts = legal_parts (opened ns disks) there.after (there.entry ∷ before) closing (subst (λ xs. Legal (opened ns disks) xs closing) there.stands legal) in
-            let v = parts.0 in
-            let mid = parts.1.0 in
-            let step : Step mid (At node (Dump file)) (events ++ line.NormalCount count ∷ []) v = subst (λ ls. Step mid (At node (Dump file)) ls v) there.shown (subst (λ q. Turn mid q there.entry.lines v) there.said parts.1.2) in
-            let sound = legal_sound (opened ns disks) mid before (opening_sound ns disks opening) parts.1.1 in
-            let d = dumped mid v node file events count sound step in
-            let used = in_use mid sound d.0 d.1 d.2.up in
-            let on = (used_tell_no_more mid v (reading there.entry.source.text) there.entry.lines parts.1.2 used).0 in
-            run_makes node v closing there.after (runs_used v closing there.after parts.2 on).0 made
-          where
-            in_use : (mid : World) → IsSound mid → (n : Node) → find_node node mid.nodes ≡ Some n → n.up ≡ true → mid.shared.in_use ≡ true
-            in_use mid sound n found up = by mid.shared.in_use refl
-              where
-                by : (b : Bool) → mid.shared.in_use ≡ b → mid.shared.in_use ≡ true
-                by true is = is
-                by false is = absurd (both_ways n.up ((sound.kept node n found).unused is).0 up)
-
-        not_here : Makes node there.entry → ⊥
-        not_here m = let is : ◌≡◌ {A = Reading} (Says (At node (Dump file))) (Says (At node (Init m.slots m.journal))) = sym there.said ∙ m.says in let no : ⊥ = cc in no
-
-        made_before : IsMadeIn node es → IsMadeIn node before
-        made_before made = elim (made_split node there.after (there.entry ∷ before) (subst (IsMadeIn node) there.stands made)) [
-          | inl late ↦ absurd (not_after late)
-          | inr early ↦ elim (made_by node there.entry before early) [ inl here ↦ absurd (not_here here) | inr m ↦ m ]
-        ]
-
-        go : (o : Option Node) → find_node node ns ≡ o → (find_node node ms ≡ find_node node ns) ⊎ IsMadeIn node before
-        go None none = inl (missing_like (M es no_other) node ns ms all none ∙ sym none)
-        go (Some n) found = let f = found_like (M es no_other) node ns ms n all found in by f.node f.there f.like
-          where
-            by : (m : Node) → find_node node ms ≡ Some m → AreLike (M es no_other) n m → (find_node node ms ≡ find_node node ns) ⊎ IsMadeIn node before
-            by m at (inl same) = inl (at ∙ ap (λ (y : Node). Some y) same ∙ sym found)
-            by m at (inr other) = inr (made_before (subst (λ (y : Name). IsMadeAnew y es) (found_name node ns n found) other.may).made)
+    dumped_again before node file events count there =
+        let parts = legal_parts (opened ns disks) there.after (there.entry ∷ before) closing (subst (λ xs. Legal (opened ns disks) xs closing) there.stands legal) in
+        let v = parts.0 in
+        let mid = parts.1.0 in
+        let step : Step mid (At node (Dump file)) (events ++ line.NormalCount count ∷ []) v = subst (λ ls. Step mid (At node (Dump file)) ls v) there.shown (subst (λ q. Turn mid q there.entry.lines v) there.said parts.1.2) in
+        let sound = legal_sound (opened ns disks) mid before (opening_sound ns disks opening) parts.1.1 in
+        let d = dumped mid v node file events count sound step in
+        made_again (there.after ++ there.entry ∷ []) before mid closing node (there.stands ∙ sym (append_assoc there.after (there.entry ∷ []) before)) (legal_on mid v closing there.entry there.after parts.1.2 parts.2) (up_used mid sound node d.0 d.1 d.2.up)
 
     pub dumps_like : DumpPromises (opened ms disks) es → DumpPromises (opened ns disks) es
-    dumps_like dumps = record { shows = shows; by_all = by_all }
+    dumps_like dumps = record { shows = shows; by_all = by_all; recoveries = recoveries }
       where
+        recoveries : RecoveriesAreWhole (opened ns disks) es
+        recoveries later before e parts node file mid v w a tells turn on up =
+            let front = tells_like node file (later ++ e ∷ []) before mid a (parts ∙ sym (append_assoc later (e ∷ []) before)) tells in
+            let r = turn_like es (Same node file) mid v front.nodes e before (reading e.source.text) refl front.like (λ s name says boots m. inr (m.first before later e s parts says boots)) turn in
+            let back = path_like es (Same node file) v r.nodes (e ∷ before) r.like [] later w parts on in
+            let again = made_again later (e ∷ before) v w node parts on (used (find_node node v.nodes) refl) in
+            let there = r.like.again node again in
+            let may = dumps.recoveries later before e parts node file (record mid { nodes = front.nodes }) (record v { nodes = r.nodes }) (record w { nodes = back.nodes }) front.account front.tells r.turn back.legal (up_same node file v r.nodes there ∙ up) in
+            subst (MayHave (account_behind node file before mid (reading e.source.text) e.lines a)) (committed_same node file v r.nodes there)
+            (subst (λ (b : Account). MayHave b (committed_in node file (record v { nodes = r.nodes }))) (account_is front.nodes front.account front.same (λ s. front.like.again node s) again) may)
+          where
+            used : (o : Option Node) → find_node node v.nodes ≡ o → v.shared.in_use ≡ true
+            used (Some n) found = up_used v (legal_sound (opened ns disks) v (e ∷ before) (opening_sound ns disks opening) (mid, tells_legal node file (opened ns disks) before mid a tells, turn)) node n found
+                (sym (ap (λ (o : Option Node). elim o as (λ y. Bool) [ Some m ↦ m.up | None ↦ false ]) found) ∙ up)
+            used None none = let clash : false ≡ true = sym (ap (λ (o : Option Node). elim o as (λ y. Bool) [ Some m ↦ m.up | None ↦ false ]) none) ∙ up in let no : ⊥ = cc in absurd no
+
+            account_is : (ks : List Node) (b : Account) → (A node file before node → b ≡ a) → (A node file before node → find_node node ks ≡ find_node node mid.nodes) → A node file (e ∷ before) node →
+                account_behind node file before (record mid { nodes = ks }) (reading e.source.text) e.lines b ≡ account_behind node file before mid (reading e.source.text) e.lines a
+            account_is ks b same found again = elim again [
+              | inl t ↦ on_it (inl t)
+              | inr made ↦ elim (made_by node e before made) [
+                | inl makes ↦ behind_anew node file before e (record mid { nodes = ks }) b makes mid v turn ∙ sym (behind_anew node file before e mid a makes mid v turn)
+                | inr m ↦ on_it (inr m)
+              ]
+            ]
+              where
+                on_it : A node file before node → account_behind node file before (record mid { nodes = ks }) (reading e.source.text) e.lines b ≡ account_behind node file before mid (reading e.source.text) e.lines a
+                on_it s = ap (account_behind node file before (record mid { nodes = ks }) (reading e.source.text) e.lines) (same s) ∙ behind_same node file mid ks (found s) before (reading e.source.text) e.lines a
+
         by_all : DumpsShowByAll (opened ns disks) es
         by_all before node file events count there mid new a tells step =
             let r = tells_like node file (there.after ++ there.entry ∷ []) before mid a (there.stands ∙ sym (append_assoc there.after (there.entry ∷ []) before)) tells in

@@ -1,5 +1,6 @@
 -- Each dump shows just the records that are told of its file.
 use Rattle.std.proofs.Common.{◌≡◌, ◌⊎◌, ℕ, List, [], ◌∷◌, ◌++◌, map, length, Bool, true, false, not, ◌||◌, ◌&&◌, Option, Some, None, if◌then◌else◌, refl, sym, ◌∙◌, ap, subst, inl, inr}
+use Rattle.std.specs.Prelude.{is_some}
 use Rattle.std.specs.Str.{bytes_eq}
 use Rattle.std.specs.FinMap.{empty, entries}
 use Rattle.std.proofs.lemmas.Bool.{both_ways, false_from_ne_true}
@@ -29,9 +30,9 @@ use Rattle.run_model.proofs.CauseLemmas.{refuses_first}
 use Rattle.run_model.proofs.Failing.{once_refuses}
 use Rattle.run_model.proofs.PartLemmas.{turn}
 use Rattle.run_model.proofs.TaskLemmas.{effect_name}
-use Rattle.run_laws.specs.Accounts.{Account, Told, Tells, account_after, account_by, commits_here, committed_in, is_up_in, known_again, recovered_by, recovered_here, created_here, file_of, left_sets, made_anew, no_account, direct_told, one_told, serial_told, sets_of, told_by, unsettled_in}
+use Rattle.run_laws.specs.Accounts.{Account, MayHave, Told, Tells, account_after, account_by, account_behind, commits_here, committed_in, is_up_in, known_again, recovered_by, recovered_here, created_here, file_of, left_sets, made_anew, no_account, direct_told, one_told, serial_told, sets_of, told_by, unsettled_in}
 use Rattle.run_laws.specs.Laws.{DumpsHold}
-use Rattle.run_laws.specs.Promises.{AbortsStand, AreLastApart, DumpsShow, DumpsShowByAll, Shows, IsLastApart, IsNeverCommitted, settlements_of}
+use Rattle.run_laws.specs.Promises.{AbortsStand, AreLastApart, DumpsShow, DumpsShowByAll, RecoveriesAreWhole, Shows, IsLastApart, IsNeverCommitted, settlements_of}
 use Rattle.world_laws.specs.Nodes.{IsKeptDisk, IsKeptNode}
 use Rattle.world_laws.specs.Running.{history_in, history_of}
 use Rattle.world_laws.proofs.DirectLemmas.{none_of}
@@ -39,7 +40,7 @@ use Rattle.world_laws.proofs.AnswerLemmas.{neither}
 use Rattle.world_laws.proofs.ServedLemmas.{file_says, there_is as there_is_one, unchanged_rests}
 use Rattle.world_laws.proofs.HeldLemmas.{noted_at}
 use Rattle.world_laws.proofs.WorldLemmas.{each_opening}
-use Rattle.run_laws.proofs.AccountLemmas.{last_left, opening_tells, untold_left}
+use Rattle.run_laws.proofs.AccountLemmas.{last_left, opening_tells, sure_records, sure_still, untold_left}
 use Rattle.run_laws.proofs.FileRequests.{IsKept, special_effect}
 use Rattle.run_laws.proofs.FileTelling.{Betrays, IsDoomed, IsToldDisk, IsToldUp, falls_told, or_else, task_quiet, telling, telling_keeps, tells_file}
 use Rattle.run_laws.proofs.Keeping.{else_effect, is_init, is_special, nothing_more}
@@ -109,8 +110,8 @@ module _ (node file : List ℕ) (D : Id → Type 0) where
 
     -- Statements that may tell more of it.
 
-    special_step : (v : World) (r : Request) (lines : List Line) (at : List ℕ) → at ≡ node → tells_file node file D r ≡ true → Named es w → IsSound w → Step w (At at r) lines v → AreTold a w → AreTold (by (Says (At at r)) lines) v
-    special_step v r lines at same is named sound step h = subst (λ x. Step w (At x r) lines v → AreTold (by (Says (At x r)) lines) v) (sym same) (λ q. go (find_node node w.nodes) refl q) step
+    special_step : (is_up_in node w ≡ true → a.given ≡ None) → (v : World) (r : Request) (lines : List Line) (at : List ℕ) → at ≡ node → tells_file node file D r ≡ true → Named es w → IsSound w → Step w (At at r) lines v → AreTold a w → AreTold (by (Says (At at r)) lines) v
+    special_step sure v r lines at same is named sound step h = subst (λ x. Step w (At x r) lines v → AreTold (by (Says (At x r)) lines) v) (sym same) (λ q. go (find_node node w.nodes) refl q) step
       where
         -- there is no node of this name
         none_there : find_node node w.nodes ≡ None → (q : Step w (At node r) lines v) → AreTold (by (Says (At node r)) lines) v
@@ -131,7 +132,7 @@ module _ (node file : List ℕ) (D : Id → Type 0) where
             let it : IsTask w (At node r) node (Serves r) n = record { begins = begins r is; task = tasked r is; found = found } in
             let t = turn w v (At node r) node (Serves r) n lines it q in
             let e = task_effect w.shared (stops_at node w) n (Serves r) t.choice in
-            let k = special_effect node file D es w n found named (sound_node w sound node n found) (stops_at node w) a (h n found) r is t.choice (λ cause. RoseAt w node cause v.disks) t.allowed in
+            let k = special_effect node file D es w n found named (sound_node w sound node n found) (stops_at node w) a (h n found) (λ up. sure (ap (λ (o : Option Node). elim o as (λ x. Bool) [ Some k ↦ k.up | None ↦ false ]) found ∙ up)) r is t.choice (λ cause. RoseAt w node cause v.disks) t.allowed in
             let shown : lines ≡ e.lines ++ e.answer ∷ [] = q.shows ∙ (λ i. t.shows i ++ t.answers i ∷ []) in
             let is_now : e.node ≡ m = some_is e.node m (sym (put_node node n e.node w.nodes (effect_name w.shared (stops_at node w) n (Serves r) t.choice) found) ∙ ap (λ (x : World). find_node node x.nodes) (sym t.goes) ∙ now) in
             subst (λ ls. IsKept node file D (by (Says (At node r)) ls) m) (sym shown) (subst (IsKept node file D (by (Says (At node r)) (e.lines ++ e.answer ∷ []))) is_now k)
@@ -159,14 +160,14 @@ module _ (node file : List ℕ) (D : Id → Type 0) where
         go (Some n) found q = there n found q
         go None none q = none_there none q
 
-    turn_told : (v : World) (r : Reading) (lines : List Line) → Named es w → IsSound w → ((n : Node) → find_node node w.nodes ≡ Some n → IsDoomed node file D n) → Turn w r lines v → AreTold a w → AreTold (by r lines) v
-    turn_told v r lines named sound doomed t h = go r t
+    turn_told : (is_up_in node w ≡ true → a.given ≡ None) → (v : World) (r : Reading) (lines : List Line) → Named es w → IsSound w → ((n : Node) → find_node node w.nodes ≡ Some n → IsDoomed node file D n) → Turn w r lines v → AreTold a w → AreTold (by r lines) v
+    turn_told sure v r lines named sound doomed t h = go r t
       where
         plainly : (r : Reading) → IsPlainReading (telling node file D) (telling_keeps node file D) node tracks r → Turn w r lines v → AreTold (by r lines) v
         plainly r plain q = subst (λ b. AreTold b v) (sym (plain_by r lines plain)) (turn_tracked (telling node file D) (telling_keeps node file D) node tracks w v doomed r lines a plain q sound h)
 
         at_node : (at : List ℕ) (x : Request) (b c : Bool) → bytes_eq at node ≡ b → tells_file node file D x ≡ c → Step w (At at x) lines v → AreTold (by (Says (At at x)) lines) v
-        at_node at x true true e f q = special_step v x lines at ((bytes_eq-Decides at node).0 e) f named sound q h
+        at_node at x true true e f q = special_step sure v x lines at ((bytes_eq-Decides at node).0 e) f named sound q h
         at_node at x true false e f q = plainly (Says (At at x)) (ap (λ b. b && tells_file node file D x) e ∙ f) q
         at_node at x false c e f q = plainly (Says (At at x)) (ap (λ b. b && tells_file node file D x) e) q
 
@@ -191,9 +192,9 @@ module _ (node file : List ℕ) (D : Id → Type 0) where
         go (Some g) = refl
         go None = refl
 
-    known_kept : (b : Account) (n : Node) → find_node node v.nodes ≡ Some n → n.up ≡ true → IsKept node file D b n → IsKept node file D (record b { records = committed_in node file v; in_doubt = false }) n
+    known_kept : (b : Account) (n : Node) → find_node node v.nodes ≡ Some n → n.up ≡ true → IsKept node file D b n → IsKept node file D (record b { records = committed_in node file v; given = None }) n
     known_kept b n found up k = record {
-      disk = or_else node file D (λ x. x) (λ h. inr (falls_told node file D false (record b { records = committed_in node file v; in_doubt = false }) n (kept.runs up).0 h)) told;
+      disk = or_else node file D (λ x. x) (λ h. inr (falls_told node file D false (record b { records = committed_in node file v; given = None }) n (kept.runs up).0 h)) told;
       way = λ act e. absurd (both_ways n.up (kept.way act e).2 up);
       runs = λ u. told;
     }
@@ -201,11 +202,12 @@ module _ (node file : List ℕ) (D : Id → Type 0) where
         kept : IsKeptNode v.shared n
         kept = (sound_node v sound node n found).kept
 
-        told : Betrays node file D n.settled ⊎ IsToldUp node file D false (record b { records = committed_in node file v; in_doubt = false }) n
+        told : Betrays node file D n.settled ⊎ IsToldUp node file D false (record b { records = committed_in node file v; given = None }) n
         told = or_else node file D (λ x. x) (λ h. inr (record {
           named = h.named;
           shown = h.shown;
-          records_are = λ sure. there_committed n found;
+          records_are = inl (there_committed n found);
+          still = sure_still (record b { records = committed_in node file v; given = None }) (history_in file n.durable.directory).live refl;
           quiet = h.quiet;
           own = h.own;
           only = h.only;
@@ -214,9 +216,9 @@ module _ (node file : List ℕ) (D : Id → Type 0) where
         })) (k.runs up)
 
     known_told : (b : Account) → AreTold b v → AreTold (known_again node file v b) v
-    known_told b h n found = go b.in_doubt (is_up_in node v) refl
+    known_told b h n found = go (is_some b.given) (is_up_in node v) refl
       where
-        go : (d c : Bool) → is_up_in node v ≡ c → IsKept node file D (if d && c then record b { records = committed_in node file v; in_doubt = false } else b) n
+        go : (d c : Bool) → is_up_in node v ≡ c → IsKept node file D (if d && c then record b { records = committed_in node file v; given = None } else b) n
         go true true up = known_kept b n found (sym (ap (λ (o : Option Node). elim o as (λ x. Bool) [ Some m ↦ m.up | None ↦ false ]) found) ∙ up) (h n found)
         go true false up = h n found
         go false c up = h n found
@@ -224,7 +226,7 @@ module _ (node file : List ℕ) (D : Id → Type 0) where
   -- The opening.
 
   abbrev opening_account : World → Account
-  opening_account opening = record { records = committed_in node file opening; told = unsettled_in node file opening; left = []; in_doubt = false }
+  opening_account opening = record { records = committed_in node file opening; told = unsettled_in node file opening; left = []; given = None }
 
   module _ (nodes : List Node) (disks : List DiskCounts) (n : Node) (found : find_node node nodes ≡ Some n) (o : IsOpening n) (last : IsLastApart n) (kept : IsKeptDisk n) where
     file_here : file_of node file (opened nodes disks) ≡ find_file file n.durable.directory
@@ -262,7 +264,8 @@ module _ (node file : List ℕ) (D : Id → Type 0) where
     opening_disk : IsToldDisk node file D (opening_account (opened nodes disks)) n.name n.durable
     opening_disk = record {
       named = found_name node nodes n found;
-      records_are = λ sure. stay n.durable.last refl ∙ records_here;
+      records_are = inl (stay n.durable.last refl ∙ records_here);
+      still = sure_still (opening_account (opened nodes disks)) (history_in file n.durable.directory).live refl;
       quiet = λ gone x m. ap (λ t. told_by x t m) (told_here ∙ ap (λ f. map left_sets (history_of f).live) gone);
       own = λ s e. let k : LastIsReached n (Some s) = subst (LastIsReached n) e o.last in k;
       apart = λ s r e commit i j. (last s e).1 r i j;
@@ -274,7 +277,7 @@ module _ (node file : List ℕ) (D : Id → Type 0) where
         stay None e = refl
         stay (Some s) e = go s.outcome (bytes_eq s.serial.node node)
           where
-            go : (c : Outcome) (b : Bool) → (elim c as (λ x. Account) [ Commit ↦ (if b then record { records = told_by s.serial (unsettled_in node file (opened nodes disks)) (committed_in node file (opened nodes disks)); told = unsettled_in node file (opened nodes disks); left = s.serial ∷ []; in_doubt = false } else opening_account (opened nodes disks)) | Abort ↦ opening_account (opened nodes disks) ]).records ≡ committed_in node file (opened nodes disks)
+            go : (c : Outcome) (b : Bool) → (elim c as (λ x. Account) [ Commit ↦ (if b then record { records = told_by s.serial (unsettled_in node file (opened nodes disks)) (committed_in node file (opened nodes disks)); told = unsettled_in node file (opened nodes disks); left = s.serial ∷ []; given = None } else opening_account (opened nodes disks)) | Abort ↦ opening_account (opened nodes disks) ]).records ≡ committed_in node file (opened nodes disks)
             go Commit true = no_unit_untold s.serial (last s e).0 (committed_in node file (opened nodes disks))
             go Commit false = refl
             go Abort b = refl
@@ -301,20 +304,20 @@ tells_legal node file opening [] w a tells = tells.0
 tells_legal node file opening (e ∷ es) w a tells = (tells.0, tells_legal node file opening es tells.0 tells.1 tells.2, tells.3)
 
 -- while its node is up, the records of a file are in no doubt
-sure_up : (node file : List ℕ) (opening : World) (es : List Entry) (w : World) (a : Account) → Tells node file opening es w a → is_up_in node w ≡ true → a.in_doubt ≡ false
-sure_up node file opening [] w a tells up = ap (λ (b : Account). b.in_doubt) tells.1
-sure_up node file opening (e ∷ es) w a tells up = ap (λ (b : Account). b.in_doubt) tells.4 ∙ go (recovered_here node file tells.0 (reading e.source.text) e.lines (account_by node file es tells.0 (reading e.source.text) e.lines tells.1))
+sure_up : (node file : List ℕ) (opening : World) (es : List Entry) (w : World) (a : Account) → Tells node file opening es w a → is_up_in node w ≡ true → a.given ≡ None
+sure_up node file opening [] w a tells up = ap (λ (b : Account). b.given) tells.1
+sure_up node file opening (e ∷ es) w a tells up = ap (λ (b : Account). b.given) tells.4 ∙ go (account_behind node file es tells.0 (reading e.source.text) e.lines tells.1)
   where
-    go : (b : Account) → (known_again node file w b).in_doubt ≡ false
-    go b = at b.in_doubt (is_up_in node w) refl up
+    go : (b : Account) → (known_again node file w b).given ≡ None
+    go b = at b.given (is_up_in node w) refl up
       where
-        at : (d c : Bool) → b.in_doubt ≡ d → c ≡ true → (if d && c then record b { records = committed_in node file w; in_doubt = false } else b).in_doubt ≡ false
-        at true true e k = refl
-        at true false e k = let no : ⊥ = cc in absurd no
-        at false c e k = e
+        at : (o : Option TheRecords) (c : Bool) → b.given ≡ o → c ≡ true → (if is_some o && c then record b { records = committed_in node file w; given = None } else b).given ≡ None
+        at (Some m) true e k = refl
+        at (Some m) false e k = let no : ⊥ = cc in absurd no
+        at None c e k = e
 
 pub legal_tells : (node file : List ℕ) (opening : World) (es : List Entry) (w : World) → Legal opening es w → (a : Account) × Tells node file opening es w a
-legal_tells node file opening [] w legal = (record { records = committed_in node file opening; told = unsettled_in node file opening; left = []; in_doubt = false }, (legal, refl))
+legal_tells node file opening [] w legal = (record { records = committed_in node file opening; told = unsettled_in node file opening; left = []; given = None }, (legal, refl))
 legal_tells node file opening (e ∷ es) w legal =
     let before = legal_tells node file opening es legal.0 legal.1 in
     (account_after node file es legal.0 w (reading e.source.text) e.lines before.0, (legal.0, before.0, before.1, legal.2, refl))
@@ -349,7 +352,7 @@ module _ (node file : List ℕ) (nodes : List Node) (disks : List DiskCounts) (o
       let sound = legal_sound (opened nodes disks) mid es (opening_sound nodes disks opens) before in
       let then_sound = legal_sound (opened nodes disks) w (e ∷ es) (opening_sound nodes disks opens) (tells_legal node file (opened nodes disks) (e ∷ es) w a tells) in
       subst (λ b. AreTold node file Never b w) (sym tells.4)
-      (known_told node file Never w then_sound (recovered_here node file mid (reading e.source.text) e.lines (account_by node file es mid (reading e.source.text) e.lines tells.1)) (turn_told node file Never es mid tells.1 w (reading e.source.text) e.lines (legal_named nodes disks es mid opens before) sound (doomed_at es (after ++ e ∷ []) mid here before on sound) tells.3 (path_told es (after ++ e ∷ []) mid tells.1 here tells.2 on)))
+      (known_told node file Never w then_sound (account_behind node file es mid (reading e.source.text) e.lines tells.1) (turn_told node file Never es mid tells.1 (sure_up node file (opened nodes disks) es mid tells.1 tells.2) w (reading e.source.text) e.lines (legal_named nodes disks es mid opens before) sound (doomed_at es (after ++ e ∷ []) mid here before on sound) tells.3 (path_told es (after ++ e ∷ []) mid tells.1 here tells.2 on)))
 
 -- Dumps.
 
@@ -436,8 +439,36 @@ not_betrayed node file mid n sound found b =
     let no : ⊥ = cc in no
 
 pub dumps_hold : DumpsHold
-dumps_hold nodes disks es closing opens apart legal stand = record { shows = shows; by_all = by_all }
+dumps_hold nodes disks es closing opens apart legal stand = record { shows = shows; by_all = by_all; recoveries = recoveries }
   where
+    recoveries : RecoveriesAreWhole (opened nodes disks) es
+    recoveries later before e parts node file mid v closing a tells turn on up = at (find_node node v.nodes) refl
+      where
+        first : Legal (opened nodes disks) before mid
+        first = tells_legal node file (opened nodes disks) before mid a tells
+
+        here : Legal mid (e ∷ []) v
+        here = (mid, refl, turn)
+
+        sound : IsSound mid
+        sound = legal_sound (opened nodes disks) mid before (opening_sound nodes disks opens) first
+
+        then_sound : IsSound v
+        then_sound = legal_sound (opened nodes disks) v (e ∷ before) (opening_sound nodes disks opens) (mid, first, turn)
+
+        told : AreTold node file (λ x. IsNeverCommitted x v) (account_behind node file before mid (reading e.source.text) e.lines a) v
+        told = turn_told node file (λ x. IsNeverCommitted x v) before mid a (sure_up node file (opened nodes disks) before mid a tells) v (reading e.source.text) e.lines (legal_named nodes disks before mid opens first) sound
+            (doomed_at node file nodes disks opens apart es later stand v before (e ∷ []) mid parts first here sound) turn (path_told node file nodes disks opens apart es later stand v before (e ∷ []) mid a parts tells here)
+
+        at : (o : Option Node) → find_node node v.nodes ≡ o → MayHave (account_behind node file before mid (reading e.source.text) e.lines a) (committed_in node file v)
+        at (Some n) found =
+            let is_up : n.up ≡ true = sym (ap (λ (o : Option Node). elim o as (λ x. Bool) [ Some m ↦ m.up | None ↦ false ]) found) ∙ up in
+            elim ((told n found).runs is_up) [
+              | inl b ↦ absurd (not_betrayed node file v n then_sound found b)
+              | inr k ↦ subst (MayHave (account_behind node file before mid (reading e.source.text) e.lines a)) (sym (there_committed node file (λ x. IsNeverCommitted x v) v then_sound n found)) k.records_are
+            ]
+        at None none = let clash : false ≡ true = sym (ap (λ (o : Option Node). elim o as (λ x. Bool) [ Some m ↦ m.up | None ↦ false ]) none) ∙ up in let no : ⊥ = cc in absurd no
+
     by_all : DumpsShowByAll (opened nodes disks) es
     by_all before node file events count there mid new a tells step =
         let first = tells_legal node file (opened nodes disks) before mid a tells in
@@ -451,7 +482,7 @@ dumps_hold nodes disks es closing opens apart legal stand = record { shows = sho
         of_node : (n : Node) → find_node node mid.nodes ≡ Some n → IsDumped n file events count → IsSound mid → IsKept node file (λ x. IsNeverCommitted x mid) a n → Shows events count a.records
         of_node n found d sound k = elim (k.runs d.up) [
           | inl b ↦ absurd (not_betrayed node file mid n sound found b)
-          | inr up ↦ subst (Shows events count) (sym (up.records_are (sure_up node file (opened nodes disks) before mid a tells (ap (λ (o : Option Node). elim o as (λ x. Bool) [ Some m ↦ m.up | None ↦ false ]) found ∙ d.up)))) d.shows
+          | inr up ↦ subst (Shows events count) (sym (sure_records a (records (history_in file n.durable.directory)) (sure_up node file (opened nodes disks) before mid a tells (ap (λ (o : Option Node). elim o as (λ x. Bool) [ Some m ↦ m.up | None ↦ false ]) found ∙ d.up)) up.records_are)) d.shows
         ]
 
     shows : DumpsShow (opened nodes disks) es

@@ -1,5 +1,5 @@
 -- What is told of a file agrees with its node behind an operation on it, and where it is made.
-use Rattle.std.proofs.Common.{◌≡◌, ℕ, ◌+◌, List, [], ◌∷◌, ◌++◌, Bool, true, false, Option, Some, None, if◌then◌else◌, refl, sym, ◌∙◌, ap, subst, inl, inr, arith, append-nil}
+use Rattle.std.proofs.Common.{◌≡◌, ◌⊎◌, ℕ, ◌+◌, List, [], ◌∷◌, ◌++◌, Bool, true, false, Option, Some, None, if◌then◌else◌, refl, sym, ◌∙◌, ap, subst, inl, inr, arith, append-nil}
 use Rattle.std.specs.Prelude.{slice_set}
 use Rattle.std.specs.Str.{bytes_eq}
 use Rattle.std.specs.FinMap.{empty}
@@ -19,7 +19,7 @@ use Rattle.log_laws.specs.Slots.{prepared_of, records_in}
 use Rattle.run_model.specs.Locks.{is_locked}
 use Rattle.run_model.specs.World.{Node, Durable, File, Changes, Creates, Directs, Recovers, Settlement, acted, changed_file, directly_changed, find_file, recovered_file, free_place, next_id, with_file}
 use Rattle.run_model.specs.Answers as answers
-use Rattle.run_laws.specs.Accounts.{Account, Set, Told, left_by, told_by, with_sets}
+use Rattle.run_laws.specs.Accounts.{Account, MayHave, Set, Told, left_by, told_by, with_sets}
 use Rattle.world_laws.specs.Nodes.{IsOf, IsUp}
 use Rattle.world_laws.specs.Running.{IsDrawn, history_in, history_of}
 use Rattle.world_laws.proofs.IdLemmas.{id_is, id_itself}
@@ -32,7 +32,7 @@ use Rattle.world_laws.proofs.RunningLemmas.{none_after}
 use Rattle.world_laws.proofs.ServedLemmas.{undrawn}
 use Rattle.world_laws.proofs.TableLemmas.{changed_serials, in_serials, one_branch}
 use Rattle.world_laws.proofs.UpLemmas.{branch_drawn, differ, drawn_more}
-use Rattle.run_laws.proofs.AccountLemmas.{IsUntold, TellSame, history_here, history_kept, history_placed, last_same, left_doubt, left_first, left_is, left_others, left_told, shown_left}
+use Rattle.run_laws.proofs.AccountLemmas.{IsUntold, TellSame, history_here, history_kept, history_placed, last_left, last_same, left_given, left_is, left_may, sure_still, left_others, left_told, shown_left}
 use Rattle.run_laws.proofs.FileTelling.{IsTold, IsToldDisk, IsToldUp, falls_told, no_changes}
 use Rattle.run_laws.proofs.Once.{unit_branch}
 
@@ -55,7 +55,8 @@ module _ (node file : List ℕ) (D : Id → Type 0) where
   pub disk_same : (a : Account) (told : List Told) (name : List ℕ) (d : Durable) → TellSame a.told told → IsToldDisk node file D a name d → IsToldDisk node file D (record a { told = told }) name d
   disk_same a told name d same h = record {
     named = h.named;
-    records_are = λ sure. last_same node d.last a told same ∙ h.records_are sure;
+    records_are = last_same node d.last a told (records (history_in file d.directory)) same h.records_are;
+    still = h.still;
     quiet = λ gone x m. same x m ∙ h.quiet gone x m;
     own = h.own;
     apart = h.apart;
@@ -68,6 +69,7 @@ module _ (node file : List ℕ) (D : Id → Type 0) where
     named = h.named;
     shown = h.shown;
     records_are = h.records_are;
+    still = h.still;
     quiet = λ gone x m. same x m ∙ h.quiet gone x m;
     own = h.own;
     only = λ x none. untold_same a told x same (h.only x none);
@@ -97,11 +99,12 @@ module _ (node file : List ℕ) (D : Id → Type 0) where
       changes_then : (x : Id) → changes_by x (history_in file (with_file file change dir)).live ≡ (if same_id x serial then cs ++ changes_by x (history_in file dir).live else changes_by x (history_in file dir).live)
       changes_then x = ap (changes_by x) live_then ∙ by_with_changes x serial cs (history_in file dir).live
 
-      pub entered_up : (sets : List Set) → ((m : Records) → with_sets sets m ≡ applied cs m) → IsToldUp node file D false (telling_more serial sets a) m
-      entered_up sets sets_are = record {
+      pub entered_up : a.given ≡ None → (sets : List Set) → ((m : Records) → with_sets sets m ≡ applied cs m) → IsToldUp node file D false (telling_more serial sets a) m
+      entered_up sure sets sets_are = record {
         named = h.named;
         shown = h.shown;
-        records_are = λ sure. h.records_are sure ∙ sym same_records;
+        records_are = subst (MayHave a) (sym same_records) h.records_are;
+        still = sure_still (telling_more serial sets a) (history_in file (with_file file change dir)).live sure;
         quiet = λ gone. found_none file dir f found (none_after file file change dir (λ g. refl) gone);
         own = h.own;
         only = λ x none. let u = h.only x none in
@@ -117,12 +120,13 @@ module _ (node file : List ℕ) (D : Id → Type 0) where
           own x k tells false e = rw e (tells k)
 
       -- by an account in which nothing is told of that: its branch is not prepared
-      pub entered_disk : (b : Branch) → In b n.volatile.branches → b.key.serial ≡ serial → is_prepared b.state ≡ false → IsToldDisk node file D a m.name m.durable
-      entered_disk b i is unprepared =
+      pub entered_disk : a.given ≡ None → (b : Branch) → In b n.volatile.branches → b.key.serial ≡ serial → is_prepared b.state ≡ false → IsToldDisk node file D a m.name m.durable
+      entered_disk sure b i is unprepared =
           let k = falls_told node file D false a n up h in
           record {
             named = k.named;
-            records_are = λ sure. k.records_are sure ∙ sym same_records;
+            records_are = subst (MayHave (last_left node n.durable.last a)) (sym same_records) k.records_are;
+            still = sure_still a (history_in file (with_file file change dir)).live sure;
             quiet = λ gone. found_none file dir f found (none_after file file change dir (λ g. refl) gone);
             own = k.own;
             apart = k.apart;
@@ -143,16 +147,17 @@ module _ (node file : List ℕ) (D : Id → Type 0) where
       abbrev recovering : File → File
       recovering = recovered_file start buckets m n.durable.greatest
 
-      pub recovers_up : (r : Records) (d : Bool) → (d ≡ false → r ≡ m) → IsToldUp node file D false (record a { records = r; in_doubt = d }) (acted (Recovers file start buckets m) n)
-      recovers_up r d is = record {
+      pub recovers_up : (r : Records) (given : Option Records) → (r ≡ m) ⊎ (given ≡ Some m) → (history_in file dir).live ≡ [] → IsToldUp node file D false (record a { records = r; given = given }) (acted (Recovers file start buckets m) n)
+      recovers_up r given may rest = record {
         named = h.named;
         shown = h.shown;
-        records_are = λ sure. is sure ∙ sym (ap records (history_here file recovering dir f (λ g. refl) found));
+        records_are = subst (MayHave (record a { records = r; given = given })) (sym (ap records (history_here file recovering dir f (λ g. refl) found))) may;
+        still = λ k e. history_kept (λ (q : History). q.live) file file recovering dir (λ g. refl) (λ g. refl) ∙ rest;
         quiet = λ gone. found_none file dir f found (none_after file file recovering dir (λ g. refl) gone);
         own = h.own;
         only = h.only;
         fresh = λ e. let no : ⊥ = cc in absurd no;
-        told = λ x i. subst (λ ls. IsTold node file D (record a { records = r; in_doubt = d }) ls x) (sym (history_kept (λ (k : History). k.live) file file recovering dir (λ g. refl) (λ g. refl)))
+        told = λ x i. subst (λ ls. IsTold node file D (record a { records = r; given = given }) ls x) (sym (history_kept (λ (k : History). k.live) file file recovering dir (λ g. refl) (λ g. refl)))
             (let t = h.told x i in record { tells = t.tells; staying = t.staying });
       }
 
@@ -204,11 +209,12 @@ module _ (node file : List ℕ) (D : Id → Type 0) where
       drawn_apart : (x : Id) → IsDrawn n.name n.durable.boot n.volatile.drawn x → same_id x (next_id n) ≡ false
       drawn_apart x d = false_from_ne_true _ (λ t. undrawn n x d (id_is x (next_id n) t))
 
-      pub directs_up : IsToldUp node file D false (left_by node (next_id n) b) after
-      directs_up = record {
+      pub directs_up : a.given ≡ None → IsToldUp node file D false (left_by node (next_id n) b) after
+      directs_up sure = record {
         named = h.named;
         shown = left_is node (next_id n) b h.named;
-        records_are = λ sure. ap (λ (k : Account). k.records) (left_first node (next_id n) b h.named next.1) ∙ own_told a.records ∙ ap (applied (c ∷ cs)) (h.records_are (sym (left_doubt node (next_id n) b) ∙ sure)) ∙ sym records_then;
+        records_are = subst (MayHave (left_by node (next_id n) b)) (own_told (records (history_in file dir)) ∙ sym records_then) (left_may node (next_id n) b (records (history_in file dir)) h.named next.1 (λ e. let clash : ◌≡◌ {A = Option Records} None (Some (records (history_in file dir))) = sym sure ∙ e in let no : ⊥ = cc in absurd no) h.records_are);
+        still = λ m e. live_then_same ∙ h.still m (sym (left_given node (next_id n) b) ∙ e);
         quiet = λ gone. found_none file dir f found (none_after file file direct dir (λ g. refl) gone);
         own = λ x e. subst (λ (y : Settlement). IsOf n.name n.durable.boot y.serial) (some_is s x e) (refl, omega arith);
         only = λ x none.
@@ -231,7 +237,8 @@ module _ (node file : List ℕ) (D : Id → Type 0) where
           let k = falls_told node file D false a n up h in
           record {
             named = k.named;
-            records_are = λ sure. ap (λ (x : Account). x.records) (shown_left node n.durable.last b h.shown) ∙ h.records_are sure;
+            records_are = subst (λ (x : Account). MayHave x (records (history_in file n.durable.directory))) (sym (shown_left node n.durable.last b h.shown)) h.records_are;
+            still = h.still;
             quiet = λ gone. found_none file dir f found gone;
             own = k.own;
             apart = k.apart;
@@ -252,7 +259,8 @@ module _ (node file : List ℕ) (D : Id → Type 0) where
     created_up is = record {
       named = h.named;
       shown = h.shown;
-      records_are = λ sure. sym (ap records now ∙ bare);
+      records_are = inl (sym (ap records now ∙ bare));
+      still = λ m e. ap (λ (k : History). k.live) now ∙ rest;
       quiet = λ gone. h.quiet absent;
       own = h.own;
       only = h.only;
@@ -274,7 +282,8 @@ module _ (node file : List ℕ) (D : Id → Type 0) where
     created_beside apart = record {
       named = h.named;
       shown = h.shown;
-      records_are = λ sure. h.records_are sure ∙ sym (ap records now);
+      records_are = subst (MayHave a) (sym (ap records now)) h.records_are;
+      still = λ m e. ap (λ (k : History). k.live) now ∙ h.still m e;
       quiet = λ gone. h.quiet (sym found ∙ gone);
       own = h.own;
       only = h.only;

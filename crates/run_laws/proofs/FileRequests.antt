@@ -1,5 +1,5 @@
 -- What a request that may tell of a file leaves of it, whether it is done whole or cut short.
-use Rattle.std.proofs.Common.{◌≡◌, ◌⊎◌, ℕ, zero, suc, List, [], ◌∷◌, ◌++◌, take, drop, Bool, true, false, not, ◌||◌, ◌&&◌, Option, Some, None, if◌then◌else◌, refl, sym, ◌∙◌, ap, subst, inr}
+use Rattle.std.proofs.Common.{◌≡◌, ◌⊎◌, ℕ, zero, suc, List, [], ◌∷◌, ◌++◌, take, drop, Bool, true, false, not, ◌||◌, ◌&&◌, Option, Some, None, if◌then◌else◌, refl, sym, ◌∙◌, ap, subst, inl, inr}
 use Rattle.std.specs.Prelude.{length, replicate}
 use Rattle.std.specs.Str.{bytes_eq}
 use Rattle.std.specs.FinMap.{empty, entries}
@@ -25,20 +25,20 @@ use Rattle.run_model.specs.Transcript.{Entry}
 use Rattle.run_model.specs.StepLaws.{is_refusal}
 use Rattle.run_model.proofs.NodeLists.{found_name}
 use Rattle.run_model.proofs.CauseLemmas.{refuses_first, refuses_then, task_succeeds}
-use Rattle.run_laws.specs.Accounts.{Account, Told, account_by, broken_id, broken_sets, commits_here, created_here, direct_told, file_of, given_in, left_by, made_anew, no_account, one_told, recovered_by, recovered_here, serial_told, sets_here, sets_of, with_sets}
+use Rattle.run_laws.specs.Accounts.{Account, MayHave, Told, account_by, broken_id, broken_sets, commits_here, created_here, direct_told, file_of, given_in, left_by, made_anew, no_account, one_told, recovered_by, recovered_here, serial_told, sets_here, sets_of, with_sets}
 use Rattle.run_laws.specs.Naming.{ToldLabel, find_told, labels_told}
 use Rattle.world_laws.specs.Nodes.{AreUp, IsUp}
-use Rattle.world_laws.specs.Running.{history_of}
+use Rattle.world_laws.specs.Running.{history_in, history_of}
 use Rattle.world_laws.proofs.AnswerLemmas.{neither, not_refused}
 use Rattle.world_laws.proofs.EffectLemmas.{none_in}
 use Rattle.world_laws.proofs.Induction.{powered_name}
 use Rattle.world_laws.proofs.FindLemmas.{some_is}
 use Rattle.world_laws.proofs.NodeLemmas.{last_up, rows_way}
 use Rattle.world_laws.proofs.OperationLemmas.{changes_there}
-use Rattle.world_laws.proofs.ServedLemmas.{file_says, not_there, there_is as there_is_one}
+use Rattle.world_laws.proofs.ServedLemmas.{file_says, not_there, recovery_rests, there_is as there_is_one}
 use Rattle.world_laws.proofs.TableLemmas.{in_serials}
 use Rattle.world_laws.proofs.TaskLemmas.{holds_it, task_rows}
-use Rattle.run_laws.proofs.AccountLemmas.{TellSame, commits_plain}
+use Rattle.run_laws.proofs.AccountLemmas.{TellSame, commits_plain, sure_records, sure_still}
 use Rattle.run_laws.proofs.EachRow.{is_plain}
 use Rattle.run_laws.proofs.FileActs.{broken_disk, created_beside, created_up, directs_up, disk_same, entered_disk, entered_up, recovers_up, telling_more, up_same}
 use Rattle.run_laws.proofs.FileTelling.{Betrays, IsToldDisk, IsToldUp, beneath_left, betrays_acted, disk_of, falls_told, or_else, telling, telling_keeps, tells_file}
@@ -113,7 +113,7 @@ module _ (node file : List ℕ) (D : Id → Type 0) where
     runs = λ up. or_else node file D (λ b. b) (λ k. inr (up_same node file D false a new n same k)) (h.runs up);
   }
 
-  module _ (es : List Entry) (w : World) (n : Node) (found : find_node node w.nodes ≡ Some n) (named : Named es w) (sound : IsSoundNode w.shared n) (stops : ℕ) (a : Account) (h : IsKept a n) where
+  module _ (es : List Entry) (w : World) (n : Node) (found : find_node node w.nodes ≡ Some n) (named : Named es w) (sound : IsSoundNode w.shared n) (stops : ℕ) (a : Account) (h : IsKept a n) (sure : n.up ≡ true → a.given ≡ None) where
     abbrev s : Shared
     s = w.shared
 
@@ -208,7 +208,7 @@ module _ (node file : List ℕ) (D : Id → Type 0) where
           go Voting k = refl
 
       changed_disk : (c : Change) (cs : List Change) → IsDisk a (acted (Changes b.key.tid b.key.serial file (c ∷ cs) (keys_at n file op)) n)
-      changed_disk c cs = or_else node file D (λ x. x) (λ k. inr (entered_disk node file D n f there is_up a k b.key.tid b.key.serial (c ∷ cs) (keys_at n file op) serial_there b (branch_serial label b e) refl unprepared)) (h.runs up)
+      changed_disk c cs = or_else node file D (λ x. x) (λ k. inr (entered_disk node file D n f there is_up a k b.key.tid b.key.serial (c ∷ cs) (keys_at n file op) serial_there (sure up) b (branch_serial label b e) refl unprepared)) (h.runs up)
 
       operation_cut : (cs : List Change) (j : ℕ) (t : Bool) (cause : Cause) → IsKept (by (Records label file op) ((lines_of_rows (take j (silent (operation_act b file cs (keys_at n file op)) ∷ [])) ++ line.Down n.name cause ∷ []) ++ line.Broken cause ∷ []))
           (fallen (act_begun t (drop j (silent (operation_act b file cs (keys_at n file op)) ∷ []))) (node_after_rows (take j (silent (operation_act b file cs (keys_at n file op)) ∷ [])) n))
@@ -267,8 +267,8 @@ module _ (node file : List ℕ) (D : Id → Type 0) where
 
           go : (cs : List Change) → changes_of f op ≡ cs → IsToldUp node file D false a n → IsToldUp node file D false (telling_more b.key.serial (sets_of op answer f) a) (node_after_rows (silent (operation_act b file cs (keys_at n file op)) ∷ []) n)
           go [] is k = up_same node file D false a _ (acted (Holds b.key.serial file (keys_at n file op)) n) (set_none a.told b.key.serial (sets_of op answer f) (λ m. sets m ∙ ap (λ ds. applied ds m) is))
-              (record { named = k.named; shown = k.shown; records_are = k.records_are; quiet = k.quiet; own = k.own; only = k.only; fresh = λ q. let no : ⊥ = cc in absurd no; told = k.told })
-          go (c ∷ cs) is k = entered_up node file D n f there is_up a k b.key.tid b.key.serial (c ∷ cs) (keys_at n file op) serial_there (sets_of op answer f) (λ m. sets m ∙ ap (λ ds. applied ds m) is)
+              (record { named = k.named; shown = k.shown; records_are = k.records_are; still = k.still; quiet = k.quiet; own = k.own; only = k.only; fresh = λ q. let no : ⊥ = cc in absurd no; told = k.told })
+          go (c ∷ cs) is k = entered_up node file D n f there is_up a k b.key.tid b.key.serial (c ∷ cs) (keys_at n file op) serial_there (sure up) (sets_of op answer f) (λ m. sets m ∙ ap (λ ds. applied ds m) is)
 
     -- Changes without a label.
 
@@ -322,11 +322,11 @@ module _ (node file : List ℕ) (D : Id → Type 0) where
         under_disk : IsUp (acted (direct_act c cs) n) → IsDisk (telling_more (next_id n) (broken_sets op f) a) (acted (direct_act c cs) n)
         under_disk all = or_else node file D (λ x. betrays_acted node file D (direct_act c cs) n x) (λ k. inr
             (disk_of node file D false (telling_more (next_id n) (broken_sets op f) a) (left_by node (next_id n) (telling_more (next_id n) (broken_sets op f) a)) (acted (direct_act c cs) n) (beneath_left node file D (next_id n) (telling_more (next_id n) (broken_sets op f) a)) refl all
-            (directs_up node file D n f there (sound.kept.runs up).0 a k c cs (broken_sets op f) (broken_told (c ∷ cs) is)))) (h.runs up)
+            (directs_up node file D n f there (sound.kept.runs up).0 a k c cs (broken_sets op f) (broken_told (c ∷ cs) is) (sure up)))) (h.runs up)
 
         then_disk : IsUp (acted (direct_act c cs) n) → IsDisk (left_by node (next_id n) (telling_more (next_id n) (broken_sets op f) a)) (acted (direct_act c cs) n)
         then_disk all = or_else node file D (λ x. betrays_acted node file D (direct_act c cs) n x) (λ k. inr
-            (falls_told node file D false (left_by node (next_id n) (telling_more (next_id n) (broken_sets op f) a)) (acted (direct_act c cs) n) all (directs_up node file D n f there (sound.kept.runs up).0 a k c cs (broken_sets op f) (broken_told (c ∷ cs) is)))) (h.runs up)
+            (falls_told node file D false (left_by node (next_id n) (telling_more (next_id n) (broken_sets op f) a)) (acted (direct_act c cs) n) all (directs_up node file D n f there (sound.kept.runs up).0 a k c cs (broken_sets op f) (broken_told (c ∷ cs) is) (sure up)))) (h.runs up)
 
         broken_first : (cause : Cause) → IsKept (by (Direct file op) (line.Down n.name cause ∷ line.Broken cause ∷ [])) (fallen None n)
         broken_first cause = subst (λ b. IsKept b (fallen None n)) (sym (broken_by cause)) (fell_first (telling_more (next_id n) (broken_sets op f) a) first_disk)
@@ -355,7 +355,7 @@ module _ (node file : List ℕ) (D : Id → Type 0) where
         direct_done all answer answered plain = subst (λ b. IsKept b (acted (direct_act c cs) n)) (sym (done_by (next_moment n) answer plain))
             (up_kept (left_by node (next_id n) (telling_more (next_id n) (sets_of op answer f) a)) (direct_row c cs ∷ []) up all
             (or_else node file D (λ x. betrays_acted node file D (direct_act c cs) n x) (λ k. inr (directs_up node file D n f there (sound.kept.runs up).0 a k c cs (sets_of op answer f)
-            (λ q. ap (λ l. with_sets (sets_of op l f) q) answered ∙ sets_are f op form q ∙ ap (λ ds. applied ds q) is))) (h.runs up)))
+            (λ q. ap (λ l. with_sets (sets_of op l f) q) answered ∙ sets_are f op form q ∙ ap (λ ds. applied ds q) is) (sure up))) (h.runs up)))
 
     -- A file is made.
 
@@ -373,8 +373,8 @@ module _ (node file : List ℕ) (D : Id → Type 0) where
       absent : bytes_eq f file ≡ true → find_file file n.durable.directory ≡ None
       absent is = subst (λ y. find_file y n.durable.directory ≡ None) ((bytes_eq-Decides f file).0 is) none
 
-      bare_before : bytes_eq f file ≡ true → IsToldUp node file D false a n → a.in_doubt ≡ false → a.records ≡ empty
-      bare_before is k sure = k.records_are sure ∙ ap (λ o. records (history_of o)) (absent is)
+      bare_before : bytes_eq f file ≡ true → IsToldUp node file D false a n → MayHave a empty
+      bare_before is k = subst (MayHave a) (ap (λ o. records (history_of o)) (absent is)) k.records_are
 
       created_told : (place start : ℕ) → free_place n.durable.directory ≡ Some place → (b : Bool) → bytes_eq f file ≡ b → IsToldUp node file D false a n → IsToldUp node file D false (if b then record a { records = empty } else a) (acted (Creates place (new start)) n)
       created_told place start free true is k = created_up node file D n (new start) place a k refl refl free none is
@@ -386,7 +386,7 @@ module _ (node file : List ℕ) (D : Id → Type 0) where
           go : (b : Bool) → bytes_eq f file ≡ b → IsToldUp node file D false a (acted (Creates place (new start)) n)
           go true is =
               let c = created_told place start free true is k in
-              record { named = c.named; shown = c.shown; records_are = λ sure. bare_before is k sure ∙ c.records_are sure; quiet = c.quiet; own = c.own; only = c.only; fresh = c.fresh; told = λ x i. let t = c.told x i in record { tells = t.tells; staying = t.staying } }
+              record { named = c.named; shown = c.shown; records_are = elim c.records_are [ inl none ↦ subst (MayHave a) none (bare_before is k) | inr given ↦ inr given ]; still = c.still; quiet = c.quiet; own = c.own; only = c.only; fresh = c.fresh; told = λ x i. let t = c.told x i in record { tells = t.tells; staying = t.staying } }
           go false is = created_told place start free false is k
 
       no_lines : (rs : List Row) → AreSilent rs → (j : ℕ) → lines_of_rows (take j rs) ≡ []
@@ -436,7 +436,8 @@ module _ (node file : List ℕ) (D : Id → Type 0) where
           bare true is k = record {
             named = k.named;
             shown = k.shown;
-            records_are = λ sure. sym (ap (λ o. records (history_of o)) (absent is));
+            records_are = inl (sym (ap (λ o. records (history_of o)) (absent is)));
+            still = k.still;
             quiet = k.quiet;
             own = k.own;
             only = k.only;
@@ -601,51 +602,54 @@ module _ (node file : List ℕ) (D : Id → Type 0) where
 
     -- The file is recovered.
 
-    abbrev doubted : Account
-    doubted = record a { in_doubt = true }
+    abbrev doubted : TheRecords → Account
+    doubted given = record a { given = Some given }
 
     -- what is told where it broke, and where it is done
-    broken_recovery : (way : Recovery) (cause : Cause) → by (Recover file way) (line.Down n.name cause ∷ line.Broken cause ∷ []) ≡ doubted
-    broken_recovery way cause = ap (λ c. if c then record a { in_doubt = true } else a) (ap (λ c. c && bytes_eq file file) (same_text node) ∙ same_text file)
+    broken_recovery : (way : Recovery) (cause : Cause) → by (Recover file way) (line.Down n.name cause ∷ line.Broken cause ∷ []) ≡ doubted (given_in node file w way)
+    broken_recovery way cause = ap (λ c. if c then record a { given = Some (given_in node file w way) } else a) (ap (λ c. c && bytes_eq file file) (same_text node) ∙ same_text file)
+
+    given_there : (way : Recovery) (f : File) → find_file file n.durable.directory ≡ Some f → given_in node file w way ≡ records_recovered way f
+    given_there way f there = ap (λ o. elim o as (λ x. TheRecords) [ Some g ↦ records_recovered way g | None ↦ empty ]) (file_there f there)
 
     done_recovery : (way : Recovery) (f : File) (count : ℕ) → find_file file n.durable.directory ≡ Some f → by (Recover file way) (line.NormalCount count ∷ []) ≡ record a { records = records_recovered way f }
-    done_recovery way f count there = ap (λ c. if c then record a { records = given_in node file w way } else a) (ap (λ c. c && bytes_eq file file) (same_text node) ∙ same_text file) ∙ ap (λ m. record a { records = m }) given
-      where
-        given : given_in node file w way ≡ records_recovered way f
-        given = ap (λ o. elim o as (λ x. TheRecords) [ Some g ↦ records_recovered way g | None ↦ empty ]) (file_there f there)
+    done_recovery way f count there = ap (λ c. if c then record a { records = given_in node file w way } else a) (ap (λ c. c && bytes_eq file file) (same_text node) ∙ same_text file) ∙ ap (λ m. record a { records = m }) (given_there way f there)
 
-    doubted_disk : IsDisk doubted n
-    doubted_disk = or_else node file D (λ x. x) (λ k. inr (record {
+    -- nothing was in doubt before, while the node was up, and no unsettled branch had changed the file
+    doubted_disk : n.up ≡ true → (history_in file n.durable.directory).live ≡ [] → (given : TheRecords) → IsDisk (doubted given) n
+    doubted_disk up rest given = or_else node file D (λ x. x) (λ k. inr (falls_told node file D false (doubted given) n (sound.kept.runs up).0 (record {
       named = k.named;
-      records_are = λ sure. let no : ⊥ = cc in absurd no;
+      shown = k.shown;
+      records_are = inl (sure_records a (records (history_in file n.durable.directory)) (sure up) k.records_are);
+      still = λ m e. rest;
       quiet = k.quiet;
       own = k.own;
-      apart = k.apart;
       only = k.only;
-      prepared = λ r i. let t = k.prepared r i in record { tells = t.tells; staying = t.staying };
-    })) h.disk
+      fresh = λ e. let no : ⊥ = cc in absurd no;
+      told = λ x i. let t = k.told x i in record { tells = t.tells; staying = t.staying };
+    }))) (h.runs up)
 
     -- what it does to the file that is there
-    module _ (way : Recovery) (f : File) (there : find_file file n.durable.directory ≡ Some f) (up : n.up ≡ true) where
+    module _ (way : Recovery) (f : File) (there : find_file file n.durable.directory ≡ Some f) (up : n.up ≡ true) (rest : (history_in file n.durable.directory).live ≡ []) where
       abbrev recovered_records : TheRecords
       recovered_records = records_recovered way f
 
       abbrev recovery_act : Act
       recovery_act = Recovers file (answers.start_of (world.lowest_free n (answers.blocks_recovered way f))) (world.buckets_loaded f recovered_records) recovered_records
 
-      recovered_told : (r : TheRecords) (d : Bool) → (d ≡ false → r ≡ recovered_records) → IsUpTold (record a { records = r; in_doubt = d }) (acted recovery_act n)
-      recovered_told r d is = or_else node file D (λ x. betrays_acted node file D recovery_act n x)
-          (λ k. inr (recovers_up node file D n f there (sound.kept.runs up).0 a k (answers.start_of (world.lowest_free n (answers.blocks_recovered way f))) (world.buckets_loaded f recovered_records) recovered_records r d is)) (h.runs up)
+      recovered_told : (r : TheRecords) (given : Option TheRecords) → (r ≡ recovered_records) ⊎ (given ≡ Some recovered_records) → IsUpTold (record a { records = r; given = given }) (acted recovery_act n)
+      recovered_told r given may = or_else node file D (λ x. betrays_acted node file D recovery_act n x)
+          (λ k. inr (recovers_up node file D n f there (sound.kept.runs up).0 a k (answers.start_of (world.lowest_free n (answers.blocks_recovered way f))) (world.buckets_loaded f recovered_records) recovered_records r given may rest)) (h.runs up)
 
-      after_disk : IsUp (acted recovery_act n) → IsDisk doubted (acted recovery_act n)
-      after_disk all = or_else node file D (λ x. x) (λ k. inr (falls_told node file D false doubted (acted recovery_act n) all k)) (recovered_told a.records true (λ sure. let no : ⊥ = cc in absurd no))
+      after_disk : IsUp (acted recovery_act n) → IsDisk (doubted recovered_records) (acted recovery_act n)
+      after_disk all = or_else node file D (λ x. x) (λ k. inr (falls_told node file D false (doubted recovered_records) (acted recovery_act n) all k)) (recovered_told a.records (Some recovered_records) (inr refl))
 
       recovered_of : AreUp (silent recovery_act ∷ []) n → (count : ℕ) → Outcome (Recover file way) (silent recovery_act ∷ []) (line.NormalCount count)
       recovered_of all count = (
-        subst (λ b. IsKept b (acted recovery_act n)) (sym (done_recovery way f count there)) (up_kept (record a { records = recovered_records }) (silent recovery_act ∷ []) up all (recovered_told recovered_records a.in_doubt (λ sure. refl))),
+        subst (λ b. IsKept b (acted recovery_act n)) (sym (done_recovery way f count there)) (up_kept (record a { records = recovered_records }) (silent recovery_act ∷ []) up all (recovered_told recovered_records a.given (inl refl))),
         λ j t cause. subst (λ ls. IsKept (by (Recover file way) ((ls ++ line.Down n.name cause ∷ []) ++ line.Broken cause ∷ [])) (fallen (act_begun t (drop j (silent recovery_act ∷ []))) (node_after_rows (take j (silent recovery_act ∷ [])) n))) (sym (none j))
-            (subst (λ b. IsKept b (fallen (act_begun t (drop j (silent recovery_act ∷ []))) (node_after_rows (take j (silent recovery_act ∷ [])) n))) (sym (broken_recovery way cause))
-            (fell (telling node file D) (telling_keeps node file D) t j (silent recovery_act ∷ []) n doubted (disk j) (λ x q. let o = one_begun t j (silent recovery_act) x q in under j x o.0 o.1))),
+            (subst (λ b. IsKept b (fallen (act_begun t (drop j (silent recovery_act ∷ []))) (node_after_rows (take j (silent recovery_act ∷ [])) n))) (sym (broken_recovery way cause ∙ ap doubted (given_there way f there)))
+            (fell (telling node file D) (telling_keeps node file D) t j (silent recovery_act ∷ []) n (doubted recovered_records) (disk j) (λ x q. let o = one_begun t j (silent recovery_act) x q in under j x o.0 o.1))),
       )
         where
           none : (j : ℕ) → lines_of_rows (take j (silent recovery_act ∷ [])) ≡ []
@@ -653,18 +657,25 @@ module _ (node file : List ℕ) (D : Id → Type 0) where
           none (suc zero) = refl
           none (suc (suc j)) = refl
 
-          disk : (j : ℕ) → IsDisk doubted (node_after_rows (take j (silent recovery_act ∷ [])) n)
-          disk zero = doubted_disk
+          disk : (j : ℕ) → IsDisk (doubted recovered_records) (node_after_rows (take j (silent recovery_act ∷ [])) n)
+          disk zero = doubted_disk up rest recovered_records
           disk (suc zero) = after_disk all.1
           disk (suc (suc j)) = after_disk all.1
 
-          under : (j : ℕ) (x : Act) → j ≡ 0 → Some recovery_act ≡ Some x → IsDisk doubted (acted x (node_after_rows (take j (silent recovery_act ∷ [])) n))
-          under zero x z is = subst (λ y. IsDisk doubted (acted y n)) (some_is _ x is) (after_disk all.1)
+          under : (j : ℕ) (x : Act) → j ≡ 0 → Some recovery_act ≡ Some x → IsDisk (doubted recovered_records) (acted x (node_after_rows (take j (silent recovery_act ∷ [])) n))
+          under zero x z is = subst (λ y. IsDisk (doubted recovered_records) (acted y n)) (some_is _ x is) (after_disk all.1)
           under (suc j) x z is = let no : ⊥ = cc in absurd no
+
+    recovers_rest : n.up ≡ true → (way : Recovery) → refused_before_reading s n (service (Recover file way)) ≡ None → (history_in file n.durable.directory).live ≡ []
+    recovers_rest up way first =
+        let behind_file = neither (there_is_file n file) _ (passes (Recover file way) first) in
+        let there = there_is_one n file behind_file.0 in
+        ap (λ o. (history_of o).live) there.1 ∙ recovery_rests n file (sound.kept.runs up).0 (sound.kept.runs up).1 way behind_file.1 there.0 there.1
 
     recover_effect : (way : Recovery) (c : Choice) (rises : Cause → Type 0) → TaskAllowed s stops n (Serves (Recover file way)) rises c →
         (let x = task_effect s stops n (Serves (Recover file way)) c in IsKept (by (Recover file way) (x.lines ++ x.answer ∷ [])) x.node)
-    recover_effect way c rises may = up_request (Recover file way) refl refl refl (λ m. refl) outcome (λ up first cause. subst (λ b. IsKept b (fallen None n)) (sym (broken_recovery way cause)) (fell_first doubted doubted_disk)) refl c rises may
+    recover_effect way c rises may = up_request (Recover file way) refl refl refl (λ m. refl) outcome
+        (λ up first cause. subst (λ b. IsKept b (fallen None n)) (sym (broken_recovery way cause)) (fell_first (doubted (given_in node file w way)) (doubted_disk up (recovers_rest up way first) (given_in node file w way)))) refl c rises may
       where
         outcome : n.up ≡ true → refused_before_reading s n (service (Recover file way)) ≡ None → (service (Recover file way)).refused_after_reading s n ≡ None →
             Outcome (Recover file way) ((service (Recover file way)).rows s n) ((service (Recover file way)).answer s n)
@@ -673,7 +684,7 @@ module _ (node file : List ℕ) (D : Id → Type 0) where
             let all = (task_rows s stops n sound.kept (Serves (Recover file way)) up first late).up in
             subst (λ o. AreUp (elim o as (λ x. List Row) [ Some f ↦ answers.recovers n file way f | None ↦ [] ]) n →
             Outcome (Recover file way) (elim o as (λ x. List Row) [ Some f ↦ answers.recovers n file way f | None ↦ [] ]) (elim o as (λ x. Line) [ Some f ↦ line.NormalCount (length (entries (records_recovered way f))) | None ↦ line.Normal ])) (sym there.1)
-            (λ k. recovered_of way there.0 there.1 up k (length (entries (records_recovered way there.0)))) all
+            (λ k. recovered_of way there.0 there.1 up (recovers_rest up way first) k (length (entries (records_recovered way there.0)))) all
 
     -- a volume is made
     init_effect : (slots journal : ℕ) (c : Choice) (rises : Cause → Type 0) → TaskAllowed s stops n (Serves (Init slots journal)) rises c →
@@ -689,7 +700,8 @@ module _ (node file : List ℕ) (D : Id → Type 0) where
         disk : IsToldDisk node file D no_account (acted (Formats slots journal) (spoilt true (powered o stops n))).name (acted (Formats slots journal) (spoilt true (powered o stops n))).durable
         disk = record {
           named = powered_name o stops n ∙ found_name node w.nodes n found;
-          records_are = λ sure. sym (ap (λ q. records (history_of q)) (none_found 64));
+          records_are = inl (sym (ap (λ q. records (history_of q)) (none_found 64)));
+          still = sure_still no_account (history_in file (acted (Formats slots journal) (spoilt true (powered o stops n))).durable.directory).live refl;
           quiet = λ gone x m. refl;
           own = λ x e. let no : ⊥ = cc in absurd no;
           apart = λ x r e commit i j. let no : ⊥ = cc in no;

@@ -32,7 +32,7 @@ use Rattle.run_model.specs.World.{Shared, Node, Durable, File, Act, Arms, Boots,
 use Rattle.run_model.specs.Answers as answers
 use Rattle.run_model.specs.Answers.{Row, Task, Serves, Ticks, Takes, Hears, LosesLink, RunsDown, Restarts, last_lines, powers, settled_line, task_service, unit_key}
 use Rattle.run_model.specs.Steps.{node_after}
-use Rattle.run_laws.specs.Accounts.{Account, commits_here, left_by, told_by}
+use Rattle.run_laws.specs.Accounts.{Account, MayHave, commits_here, left_by, told_by}
 use Rattle.world_laws.specs.Nodes.{IsOf, IsUp}
 use Rattle.recovery_laws.specs.Entering.{FindsImages}
 use Rattle.world_laws.specs.Restarts.{AllNoted}
@@ -52,7 +52,7 @@ use Rattle.world_laws.proofs.FileRows.{images_by, recovers_by, saves_by, sets_by
 use Rattle.world_laws.proofs.ServedLemmas.{undrawn}
 use Rattle.world_laws.proofs.TableLemmas.{changed_serials, found_in, in_cut, in_serials, of_serial, serials_apart}
 use Rattle.world_laws.proofs.UpLemmas.{branch_drawn, differ, drawn_more}
-use Rattle.run_laws.proofs.AccountLemmas.{IsQuiet, IsShownBy, IsUntold, commits_append, commits_last, commits_plain, history_kept, history_other, history_settled, last_left, last_told, left_first, left_is, left_others, left_shown, left_told, none_settled, shown_left, last_doubt, left_doubt}
+use Rattle.run_laws.proofs.AccountLemmas.{IsQuiet, IsShownBy, IsStill, IsUntold, commits_append, commits_last, commits_plain, history_kept, history_other, history_settled, last_left, last_told, left_is, left_given, left_may, last_given, still_settled, left_others, left_shown, left_told, none_settled, shown_left}
 use Rattle.run_laws.proofs.EachRow.{ArePlain, VotesSo}
 use Rattle.run_laws.proofs.Keeping.{AllTake, IsNextUnit, Keeps, Scheme, is_special, closes_plain}
 use Rattle.run_laws.proofs.Once.{fewer_after, of_drawn, put_serials_new, unit_branch}
@@ -86,7 +86,8 @@ module _ (node file : List ℕ) (D : Id → Type 0) where
   -- reached nothing.
   pub record IsToldDisk (a : Account) (name : List ℕ) (d : Durable) : Type 0 where
     pub named : name ≡ node
-    pub records_are : a.in_doubt ≡ false → (last_left node d.last a).records ≡ records (history_in file d.directory)
+    pub records_are : MayHave (last_left node d.last a) (records (history_in file d.directory))
+    pub still : IsStill a (history_in file d.directory).live
     pub quiet : find_file file d.directory ≡ None → IsQuiet a.told
     pub own : (s : Settlement) → d.last ≡ Some s → IsOf name d.boot s.serial
     pub apart : (s : Settlement) (r : LogRecord) → d.last ≡ Some s → s.outcome ≡ Commit → In r (prepared_of (records_in d.log)) → r.serial ≡ s.serial → ⊥
@@ -97,7 +98,8 @@ module _ (node file : List ℕ) (D : Id → Type 0) where
   pub record IsToldUp (free : Bool) (a : Account) (n : Node) : Type 0 where
     pub named : n.name ≡ node
     pub shown : IsShownBy node n.durable.last a.left
-    pub records_are : a.in_doubt ≡ false → a.records ≡ records (history_in file n.durable.directory)
+    pub records_are : MayHave a (records (history_in file n.durable.directory))
+    pub still : IsStill a (history_in file n.durable.directory).live
     pub quiet : find_file file n.durable.directory ≡ None → IsQuiet a.told
     pub own : (s : Settlement) → n.durable.last ≡ Some s → IsOf n.name n.durable.boot s.serial
     pub only : (x : Id) → (IsDrawn n.name n.durable.boot n.volatile.drawn x → ⊥) → IsUntold a x
@@ -108,7 +110,8 @@ module _ (node file : List ℕ) (D : Id → Type 0) where
   pub record IsToldBoot (a : Account) (n : Node) : Type 0 where
     pub named : n.name ≡ node
     pub shown : IsShownBy node n.durable.last a.left
-    pub records_are : a.in_doubt ≡ false → a.records ≡ records (history_in file n.durable.directory)
+    pub records_are : MayHave a (records (history_in file n.durable.directory))
+    pub still : IsStill a (history_in file n.durable.directory).live
     pub quiet : find_file file n.durable.directory ≡ None → IsQuiet a.told
     pub own : (s : Settlement) → n.durable.last ≡ Some s → IsOf n.name n.durable.boot s.serial
     pub only : (x : Id) → ((x.node ≡ n.name) × (x.boot < n.durable.boot) → ⊥) → IsUntold a x
@@ -132,7 +135,7 @@ module _ (node file : List ℕ) (D : Id → Type 0) where
   -- an account that tells the same, and in which no fewer have left
   pub record IsBeneath (a b : Account) : Type 0 where
     pub told : b.told ≡ a.told
-    pub doubt : b.in_doubt ≡ a.in_doubt
+    pub doubt : b.given ≡ a.given
     pub left : (x : Id) → list_any (same_id x) b.left ≡ false → list_any (same_id x) a.left ≡ false
 
   untold_beneath : (a b : Account) (x : Id) → IsBeneath a b → IsUntold b x → IsUntold a x
@@ -142,10 +145,11 @@ module _ (node file : List ℕ) (D : Id → Type 0) where
   told_beneath a b ls x l u = record { tells = elim u.tells [ inl d ↦ inl d | inr t ↦ inr (λ m. ap (λ t. told_by x t m) (sym l.told) ∙ t m) ]; staying = l.left x u.staying }
 
   -- what is known of the disk of a node that is up, by an account that shows no more
-  pub disk_of : (free : Bool) (a b : Account) (n : Node) → IsBeneath a b → (last_left node n.durable.last a).records ≡ b.records → IsUp n → IsToldUp free b n → IsToldDisk a n.name n.durable
+  pub disk_of : (free : Bool) (a b : Account) (n : Node) → IsBeneath a b → last_left node n.durable.last a ≡ b → IsUp n → IsToldUp free b n → IsToldDisk a n.name n.durable
   disk_of free a b n l same up h = record {
     named = h.named;
-    records_are = λ sure. same ∙ h.records_are (l.doubt ∙ sure);
+    records_are = subst (λ (c : Account). MayHave c (records (history_in file n.durable.directory))) (sym same) h.records_are;
+    still = λ m e. h.still m (l.doubt ∙ e);
     quiet = λ gone x m. ap (λ t. told_by x t m) (sym l.told) ∙ h.quiet gone x m;
     own = h.own;
     apart = λ s r e commit i j. both_ways _ (ap (λ y. list_any (same_id y) b.left) (sym j) ∙ (told_record r i).staying) (left_last s e commit);
@@ -163,16 +167,17 @@ module _ (node file : List ℕ) (D : Id → Type 0) where
   itself a = record { told = refl; doubt = refl; left = λ x e. e }
 
   pub falls_told : (free : Bool) (a : Account) (n : Node) → IsUp n → IsToldUp free a n → IsToldDisk a n.name n.durable
-  falls_told free a n up h = disk_of free a a n (itself a) (ap (λ (c : Account). c.records) (shown_left node n.durable.last a h.shown)) up h
+  falls_told free a n up h = disk_of free a a n (itself a) (shown_left node n.durable.last a h.shown) up h
 
   less_free : (free : Bool) (a : Account) (n : Node) → IsToldUp free a n → IsToldUp false a n
-  less_free free a n h = record { named = h.named; shown = h.shown; records_are = h.records_are; quiet = h.quiet; own = h.own; only = h.only; fresh = λ e. let no : ⊥ = cc in absurd no; told = h.told }
+  less_free free a n h = record { named = h.named; shown = h.shown; records_are = h.records_are; still = h.still; quiet = h.quiet; own = h.own; only = h.only; fresh = λ e. let no : ⊥ = cc in absurd no; told = h.told }
 
   -- an abort is done in part
   half_told : (a : Account) (n : Node) (standing : List ℕ → Map) → IsDoomed n → MayTurnOut n (Half standing) → IsToldDisk a n.name n.durable → IsToldDisk a n.name (with_half (aborted_prepared n.under_way n.durable) standing n.durable)
   half_told a n standing doomed may h = subst (λ o. IsToldDisk a n.name (with_half o standing n.durable)) (sym may.1) (record {
     named = h.named;
-    records_are = λ sure. h.records_are sure ∙ sym (kept (λ (k : History). records k) (λ f. refl));
+    records_are = subst (MayHave (last_left node n.durable.last a)) (sym (kept (λ (k : History). records k) (λ f. refl))) h.records_are;
+    still = λ m e. stays_still (find_file file n.durable.directory) refl (h.still m e);
     quiet = λ gone. h.quiet (none gone);
     own = h.own;
     apart = h.apart;
@@ -186,6 +191,11 @@ module _ (node file : List ℕ) (D : Id → Type 0) where
           go : (o : Option File) → part (history_of (option_map (half_undone may.0 standing) o)) ≡ part (history_of o)
           go (Some f) = same f
           go None = refl
+
+      stays_still : (o : Option File) → find_file file n.durable.directory ≡ o → (history_in file n.durable.directory).live ≡ [] → (history_in file (map (option_map (half_undone may.0 standing)) n.durable.directory)).live ≡ []
+      stays_still (Some f) found e = ap (λ o. (history_of o).live) (mapped_file file (half_undone may.0 standing) n.durable.directory (λ f. refl) ∙ ap (option_map (half_undone may.0 standing)) found)
+          ∙ ap (world.live_leaving may.0 (standing f.name)) (ap (λ o. (history_of o).live) (sym found) ∙ e)
+      stays_still None found e = ap (λ o. (history_of o).live) (mapped_file file (half_undone may.0 standing) n.durable.directory (λ f. refl) ∙ ap (option_map (half_undone may.0 standing)) found)
 
       none : find_file file (map (option_map (half_undone may.0 standing)) n.durable.directory) ≡ None → find_file file n.durable.directory ≡ None
       none e = go (find_file file n.durable.directory) (sym (mapped_file file (half_undone may.0 standing) n.durable.directory (λ f. refl)) ∙ e)
@@ -233,6 +243,7 @@ module _ (node file : List ℕ) (D : Id → Type 0) where
   booting_told a n h = record {
     named = h.named;
     records_are = h.records_are;
+    still = h.still;
     quiet = h.quiet;
     own = λ s e. let o = h.own s e in let low = o.1 in (o.0, omega (arith, low));
     apart = h.apart;
@@ -253,7 +264,8 @@ module _ (node file : List ℕ) (D : Id → Type 0) where
   boots_told a n h = subst (λ b. IsToldBoot b (acted Boots n)) (sym (commits_last node n a)) (record {
     named = h.named;
     shown = left_shown node n.durable.last a (λ s e. (h.own s e).0 ∙ h.named);
-    records_are = λ sure. h.records_are (sym (last_doubt node n.durable.last a) ∙ sure);
+    records_are = h.records_are;
+    still = λ m e. h.still m (sym (last_given node n.durable.last a) ∙ e);
     quiet = λ gone x m. ap (λ t. told_by x t m) (last_told node n.durable.last a) ∙ h.quiet gone x m;
     own = λ s e. let o = h.own s e in let low = o.1 in (o.0, omega (arith, low));
     only = λ x none.
@@ -274,7 +286,8 @@ module _ (node file : List ℕ) (D : Id → Type 0) where
   undoes_told a n u next h = record {
     named = h.named;
     shown = tt;
-    records_are = λ sure. h.records_are sure ∙ sym (aborted_leaves u.serial (next_moment n) (history_in file n.durable.directory)) ∙ ap records (sym (history_settled file s n.durable.directory));
+    records_are = subst (MayHave a) (sym (aborted_leaves u.serial (next_moment n) (history_in file n.durable.directory)) ∙ ap records (sym (history_settled file s n.durable.directory))) h.records_are;
+    still = λ m e. still_settled file s n.durable.directory (h.still m e);
     quiet = λ gone. h.quiet (none_settled file s n.durable.directory gone);
     own = λ x e. subst (λ (y : Settlement). IsOf n.name n.durable.boot y.serial) (some_is _ x e) next.of;
     only = h.only;
@@ -302,7 +315,8 @@ module _ (node file : List ℕ) (D : Id → Type 0) where
     apart,
     record {
       named = h.named;
-      records_are = λ sure. ap (λ (c : Account). c.records) (shown_left node n.durable.last a h.shown) ∙ h.records_are sure;
+      records_are = subst (λ (c : Account). MayHave c (records (history_in file n.durable.directory))) (sym (shown_left node n.durable.last a h.shown)) h.records_are;
+      still = h.still;
       quiet = h.quiet;
       own = h.own;
       apart = apart;
@@ -320,6 +334,7 @@ module _ (node file : List ℕ) (D : Id → Type 0) where
     named = h.named;
     shown = h.shown;
     records_are = h.records_are;
+    still = h.still;
     quiet = h.quiet;
     own = h.own;
     only = λ x none. h.only x (λ e. none (e.0, inl e.1));
@@ -341,7 +356,8 @@ module _ (node file : List ℕ) (D : Id → Type 0) where
   quiet_told free n m a name boot last drawn same live none fewer h = record {
     named = name ∙ h.named;
     shown = subst (λ o. IsShownBy node o a.left) (sym last) h.shown;
-    records_are = λ sure. h.records_are sure ∙ sym same;
+    records_are = subst (MayHave a) (sym same) h.records_are;
+    still = λ m e. live ∙ h.still m e;
     quiet = λ gone. h.quiet (none gone);
     own = λ s e. let o = h.own s (sym last ∙ e) in (o.0 ∙ sym name, subst (λ k. s.serial.boot ≤ k) (sym boot) o.1);
     only = λ x no. h.only x (λ d. no (d.0 ∙ sym name, elim d.1 [ inl e ↦ inl (subst (λ k. x.boot < k) (sym boot) e) | inr e ↦ inr (e.0 ∙ sym boot, subst (λ k. x.seq ≤ k) (sym drawn) e.1) ]));
@@ -355,6 +371,7 @@ module _ (node file : List ℕ) (D : Id → Type 0) where
     named = h.named;
     shown = h.shown;
     records_are = h.records_are;
+    still = h.still;
     quiet = h.quiet;
     own = h.own;
     only = λ x none. h.only x (λ d. none (drawn_more n.name n.durable.boot n.volatile.drawn x d));
@@ -381,7 +398,7 @@ module _ (node file : List ℕ) (D : Id → Type 0) where
       go false c e = e
 
   pub beneath_left : (x : Id) (a : Account) → IsBeneath a (left_by node x a)
-  beneath_left x a = record { told = left_told node x a; doubt = left_doubt node x a; left = λ y e. left_less x y a e }
+  beneath_left x a = record { told = left_told node x a; doubt = left_given node x a; left = λ y e. left_less x y a e }
 
   module _ (n : Node) (k : BranchKey) (o : Outcome) (reason : Reason) (r : Option LogRecord) (moment : ℕ) (up : IsUp n) (stands : Stands n.volatile.branches (Settles k o reason r)) (free : Bool) (a : Account) (h : IsToldUp free a n) where
     found : (b : Branch) × In b n.volatile.branches × (b.key ≡ k)
@@ -421,7 +438,8 @@ module _ (node file : List ℕ) (D : Id → Type 0) where
       record {
         named = h.named;
         shown = tt;
-        records_are = λ sure. h.records_are sure ∙ sym (aborted_leaves k.serial moment (history_in file n.durable.directory)) ∙ ap records (sym (history_settled file s n.durable.directory));
+        records_are = subst (MayHave a) (sym (aborted_leaves k.serial moment (history_in file n.durable.directory)) ∙ ap records (sym (history_settled file s n.durable.directory))) h.records_are;
+        still = λ m e. still_settled file s n.durable.directory (h.still m e);
         quiet = λ gone. h.quiet (none_settled file s n.durable.directory gone);
         own = λ x e. subst (λ (y : Settlement). IsOf n.name n.durable.boot y.serial) (some_is s x e) (of_drawn n.name n.durable.boot n.volatile.drawn k.serial (drawn n k Abort reason r moment up stands free a h));
         only = h.only;
@@ -441,9 +459,11 @@ module _ (node file : List ℕ) (D : Id → Type 0) where
       go (inr tells) = inr (record {
         named = h.named;
         shown = left_is node k.serial a (mine n k Commit reason r moment up stands free a h);
-        records_are = λ sure. ap (λ (b : Account). b.records) (left_first node k.serial a (mine n k Commit reason r moment up stands free a h) (h.told k.serial (there n k Commit reason r moment up stands free a h)).staying) ∙ tells a.records
-            ∙ ap (applied (changes_by k.serial (history_in file n.durable.directory).live)) (h.records_are (sym (left_doubt node k.serial a) ∙ sure)) ∙ sym (committed_leaves k.serial moment (history_in file n.durable.directory))
-            ∙ ap records (sym (history_settled file (settlement k Commit reason moment) n.durable.directory));
+        records_are = subst (MayHave (left_by node k.serial a))
+            (tells (records (history_in file n.durable.directory)) ∙ sym (committed_leaves k.serial moment (history_in file n.durable.directory)) ∙ ap records (sym (history_settled file (settlement k Commit reason moment) n.durable.directory)))
+            (left_may node k.serial a (records (history_in file n.durable.directory)) (mine n k Commit reason r moment up stands free a h) (h.told k.serial (there n k Commit reason r moment up stands free a h)).staying
+            (λ e. tells (records (history_in file n.durable.directory)) ∙ ap (λ ls. applied (changes_by k.serial ls) (records (history_in file n.durable.directory))) (h.still (records (history_in file n.durable.directory)) e)) h.records_are);
+        still = λ m e. still_settled file (settlement k Commit reason moment) n.durable.directory (h.still m (sym (left_given node k.serial a) ∙ e));
         quiet = λ gone x m. ap (λ t. told_by x t m) (left_told node k.serial a) ∙ h.quiet (none_settled file (settlement k Commit reason moment) n.durable.directory gone) x m;
         own = λ x e. subst (λ (y : Settlement). IsOf n.name n.durable.boot y.serial) (some_is (settlement k Commit reason moment) x e) (of_drawn n.name n.durable.boot n.volatile.drawn k.serial (drawn n k Commit reason r moment up stands free a h));
         only = λ x none. let u = h.only x none in ((λ m. ap (λ t. told_by x t m) (left_told node k.serial a) ∙ u.0 m), left_others node k.serial x a (undrawn_apart n k Commit reason r moment up stands free a h x none) u.1);
@@ -470,7 +490,8 @@ module _ (node file : List ℕ) (D : Id → Type 0) where
       record {
         named = h.named;
         shown = left_is node (next_id n) a h.named;
-        records_are = λ sure. ap (λ (b : Account). b.records) (left_first node (next_id n) a h.named next.1) ∙ next.0 a.records ∙ h.records_are (sym (left_doubt node (next_id n) a) ∙ sure) ∙ ap records (sym same);
+        records_are = subst (MayHave (left_by node (next_id n) a)) (next.0 (records (history_in file n.durable.directory)) ∙ ap records (sym same)) (left_may node (next_id n) a (records (history_in file n.durable.directory)) h.named next.1 (λ e. next.0 (records (history_in file n.durable.directory))) h.records_are);
+        still = λ m e. ap (λ (q : History). q.live) same ∙ h.still m (sym (left_given node (next_id n) a) ∙ e);
         quiet = λ gone x m. ap (λ t. told_by x t m) (left_told node (next_id n) a) ∙ h.quiet (none_after file f change n.durable.directory (λ g. refl) gone) x m;
         own = λ x e. subst (λ (y : Settlement). IsOf n.name n.durable.boot y.serial) (some_is s x e) (refl, omega arith);
         only = λ x none.
@@ -491,6 +512,7 @@ module _ (node file : List ℕ) (D : Id → Type 0) where
     named = h.named;
     shown = h.shown;
     records_are = h.records_are;
+    still = h.still;
     quiet = h.quiet;
     own = h.own;
     only = h.only;
@@ -606,7 +628,7 @@ module _ (node file : List ℕ) (D : Id → Type 0) where
 
       leaves : (m : Node) (b : Bool) (s : Settlement) → m.durable.last ≡ Some s → s.outcome ≡ Commit → ls ≡ line.Committed s.tid s.serial s.moment ∷ [] → IsUp m → IsToldUp b (commits_here node ls a) m → IsToldDisk a m.name m.durable
       leaves m b s last commit is up now =
-          disk_of b a (left_by node s.serial a) m (beneath_left s.serial a) (ap (λ o. (last_left node o a).records) last ∙ ap (λ o. (elim o as (λ x. Account) [ Commit ↦ left_by node s.serial a | Abort ↦ a ]).records) commit) up
+          disk_of b a (left_by node s.serial a) m (beneath_left s.serial a) (ap (λ o. last_left node o a) last ∙ ap (λ o. elim o as (λ x. Account) [ Commit ↦ left_by node s.serial a | Abort ↦ a ]) commit) up
           (subst (λ xs. IsToldUp b (commits_here node xs a) m) is now)
 
       tabled : (act : table.Act) (moment : ℕ) → RowFits free (record { act = Some (Tables act moment); lines = ls }) n → IsUp (acted (Tables act moment) n) → IsToldUp false (commits_here node ls a) (acted (Tables act moment) n) →
@@ -784,7 +806,7 @@ module _ (node file : List ℕ) (D : Id → Type 0) where
     falls = λ free a n up h. or_else (λ b. b) (λ k. inr (falls_told free a n up k)) h;
     weaken = λ free a n h. or_else (λ b. b) (λ k. inr (less_free free a n k)) h;
     half = λ a n standing k doomed may h. or_else (λ b. b) (λ x. inr (half_told a n standing doomed may x)) h;
-    spoils = λ a n h. or_else (λ b. b) (λ x. inr (record { named = x.named; records_are = x.records_are; quiet = x.quiet; own = x.own; apart = x.apart; only = x.only; prepared = x.prepared })) h;
+    spoils = λ a n h. or_else (λ b. b) (λ x. inr (record { named = x.named; records_are = x.records_are; still = x.still; quiet = x.quiet; own = x.own; apart = x.apart; only = x.only; prepared = x.prepared })) h;
     boots = λ a n k h. or_else (λ b. b) (λ x. inr (boots_told a n x)) h;
     booting = λ a n k h. or_else (λ b. b) (λ x. inr (booting_told a n x)) h;
     undoes = λ a n u next h. or_else (betrays_more _ n.settled) (λ x. inr (undoes_told a n u next x)) h;

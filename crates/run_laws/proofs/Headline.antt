@@ -8,7 +8,7 @@ use Rattle.run_agreement.specs.Seen.{IsKnown}
 use Rattle.run_agreement.specs.Laws.{NamesApart, opening_told, CommittedAreOfCommitted, LeaveAgreement, RestingAreWhole, SettleAlike, SettlingEnds, SettlingLeavesNone}
 use Rattle.run_laws.specs.Laws.{AgreedPromises, AgreedPromisesAreKept, PromisesAreKept}
 use Rattle.run_laws.specs.Promises.{AreLastApart}
-use Rattle.run_laws.proofs.AgreedRuns.{agreed_run, ends_for_all, legal_names, run_of, settles_whole}
+use Rattle.run_laws.proofs.AgreedRuns.{agreed_run, ended_for_all, ends_for_all, legal_names, run_of, settles_whole}
 use Rattle.run_laws.proofs.Anewed.{back_again, dumps_like, made_by_then, others_apart, others_for, others_forget, others_known, others_last, others_open, same_world, stand_like, told_alike}
 use Rattle.run_laws.proofs.Forgetting.{inits_forget}
 use Rattle.run_laws.proofs.AbortsAsked.{caused_hold}
@@ -95,6 +95,7 @@ module _ (alike : SettleAlike) (committed : CommittedAreOfCommitted) (leave : Le
         told = b.told;
         run = agreed_run alike committed leave whole b.base b.since closing b.is_run;
         ends = ends_for_all b.base es closing kept.ends;
+        ended = ended_for_all b.base es closing kept.ended;
         settles = settles_whole whole none ends nodes disks es closing opening apart known legal agrees b.base b.told;
         dumps = agreed_dumps_hold nodes disks es closing opening apart known last_apart agree legal;
         stand = agreed_aborts_stand nodes disks es opening apart known agree;
@@ -120,6 +121,7 @@ module _ (alike : SettleAlike) (committed : CommittedAreOfCommitted) (leave : Le
         told = a.told ∙ told_alike es nodes ms forget;
         run = a.run;
         ends = a.ends;
+        ended = a.ended;
         settles = λ before events answer there.
             let s = a.settles before events answer there in
             let parts : es ≡ (there.after ++ there.entry ∷ []) ++ before = there.stands ∙ sym (append_assoc there.after (there.entry ∷ []) before) in (

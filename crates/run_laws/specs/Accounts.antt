@@ -1,7 +1,7 @@
 -- What a transcript tells of branches and of the records that they leave, in the words of those who keep records in such files. Of the world it asks only which
 -- records were committed at the opening and what unsettled branches had set then, how a file keeps its records, which positions stood where it was truncated,
 -- what a change without a label was to be where its disk failed in it, what a recovery was to give, and what became of one in which its disk failed.
-use Rattle.std.specs.Prelude.{◌≡◌, ℕ, List, [], ◌∷◌, Bool, true, false, ◌&&◌, if◌then◌else◌, ◌-◌, Option, Some, None, map, drop, option_map}
+use Rattle.std.specs.Prelude.{◌≡◌, ◌⊎◌, ℕ, List, [], ◌∷◌, Bool, false, ◌&&◌, if◌then◌else◌, ◌-◌, Option, Some, None, map, drop, is_some, option_map}
 use Rattle.std.specs.List.{list_any}
 use Rattle.std.specs.Str.{bytes_eq}
 use Rattle.std.specs.FinMap.{empty}
@@ -96,12 +96,12 @@ sets_here node file es w reading lines before = before
 -- The account of a file.
 
 -- What is told of a file: its records, which committed branches leave; what each branch has set, the newest first; which branches have left what they had
--- set; and whether its records are in doubt, for a recovery of it broke, and no line tells whether that took place.
+-- set; and what a recovery of it was to give that broke, while no line tells whether that took place: its records are in doubt then.
 pub record Account : Type 0 where
   pub records : base.Records
   pub told : List Told
   pub left : List Id
-  pub in_doubt : Bool
+  pub given : Option base.Records
 
 -- a branch of this node leaves what it had set, unless it has left it; one of another node has set nothing here
 abbrev pub left_by : List ℕ → Id → Account → Account
@@ -136,7 +136,7 @@ unsettled_in node file w = elim (file_of node file w) [ Some f ↦ map left_sets
 
 -- nothing is told of a file
 abbrev pub no_account : Account
-no_account = record { records = empty; told = []; left = []; in_doubt = false }
+no_account = record { records = empty; told = []; left = []; given = None }
 
 -- What a line that was said in this world leaves of an account: none, where it made the volume; no records, where it made the file; else what the branches leave on
 -- top whose commitment it showed, in the order of these lines.
@@ -153,7 +153,7 @@ given_in node file w way = elim (file_of node file w) [ Some f ↦ records_recov
 -- what lines of a recovery leave of the file's account: the records that it gave; or doubt, where its disk failed in it
 abbrev pub recovered_by : List ℕ → List ℕ → World → Recovery → List Line → Account → Account
 recovered_by node file w way (line.NormalCount count ∷ []) a = record a { records = given_in node file w way }
-recovered_by node file w way (line.Down m cause ∷ answer ∷ []) a = record a { in_doubt = true }
+recovered_by node file w way (line.Down m cause ∷ answer ∷ []) a = record a { given = Some (given_in node file w way) }
 recovered_by node file w way lines a = a
 
 -- and those of any line, which was said in this world
@@ -167,14 +167,22 @@ is_up_in node w = elim (find_node node w.nodes) [ Some n ↦ n.up | None ↦ fal
 
 -- Once its node is up again, the records of a file that were in doubt are those that are committed there.
 abbrev pub known_again : List ℕ → List ℕ → World → Account → Account
-known_again node file w a = if a.in_doubt && is_up_in node w then record a { records = committed_in node file w; in_doubt = false } else a
+known_again node file w a = if is_some a.given && is_up_in node w then record a { records = committed_in node file w; given = None } else a
 
--- what a line that was said in this world and led to that one leaves of an account
+-- what a line that was said in this world leaves of an account; its records may be in doubt behind it
+abbrev pub account_behind : List ℕ → List ℕ → List Entry → World → Reading → List Line → Account → Account
+account_behind node file es w reading lines a = recovered_here node file w reading lines (account_by node file es w reading lines a)
+
+-- and once it has led to that world
 abbrev pub account_after : List ℕ → List ℕ → List Entry → (w v : World) → Reading → List Line → Account → Account
-account_after node file es w v reading lines a = known_again node file v (recovered_here node file w reading lines (account_by node file es w reading lines a))
+account_after node file es w v reading lines a = known_again node file v (account_behind node file es w reading lines a)
+
+-- a file may have these records by its account: those that are told, or those that a recovery was to give which are in doubt
+abbrev pub MayHave : Account → base.Records → Type 0
+MayHave a m = (a.records ≡ m) ⊎ (a.given ≡ Some m)
 
 -- These entries lead from the opening world to this one, and tell this of the file: from the records that were committed at the opening, or none where the file
 -- was made since, or those that a recovery gave, each branch whose commitment is shown leaves what it had set, over all restarts of the node.
 abbrev pub Tells : List ℕ → List ℕ → World → List Entry → World → Account → Type 0
-Tells node file opening [] w a = (w ≡ opening) × (a ≡ record { records = committed_in node file opening; told = unsettled_in node file opening; left = []; in_doubt = false })
+Tells node file opening [] w a = (w ≡ opening) × (a ≡ record { records = committed_in node file opening; told = unsettled_in node file opening; left = []; given = None })
 Tells node file opening (e ∷ es) w a = (mid : World) × (before : Account) × Tells node file opening es mid before × Turn mid (reading e.source.text) e.lines w × (a ≡ account_after node file es mid w (reading e.source.text) e.lines before)

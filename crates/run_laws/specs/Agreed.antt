@@ -1,9 +1,9 @@
 -- What is promised of a run besides where the images agree with which it begins.
-use Rattle.std.specs.Prelude.{◌≡◌, ◌⊎◌, ℕ, List, [], ◌∷◌, ◌++◌}
+use Rattle.std.specs.Prelude.{◌≡◌, ◌⊎◌, ℕ, List, [], ◌∷◌, ◌++◌, None}
 use Rattle.vms_model.specs.Ids.{Id}
 use Rattle.vms_model.specs.Transactions.{Commit as ToCommit, Abort as ToAbort}
-use Rattle.transcript_model.specs.Lines.{Line, Normal}
-use Rattle.script_model.specs.Statements.{At, EndTrans, Settle}
+use Rattle.transcript_model.specs.Lines.{Line, Ended, Normal}
+use Rattle.script_model.specs.Statements.{At, EndTrans, Reading, Settle}
 use Rattle.commit_protocol.specs.Table.{Key, first}
 use Rattle.commit_protocol.specs.World.{In}
 use Rattle.commit_protocol.specs.Opening.{IsAgreeing}
@@ -12,7 +12,8 @@ use Rattle.run_model.specs.Statements.{Step}
 use Rattle.run_model.specs.Transcript.{Entry, Legal}
 use Rattle.run_agreement.specs.Seen.{Resolution}
 use Rattle.run_agreement.specs.Laws.{EndsFor, HasOutcome, IsAtRest, IsBranch, IsCommitted, IsRun, next_opening}
-use Rattle.run_laws.specs.Causes.{WasBegun}
+use Rattle.run_laws.specs.Causes.{WasBegun, WasEnded}
+use Rattle.run_laws.specs.Promises.{ShownThere}
 use Rattle.run_laws.specs.SaidLaws.{SaidThere}
 
 -- Each accepted branch of a committed transaction is committed or read-only, however the acts turn out that are under way.
@@ -35,6 +36,10 @@ pub record AgreedRun (base : World) (since : List Entry) (closing : World) : Typ
 abbrev pub EndsHoldAll : World → List Entry → World → Type 0
 EndsHoldAll base es closing = (before : List Entry) (node label : List ℕ) (events : List Line) → SaidThere es before (At node (EndTrans label)) events Normal →
     (tid : Id) × WasBegun before node label tid × ((r : Resolution) → IsCommitted base r closing tid)
+
+-- So has one that was answered that votes are missing, or replies, of which a line ENDED tells its success later.
+abbrev pub EndedHoldAll : World → List Entry → World → Type 0
+EndedHoldAll base es closing = (before : List Entry) (said : Reading) (front behind : List Line) (tid : Id) → ShownThere es before said front (Ended tid None) behind → WasEnded before tid × ((r : Resolution) → IsCommitted base r closing tid)
 
 -- A SETTLE that was answered with its success left each node up and no branch unsettled, and each accepted branch of a transaction that is committed there was committed or
 -- read-only; and it is answered so, or ends for a cause that its answer names, in the world that it leaves; a failure of a disk only where its count rose from the world

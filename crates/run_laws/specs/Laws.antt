@@ -19,7 +19,7 @@ use Rattle.run_agreement.specs.Laws.{IsBase, NamesApart, RunsFrom, opening_told}
 use Rattle.run_said.specs.Said.{SaidNode, node_in, said_of}
 use Rattle.run_laws.specs.SaidLaws.{SaidThere}
 use Rattle.run_laws.specs.Anew.{AreKnownOrAnew}
-use Rattle.run_laws.specs.Agreed.{AgreedRun, EndsHoldAll, SettlesWhole}
+use Rattle.run_laws.specs.Agreed.{AgreedRun, EndedHoldAll, EndsHoldAll, SettlesWhole}
 use Rattle.run_laws.specs.Showing.{AbortsShow, DirectsShow, EndsShow}
 use Rattle.run_laws.specs.Promises.{ShownThere, ReasonFits, WasLast, shown_in, last_in, Descends, SettledOnce, KeptPromises, EndsCommit, EndsAbort, EndedComes, EndedSo, FailsAreMissing, PendingIsExact, WaitsAreWhole, AbortsAbort, DirectsCommit, IdsAreNew, CommitsAreKept, AbortsAreKept, FailuresAreDecided, RestartsDecide, AllAreShown, IsLastApart, LastsAreKept, LastsFirst, FallsWereBegun, LastFallsWereBegun, BootsShowLast, LastsWereAsked, LastsWereCaused, BootsShowPrepared, OthersWerePrepared, PreparedAreTold, VotesWereCaused, LeavesWereCaused, ReadOnlyChangedNothing, AbortsStand, AreLastApart, DumpPromises, settlements_of}
 
@@ -158,6 +158,7 @@ pub record AgreedPromises (opening : World) (es : List Entry) (closing : World) 
   pub told : opening_of base ≡ opening_told opening.nodes es
   pub run : AgreedRun base since closing
   pub ends : EndsHoldAll base es closing
+  pub ended : EndedHoldAll base es closing
   pub settles : SettlesWhole base opening es closing
   pub dumps : DumpPromises opening es
   pub stand : AbortsStand opening es

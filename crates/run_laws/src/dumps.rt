@@ -4,7 +4,8 @@ ghost use Rattle.run_laws.specs.Laws.{AgreedAbortsStand, AgreedDumpsHold, DumpsH
 
 /// In every legal transcript in which no branch is committed whose abort a fall found under way, and before which no disk told its last settled
 /// branch unsettled, each dump that succeeded showed just the records that the entries before it tell of its file: what the committed branches of its
-/// node left there, over all restarts, in the order of their keys, and their number.
+/// node left there, over all restarts, in the order of their keys, and their number. A recovery in which the disk failed has happened whole or not at
+/// all: once the node is up again, its file has the records that are told of it, or just those that the recovery was to give.
 pub fn dumps_show_told()
     ensures { DumpsHold }
 {}
