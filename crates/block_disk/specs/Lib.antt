@@ -2,3 +2,4 @@ pub mod Blocks
 pub mod Counts
 pub mod Disk
 pub mod Mem
+pub mod Sizes

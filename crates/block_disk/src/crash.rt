@@ -3,6 +3,7 @@ ghost use Rattle.std.specs.Prelude.{◌≡◌, ◌⊎◌, ◌||◌, ◌<◌, ◌
 ghost use Rattle.block_disk.specs.Blocks.{AllWhole, numbers_of, has_number, laid_over, whole_over, block_at};
 ghost use Rattle.block_disk.specs.Counts.{counted, is_err};
 ghost use Rattle.block_disk.specs.Disk.{IsPowered, torn_from, torn_block, form_of, noted, put, settled, armed, powering, answered, is_stopped, is_failed, is_spent, burnt, fresh};
+ghost use Rattle.block_disk.specs.Sizes.{pending_limit};
 
 use crate::{BlockTable, Disk, DiskCall, DiskErr, Failed, Platter};
 use std::alloc::{AllocError, Global};
@@ -26,7 +27,7 @@ pub struct CrashDisk<P: Platter> {
     stops: u64,
     calls: Vec<DiskCall>,
     call_number: u64,
-    ghost room: { pending.room ≡ 1024 },
+    ghost room: { pending.room ≡ pending_limit },
     ghost in_range: { (n : ℕ) → has_number n (numbers_of pending.entries) ≡ true → n < P.size platter },
     ghost whole_blocks: { AllWhole pending.entries },
     ghost call_room: { 1048576 ≤ vec_capacity calls },
@@ -97,7 +98,7 @@ impl<P: Platter> Disk for CrashDisk<P> {
 
     fn write(&mut self, n: u32, bytes: &[u8; 512]) -> Result<(), DiskErr>
         requires in_range { n < (⟦<CrashDisk<P> as Disk>⟧.state self.old).size }
-        requires room { length (⟦<CrashDisk<P> as Disk>⟧.state self.old).pending < 1024 }
+        requires room { length (⟦<CrashDisk<P> as Disk>⟧.state self.old).pending < pending_limit }
         ensures ok { OnOk result (⟦<CrashDisk<P> as Disk>⟧.state self.new ≡ put n bytes.now (⟦<CrashDisk<P> as Disk>⟧.state self.old)) }
         ensures err { OnErr result ((any : List ℕ) × (⟦<CrashDisk<P> as Disk>⟧.state self.new ≡ answered result (put n any (⟦<CrashDisk<P> as Disk>⟧.state self.old)))) }
         ensures stopped { (⟦<CrashDisk<P> as Disk>⟧.state self.old).stopped ≡ true → result ≡ Err DiskErr.Stopped }

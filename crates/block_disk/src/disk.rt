@@ -2,6 +2,7 @@
 ghost use Rattle.std.specs.Prelude.{◌≡◌, ◌<◌, ℕ, List, length, true, false, IfSome, OnOk, OnErr, Err};
 ghost use Rattle.block_disk.specs.Blocks.{block_at, IsWhole};
 ghost use Rattle.block_disk.specs.Disk.{DiskState, IsPowered, answered, put, settled, armed, powering, is_stopped};
+ghost use Rattle.block_disk.specs.Sizes.{pending_limit};
 
 use crate::Failed;
 use thiserror::Error;
@@ -59,7 +60,7 @@ pub trait Disk {
     /// After an error the block may have any bytes, and is pending.
     fn write(&mut self, n: u32, bytes: &[u8; 512]) -> Result<(), DiskErr>
         requires in_range { n < (state self.old).size }
-        requires room { length (state self.old).pending < 1024 }
+        requires room { length (state self.old).pending < pending_limit }
         ensures ok { OnOk result (state self.new ≡ put n bytes.now (state self.old)) }
         ensures err { OnErr result ((any : List ℕ) × (state self.new ≡ answered result (put n any (state self.old)))) }
         ensures stopped { (state self.old).stopped ≡ true → result ≡ Err DiskErr.Stopped };

@@ -2,14 +2,16 @@
 use Rattle.std.specs.Prelude.{ℕ, zero, suc, replicate, ◌+◌, ◌*◌, ◌/◌, ◌%◌, ◌==◌, ◌&&◌, Bool, true, List, [], ◌∷◌, length, Option, drop, option_map, slice_index, slice_index_or, ◌≡◌, ◌-◌, ◌<◌, if◌then◌else◌, nat_lt, nat_le}
 use Rattle.std.specs.Int.{from_le_bytes, w32}
 use Rattle.block_disk.specs.Blocks.{block_at, laid_from, ascends}
+use Rattle.block_disk.specs.Sizes.{content_start}
+use Rattle.careful_write.specs.Sizes.{group_limit}
 
 -- the blocks from 518 on
 abbrev pub home : List (List ℕ) → List (List ℕ)
-home blocks = drop 518 blocks
+home blocks = drop content_start blocks
 
 -- the blocks from 518 on, with numbered ones laid over them, where they are told
 abbrev pub laid_home : List (ℕ × List ℕ) → Option (List (List ℕ)) → Option (List (List ℕ))
-laid_home es told = option_map (λ blocks. laid_from 518 es (home blocks)) told
+laid_home es told = option_map (λ blocks. laid_from content_start es (home blocks)) told
 
 -- the k-th word of a block: four bytes, the lowest first
 abbrev pub word_of : List ℕ → ℕ → ℕ
@@ -35,7 +37,7 @@ all_below size (e ∷ es) = nat_lt e.0 size && all_below size es
 
 -- at most 512 ascending numbers from 518 to the end
 abbrev pub fits : ℕ → List (ℕ × List ℕ) → Bool
-fits size es = nat_le (length es) 512 && (ascends 518 es && all_below size es)
+fits size es = nat_le (length es) group_limit && (ascends content_start es && all_below size es)
 
 -- the gate is open exactly where byte 0 of block 0 is 1
 abbrev pub gate_open : List (List ℕ) → Bool
@@ -43,7 +45,7 @@ gate_open image = slice_index (block_at image 0) 0 == 1
 
 -- the content of an image: its blocks from 518 on, with the open group laid over them where it fits
 abbrev pub content_of : List (List ℕ) → List (List ℕ)
-content_of image = if gate_open image && fits (length image) (intents image) then laid_from 518 (intents image) (home image) else home image
+content_of image = if gate_open image && fits (length image) (intents image) then laid_from content_start (intents image) (home image) else home image
 
 -- the gate's block with this mark: zeros behind it
 abbrev pub gate_block : ℕ → List ℕ

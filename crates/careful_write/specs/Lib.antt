@@ -3,5 +3,6 @@ pub mod Down
 pub mod Load
 pub mod Parts
 pub mod Reads
+pub mod Sizes
 pub mod State
 pub mod Steps

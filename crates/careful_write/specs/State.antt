@@ -2,8 +2,10 @@
 use Rattle.std.specs.Prelude.{◌≡◌, ℕ, ◌+◌, min, ◌<◌, ◌≤◌, ◌⊎◌, Bool, true, false, List, [], length, Option, Some, IfSome, IsSomeAnd, option_map}
 use Rattle.block_disk.specs.Blocks.{AllWhole, Table, ascends, block_at, has_number, numbers_of}
 use Rattle.block_disk.specs.Disk.{DiskState, IsPowered, MayLeave}
+use Rattle.block_disk.specs.Sizes.{content_start, least_disk_size}
 use Rattle.careful_write.specs.Content.{content_of, gate_open}
 use Rattle.careful_write.specs.Load.{fitting}
+use Rattle.careful_write.specs.Sizes.{group_limit}
 
 -- what a store is to its callers
 pub record StoreState : Type 0 where
@@ -25,7 +27,7 @@ raised n = min (n + 1) 18446744073709551615
 
 -- a block of the content
 abbrev pub InHome : DiskState → ℕ → Type 0
-InHome disk n = (518 ≤ n) × (n < disk.size)
+InHome disk n = (content_start ≤ n) × (n < disk.size)
 
 -- the content of the disk
 abbrev pub content : StoreState → Option (List (List ℕ))
@@ -58,10 +60,10 @@ EachWhole blocks = (n : ℕ) → n < length blocks → length (block_at blocks n
 -- what a store keeps of the blocks that are staged on a disk of this size
 pub record IsStaged (size : ℕ) (staged : Table) : Type 0 where
   pub room : staged.room ≡ 513
-  pub few : length staged.entries ≤ 512
+  pub few : length staged.entries ≤ group_limit
   pub ascending : ascends 0 staged.entries ≡ true
-  pub big : 4096 ≤ size
-  pub in_home : (n : ℕ) → has_number n (numbers_of staged.entries) ≡ true → (518 ≤ n) × (n < size)
+  pub big : least_disk_size ≤ size
+  pub in_home : (n : ℕ) → has_number n (numbers_of staged.entries) ≡ true → (content_start ≤ n) × (n < size)
   pub whole : AllWhole staged.entries
 
 -- one of two contents

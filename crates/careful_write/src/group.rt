@@ -2,12 +2,14 @@
 ghost use Rattle.std.specs.Prelude.{◌≡◌, ◌≢◌, ◌<◌, ◌≤◌, ◌+◌, ◌*◌, ◌/◌, ◌%◌, ℕ, List, [], true, false, IfSome, OnOk, OnErr, length, option_map, slice_set, slice_index_or};
 ghost use Rattle.block_disk.specs.Blocks.{has_number, numbers_of, laid_over, ascends, block_at};
 ghost use Rattle.byteorder.specs.Endian.{little_bytes, little_number};
+ghost use Rattle.block_disk.specs.Sizes.{least_disk_size};
 ghost use Rattle.careful_write.specs.Content.{home, laid_home, gate_open, intents, gate_block, word_of, word_for, words_for, HoldsBelow, NamesBelow, IsFront};
 ghost use Rattle.careful_write.specs.State.{InHome, Leaves, IsEither};
 ghost use Rattle.careful_write.specs.Steps.{Touches, Counts};
 ghost use Rattle.careful_write.specs.Load.{Says};
 ghost use Rattle.careful_write.specs.declared.load.Found.TheVariants.{Open};
 ghost use Rattle.careful_write.specs.Parts.{in_gate, in_index, in_data, in_intents, in_group, in_finish, written_by, HasData, DataFirst};
+ghost use Rattle.careful_write.specs.Sizes.{group_limit};
 
 use block_disk::{BlockTable, Disk, DiskErr};
 use byteorder::{ByteOrder, LittleEndian};
@@ -16,10 +18,10 @@ use byteorder::{ByteOrder, LittleEndian};
 pub(crate) fn write_group<D: Disk>(disk: &mut D, group: &BlockTable) -> Result<(), DiskErr>
     requires settled { (D.state disk.old).pending ≡ [] }
     requires closed { IfSome (D.state disk.old).seen (λ blocks. gate_open blocks ≡ false) }
-    requires few { length group.now.entries ≤ 512 }
+    requires few { length group.now.entries ≤ group_limit }
     requires ascending { ascends 0 group.now.entries ≡ true }
     requires in_home { (n : ℕ) → has_number n (numbers_of group.now.entries) ≡ true → InHome (D.state disk.old) n }
-    requires size { 4096 ≤ (D.state disk.old).size }
+    requires size { least_disk_size ≤ (D.state disk.old).size }
     ensures content { OnOk result (option_map home (D.state disk.new).seen ≡ laid_home group.now.entries (D.state disk.old).seen) }
     ensures closed { OnOk result (IfSome (D.state disk.new).seen (λ blocks. gate_open blocks ≡ false)) }
     ensures settled { OnOk result ((D.state disk.new).pending ≡ []) }
@@ -38,8 +40,8 @@ pub(crate) fn write_group<D: Disk>(disk: &mut D, group: &BlockTable) -> Result<(
 /// The last two parts of a group that stands behind an open gate. It changes no content.
 pub(crate) fn finish<D: Disk>(disk: &mut D, group: &BlockTable) -> Result<(), DiskErr>
     requires settled { (D.state disk.old).pending ≡ [] }
-    requires size { 4096 ≤ (D.state disk.old).size }
-    requires few { length group.now.entries ≤ 512 }
+    requires size { least_disk_size ≤ (D.state disk.old).size }
+    requires few { length group.now.entries ≤ group_limit }
     requires in_home { (n : ℕ) → has_number n (numbers_of group.now.entries) ≡ true → InHome (D.state disk.old) n }
     requires says { IfSome (D.state disk.old).seen (Says Open group.now.entries) }
     ensures home { OnOk result (option_map home (D.state disk.new).seen ≡ laid_home group.now.entries (D.state disk.old).seen) }
@@ -58,7 +60,7 @@ pub(crate) fn finish<D: Disk>(disk: &mut D, group: &BlockTable) -> Result<(), Di
 // Writes the gate's block, with this mark and zeros behind it, and makes it durable.
 fn write_gate<D: Disk>(disk: &mut D, mark: u8) -> Result<(), DiskErr>
     requires settled { (D.state disk.old).pending ≡ [] }
-    requires size { 4096 ≤ (D.state disk.old).size }
+    requires size { least_disk_size ≤ (D.state disk.old).size }
     ensures seen { OnOk result ((D.state disk.new).seen ≡ option_map (λ blocks. slice_set blocks 0 (gate_block mark)) (D.state disk.old).seen) }
     ensures settled { OnOk result ((D.state disk.new).pending ≡ []) }
     ensures touches { Touches in_gate (D.state disk.old) (D.state disk.new) }
@@ -71,7 +73,7 @@ fn write_gate<D: Disk>(disk: &mut D, mark: u8) -> Result<(), DiskErr>
 
 fn put_gate<D: Disk>(disk: &mut D, mark: u8) -> Result<(), DiskErr>
     requires settled { (D.state disk.old).pending ≡ [] }
-    requires size { 4096 ≤ (D.state disk.old).size }
+    requires size { least_disk_size ≤ (D.state disk.old).size }
     ensures seen { OnOk result ((D.state disk.new).seen ≡ option_map (λ blocks. slice_set blocks 0 (gate_block mark)) (D.state disk.old).seen) }
     ensures touches { Touches in_gate (D.state disk.old) (D.state disk.new) }
     ensures counts { Counts result (D.state disk.old) (D.state disk.new) }
@@ -85,7 +87,7 @@ fn put_gate<D: Disk>(disk: &mut D, mark: u8) -> Result<(), DiskErr>
 // Writes the blocks to their places, and makes them durable.
 fn write_home<D: Disk>(disk: &mut D, group: &BlockTable) -> Result<(), DiskErr>
     requires settled { (D.state disk.old).pending ≡ [] }
-    requires few { length group.now.entries ≤ 512 }
+    requires few { length group.now.entries ≤ group_limit }
     requires in_home { (n : ℕ) → has_number n (numbers_of group.now.entries) ≡ true → InHome (D.state disk.old) n }
     ensures seen { OnOk result ((D.state disk.new).seen ≡ laid_over group.now.entries (D.state disk.old).seen) }
     ensures settled { OnOk result ((D.state disk.new).pending ≡ []) }
@@ -99,7 +101,7 @@ fn write_home<D: Disk>(disk: &mut D, group: &BlockTable) -> Result<(), DiskErr>
 
 fn put_home<D: Disk>(disk: &mut D, group: &BlockTable) -> Result<(), DiskErr>
     requires settled { (D.state disk.old).pending ≡ [] }
-    requires few { length group.now.entries ≤ 512 }
+    requires few { length group.now.entries ≤ group_limit }
     requires in_home { (n : ℕ) → has_number n (numbers_of group.now.entries) ≡ true → InHome (D.state disk.old) n }
     ensures seen { OnOk result ((D.state disk.new).seen ≡ laid_over group.now.entries (D.state disk.old).seen) }
     ensures touches { Touches (in_group group.now.entries) (D.state disk.old) (D.state disk.new) }
@@ -115,8 +117,8 @@ fn put_home<D: Disk>(disk: &mut D, group: &BlockTable) -> Result<(), DiskErr>
 // The intent data and then the index that names it, made durable.
 fn write_intents<D: Disk>(disk: &mut D, group: &BlockTable) -> Result<(), DiskErr>
     requires settled { (D.state disk.old).pending ≡ [] }
-    requires few { length group.now.entries ≤ 512 }
-    requires size { 4096 ≤ (D.state disk.old).size }
+    requires few { length group.now.entries ≤ group_limit }
+    requires size { least_disk_size ≤ (D.state disk.old).size }
     ensures intents { OnOk result (IfSome (D.state disk.new).seen (λ blocks. intents blocks ≡ group.now.entries)) }
     ensures names { OnOk result (IfSome (D.state disk.new).seen (NamesBelow group.now.entries (words_for (length group.now.entries)))) }
     ensures order { OnErr result (DataFirst (length group.now.entries) (D.state disk.new).pending) }
@@ -131,8 +133,8 @@ fn write_intents<D: Disk>(disk: &mut D, group: &BlockTable) -> Result<(), DiskEr
 
 fn put_intents<D: Disk>(disk: &mut D, group: &BlockTable) -> Result<(), DiskErr>
     requires settled { (D.state disk.old).pending ≡ [] }
-    requires few { length group.now.entries ≤ 512 }
-    requires size { 4096 ≤ (D.state disk.old).size }
+    requires few { length group.now.entries ≤ group_limit }
+    requires size { least_disk_size ≤ (D.state disk.old).size }
     ensures intents { OnOk result (IfSome (D.state disk.new).seen (λ blocks. intents blocks ≡ group.now.entries)) }
     ensures names { OnOk result (IfSome (D.state disk.new).seen (NamesBelow group.now.entries (words_for (length group.now.entries)))) }
     ensures pends { OnOk result (HasData (length group.now.entries) (D.state disk.new).pending) }
@@ -147,10 +149,10 @@ fn put_intents<D: Disk>(disk: &mut D, group: &BlockTable) -> Result<(), DiskErr>
 
 fn write_data<D: Disk>(disk: &mut D, group: &BlockTable) -> Result<(), DiskErr>
     requires settled { (D.state disk.old).pending ≡ [] }
-    requires few { length group.now.entries ≤ 512 }
-    requires size { 4096 ≤ (D.state disk.old).size }
+    requires few { length group.now.entries ≤ group_limit }
+    requires size { least_disk_size ≤ (D.state disk.old).size }
     ensures held { OnOk result (IfSome (D.state disk.new).seen (HoldsBelow group.now.entries (length group.now.entries))) }
-    ensures pending { OnOk result (length (D.state disk.new).pending ≤ 512) }
+    ensures pending { OnOk result (length (D.state disk.new).pending ≤ group_limit) }
     ensures pends { OnOk result (HasData (length group.now.entries) (D.state disk.new).pending) }
     ensures touches { Touches (in_data (length group.now.entries)) (D.state disk.old) (D.state disk.new) }
     ensures counts { Counts result (D.state disk.old) (D.state disk.new) }
@@ -164,9 +166,9 @@ fn write_data<D: Disk>(disk: &mut D, group: &BlockTable) -> Result<(), DiskErr>
 
 // Writes only those blocks of the index that the count needs.
 fn write_index<D: Disk>(disk: &mut D, group: &BlockTable) -> Result<(), DiskErr>
-    requires pending { length (D.state disk.old).pending ≤ 512 }
-    requires few { length group.now.entries ≤ 512 }
-    requires size { 4096 ≤ (D.state disk.old).size }
+    requires pending { length (D.state disk.old).pending ≤ group_limit }
+    requires few { length group.now.entries ≤ group_limit }
+    requires size { least_disk_size ≤ (D.state disk.old).size }
     ensures names { OnOk result (IfSome (D.state disk.new).seen (NamesBelow group.now.entries (words_for (length group.now.entries)))) }
     ensures kept { (n : ℕ) → has_number n (D.state disk.old).pending ≡ true → has_number n (D.state disk.new).pending ≡ true }
     ensures touches { Touches (in_index (length group.now.entries)) (D.state disk.old) (D.state disk.new) }
@@ -181,7 +183,7 @@ fn write_index<D: Disk>(disk: &mut D, group: &BlockTable) -> Result<(), DiskErr>
 
 // Block j of the index, from 0.
 fn index_block(group: &BlockTable, j: usize) -> [u8; 512]
-    requires few { length group.now.entries ≤ 512 }
+    requires few { length group.now.entries ≤ group_limit }
     requires block { j < 5 }
     ensures { (k : ℕ) → k < 128 → word_of result k ≡ word_for group.now.entries (128 * j + k) }
 {
@@ -194,7 +196,7 @@ fn index_block(group: &BlockTable, j: usize) -> [u8; 512]
 
 // Word w of the index: the count, the numbers, and zeros behind them.
 fn index_word_of(group: &BlockTable, w: usize) -> u32
-    requires few { length group.now.entries ≤ 512 }
+    requires few { length group.now.entries ≤ group_limit }
     ensures { result ≡ word_for group.now.entries w }
 {
     if w == 0 {

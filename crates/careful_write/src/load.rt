@@ -3,10 +3,12 @@ ghost use Rattle.std.specs.Prelude.{◌≡◌, ◌<◌, ◌≤◌, ◌+◌, ◌-
 ghost use Rattle.block_disk.specs.Blocks.{AllWhole, has_number, numbers_of, ascends, block_at};
 ghost use Rattle.block_disk.specs.Disk.{answered};
 ghost use Rattle.byteorder.specs.Endian.{little_bytes, little_number};
+ghost use Rattle.block_disk.specs.Sizes.{least_disk_size};
 ghost use Rattle.careful_write.specs.Content.{home, gate_open, intents, content_of, laid_home, word_of, index_word};
 ghost use Rattle.careful_write.specs.State.{InHome, LeavesAsItWas};
 ghost use Rattle.careful_write.specs.Load.{Says, LoadsOnly, fitting};
 ghost use Rattle.careful_write.specs.Steps.{Counts};
+ghost use Rattle.careful_write.specs.Sizes.{group_limit};
 
 use crate::group::finish;
 use block_disk::{BlockTable, Disk, DiskErr};
@@ -22,13 +24,13 @@ pub(crate) enum Found {
 
 /// Reads the open group, if there is one that fits.
 pub(crate) fn load_group<D: Disk>(disk: &mut D, group: &mut BlockTable) -> Result<Found, DiskErr>
-    requires size { 4096 ≤ (D.state disk.old).size }
+    requires size { least_disk_size ≤ (D.state disk.old).size }
     requires empty { group.old.entries ≡ [] }
     requires room { group.old.room ≡ 513 }
     ensures state { D.state disk.new ≡ answered result (D.state disk.old) }
     ensures room { group.new.room ≡ 513 }
     ensures found { IfOk result (λ found. IfSome (D.state disk.old).seen (Says found group.new.entries)) }
-    ensures few { length group.new.entries ≤ 512 }
+    ensures few { length group.new.entries ≤ group_limit }
     ensures whole { AllWhole group.new.entries }
     ensures in_home { (n : ℕ) → has_number n (numbers_of group.new.entries) ≡ true → InHome (D.state disk.old) n }
 {
@@ -57,16 +59,16 @@ fn load_entries<D: Disk>(
     count: u32,
     index: &mut [u8; 512],
 ) -> Result<bool, DiskErr>
-    requires size { 4096 ≤ (D.state disk.old).size }
+    requires size { least_disk_size ≤ (D.state disk.old).size }
     requires empty { group.old.entries ≡ [] }
     requires room { group.old.room ≡ 513 }
-    requires count { count ≤ 512 }
+    requires count { count ≤ group_limit }
     requires is { IfSome (D.state disk.old).seen (λ blocks. index_word blocks 0 ≡ count) }
     requires index { IfSome (D.state disk.old).seen (λ blocks. index.old ≡ block_at blocks 1) }
     ensures state { D.state disk.new ≡ answered result (D.state disk.old) }
     ensures room { group.new.room ≡ 513 }
     ensures loads { IfOk result (λ fit. IfSome (D.state disk.old).seen (LoadsOnly fit group.new.entries)) }
-    ensures few { length group.new.entries ≤ 512 }
+    ensures few { length group.new.entries ≤ group_limit }
     ensures whole { AllWhole group.new.entries }
     ensures in_home { (n : ℕ) → has_number n (numbers_of group.new.entries) ≡ true → InHome (D.state disk.old) n }
 {
@@ -87,9 +89,9 @@ fn load_entries<D: Disk>(
 
 // Word w of the index. The block of the word before it is at hand, and the next one is read where w is its first.
 fn next_word<D: Disk>(disk: &mut D, w: u32, index: &mut [u8; 512]) -> Result<u32, DiskErr>
-    requires size { 4096 ≤ (D.state disk.old).size }
+    requires size { least_disk_size ≤ (D.state disk.old).size }
     requires first { 0 < w }
-    requires last { w ≤ 512 }
+    requires last { w ≤ group_limit }
     requires before { IfSome (D.state disk.old).seen (λ blocks. index.old ≡ block_at blocks (1 + (w - 1) / 128)) }
     ensures word { IfOk result (λ n. IfSome (D.state disk.old).seen (λ blocks. n ≡ index_word blocks w)) }
     ensures here { OnOk result (IfSome (D.state disk.old).seen (λ blocks. index.new ≡ block_at blocks (1 + w / 128))) }
@@ -112,7 +114,7 @@ fn word_in(bytes: &[u8; 512], k: usize) -> u32
 /// Finishes an open group that fits. It changes no content.
 pub(crate) fn open_group<D: Disk>(disk: &mut D, group: &mut BlockTable) -> Result<bool, DiskErr>
     requires settled { (D.state disk.old).pending ≡ [] }
-    requires size { 4096 ≤ (D.state disk.old).size }
+    requires size { least_disk_size ≤ (D.state disk.old).size }
     requires empty { group.old.entries ≡ [] }
     requires room { group.old.room ≡ 513 }
     ensures content { OnOk result (option_map content_of (D.state disk.new).seen ≡ option_map content_of (D.state disk.old).seen) }
@@ -138,14 +140,14 @@ pub(crate) fn open_group<D: Disk>(disk: &mut D, group: &mut BlockTable) -> Resul
 
 /// Reads an open group that fits, so that it lies over the blocks.
 pub(crate) fn inspect_group<D: Disk>(disk: &mut D, group: &mut BlockTable) -> Result<bool, DiskErr>
-    requires size { 4096 ≤ (D.state disk.old).size }
+    requires size { least_disk_size ≤ (D.state disk.old).size }
     requires empty { group.old.entries ≡ [] }
     requires room { group.old.room ≡ 513 }
     ensures current { OnOk result (laid_home group.new.entries (D.state disk.old).seen ≡ option_map content_of (D.state disk.old).seen) }
     ensures fits { IfOk result (λ fits. IfSome (D.state disk.old).seen (λ blocks. fits ≡ fitting blocks)) }
     ensures state { D.state disk.new ≡ answered result (D.state disk.old) }
     ensures room { group.new.room ≡ 513 }
-    ensures few { OnOk result (length group.new.entries ≤ 512) }
+    ensures few { OnOk result (length group.new.entries ≤ group_limit) }
     ensures whole { OnOk result (AllWhole group.new.entries) }
     ensures ascending { OnOk result (ascends 0 group.new.entries ≡ true) }
     ensures in_home { OnOk result ((n : ℕ) → has_number n (numbers_of group.new.entries) ≡ true → InHome (D.state disk.old) n) }

@@ -2,6 +2,7 @@
 ghost use Rattle.std.specs.Prelude.{◌≡◌, ◌+◌, ◌<◌, ◌≤◌, ◌⊎◌, ◌-◌, ℕ, List, [], true, false, Some, None, IsSome, IsOk, IfOk, IfErr, IfSome, OnOk, OnErr, IsErr, length, option_map, slice_set};
 ghost use Rattle.block_disk.specs.Blocks.{block_at, found, has_number, with_number};
 ghost use Rattle.block_disk.specs.Disk.{armed};
+ghost use Rattle.block_disk.specs.Sizes.{content_start, least_disk_size};
 ghost use Rattle.careful_write.specs.Content.{home, content_of, gate_open, IsFront};
 ghost use Rattle.careful_write.specs.Down.{answered, Counts, CountsDown, went_down};
 ghost use Rattle.careful_write.specs.Load.{fitting};
@@ -12,6 +13,7 @@ ghost use Rattle.careful_write.specs.Parts.{written_by, DataFirst};
 ghost use Rattle.std.specs.Borrow.{Lends, sem};
 ghost use Rattle.careful_write.specs.contracts.store.Store.{the_row};
 ghost use Rattle.frame_pool.specs.contracts.pool.Pool.{the_row as pool_row};
+ghost use Rattle.careful_write.specs.Sizes.{group_limit};
 
 use crate::Down;
 use crate::group::write_group;
@@ -95,7 +97,7 @@ impl<D: Disk> Store<D> {
     /// Finishes an open group. It changes no content. Where the gate is closed or the group does not fit, it writes nothing.
     pub fn open(mut disk: D, group: Group, pool: Pool) -> Result<Store<D>, OpenErr<D>>
         requires settled { (D.state disk).pending ≡ [] }
-        requires size { 4096 ≤ (D.state disk).size }
+        requires size { least_disk_size ≤ (D.state disk).size }
         ensures content { IfOk result (λ store. content store ≡ option_map content_of (D.state disk).seen) }
         ensures current { IfOk result (λ store. store.current ≡ option_map content_of (D.state disk).seen) }
         ensures touched { IfOk result (λ store. store.touched ≡ []) }
@@ -135,7 +137,7 @@ impl<D: Disk> Store<D> {
 
     /// As `open`, but it writes nothing: the blocks of an open group are staged.
     pub fn inspect(mut disk: D, group: Group, pool: Pool) -> Result<Store<D>, OpenErr<D>>
-        requires size { 4096 ≤ (D.state disk).size }
+        requires size { least_disk_size ≤ (D.state disk).size }
         ensures disk { IfOk result (λ store. store.disk ≡ D.state disk) }
         ensures current { IfOk result (λ store. store.current ≡ content store) }
         ensures pool { IfOk result (λ store. store.pool ≡ pool) }
@@ -167,7 +169,7 @@ impl<D: Disk> Store<D> {
     pub fn pool(&mut self) -> &mut Pool
         ensures* writes { sem 𝓛 (Lends (the_row D.row D.Disk) pool_row self.entry result (λ pool. record self.old { pool = pool })) }
         ensures value { result.now ≡ self.old.pool }
-        ensures whole { IfSome self.old.current (λ blocks. length blocks + 518 ≡ self.old.disk.size) }
+        ensures whole { IfSome self.old.current (λ blocks. length blocks + content_start ≡ self.old.disk.size) }
         ensures each { IfSome self.old.current EachWhole }
     {
         &mut self.pool
@@ -212,11 +214,11 @@ impl<D: Disk> Store<D> {
     /// The staged bytes of a block, which no disk is asked for, else its content.
     pub fn read(&mut self, n: u32, out: &mut [u8; 512]) -> Result<(), Down>
         requires { InHome self.old.disk n }
-        ensures read { OnOk result (IfSome self.old.current (λ blocks. out.new ≡ block_at blocks (n - 518))) }
+        ensures read { OnOk result (IfSome self.old.current (λ blocks. out.new ≡ block_at blocks (n - content_start))) }
         ensures state { SameButReads (record self.old { disk = answered result self.old.disk }) self.new }
         ensures reads { self.new.reads ≡ raised self.old.reads }
         ensures staged { has_number n self.old.touched ≡ true → IsOk result }
-        ensures whole { IfSome self.new.current (λ blocks. length blocks + 518 ≡ self.new.disk.size) }
+        ensures whole { IfSome self.new.current (λ blocks. length blocks + content_start ≡ self.new.disk.size) }
         ensures each { IfSome self.new.current EachWhole }
     {
         self.reads = self.reads.saturating_add(1);
@@ -231,13 +233,13 @@ impl<D: Disk> Store<D> {
     pub fn stage(&mut self, n: u32, bytes: &[u8; 512]) -> Result<(), Full>
         requires { InHome self.old.disk n }
         ensures ok { OnOk result (self.new ≡ record self.old {
-          current = option_map (λ blocks. slice_set blocks (n - 518) bytes.now) self.old.current;
+          current = option_map (λ blocks. slice_set blocks (n - content_start) bytes.now) self.old.current;
           touched = with_number n self.old.touched;
         }) }
-        ensures full { IsErr result → (length self.old.touched ≡ 512) × (has_number n self.old.touched ≡ false) }
+        ensures full { IsErr result → (length self.old.touched ≡ group_limit) × (has_number n self.old.touched ≡ false) }
         ensures err { OnErr result (self.new ≡ self.old) }
         ensures ready { IsReady self.old → IsReady self.new }
-        ensures whole { IfSome self.new.current (λ blocks. length blocks + 518 ≡ self.new.disk.size) }
+        ensures whole { IfSome self.new.current (λ blocks. length blocks + content_start ≡ self.new.disk.size) }
         ensures each { IfSome self.new.current EachWhole }
     {
         if !has_room(&self.staged, n) {
@@ -293,8 +295,8 @@ impl<D: Disk> Store<D> {
 
 // Whether the block is there, or one more may be.
 fn has_room(staged: &BlockTable, n: u32) -> bool
-    ensures yes { result ≡ true → (length staged.now.entries < 512) ⊎ IsSome (found n staged.now.entries) }
-    ensures no { result ≡ false → (512 ≤ length staged.now.entries) × (found n staged.now.entries ≡ None) }
+    ensures yes { result ≡ true → (length staged.now.entries < group_limit) ⊎ IsSome (found n staged.now.entries) }
+    ensures no { result ≡ false → (group_limit ≤ length staged.now.entries) × (found n staged.now.entries ≡ None) }
 {
     staged.len() < MAX_STAGED || staged.get(n).is_some()
 }

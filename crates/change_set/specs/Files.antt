@@ -2,6 +2,8 @@
 use Rattle.std.specs.Prelude.{◌≡◌, ◌≤◌, ◌⊎◌, ℕ, ◌+◌, ◌-◌, ◌*◌, ◌/◌, ◌&&◌, Bool, true, List, [], Option, None, MatchOption, IsSomeAnd, IfSome, length, nat_lt, nat_le, option_map, Result, count_by, is_none}
 use Rattle.block_disk.specs.Blocks.{block_at, has_number}
 use Rattle.block_disk.specs.Disk.{DiskState}
+use Rattle.block_disk.specs.Sizes.{content_start, greatest_disk_size}
+use Rattle.vms_model.specs.Limits.{record_limit}
 use Rattle.careful_write.specs.Content.{home}
 use Rattle.careful_write.specs.declared.down.Down.{Down}
 use Rattle.careful_write.specs.Down.{answered}
@@ -14,18 +16,18 @@ use Rattle.tree_model.specs.Layouts.{Sizes}
 
 -- the block of the content of this number lies in the file's extent
 abbrev pub in_extent : FileHead → ℕ → Bool
-in_extent h n = nat_le (h.start - 518) n && nat_lt n (h.start - 518 + h.alloc * h.bucket)
+in_extent h n = nat_le (h.start - content_start) n && nat_lt n (h.start - content_start + h.alloc * h.bucket)
 
 -- the extent lies in the content, a bucket has 1 to 16 blocks, and a record leaves 32 bytes of a bucket
 pub record IsPlaced (h : FileHead) (disk : DiskState) : Type 0 where
-  pub from : 518 ≤ h.start
+  pub from : content_start ≤ h.start
   pub to : h.start + h.alloc * h.bucket ≤ disk.size
-  pub fits : disk.size ≤ 65536
+  pub fits : disk.size ≤ greatest_disk_size
   pub blocks : h.bucket ≤ 16
   pub one : 1 ≤ h.bucket
   pub least : 1 ≤ h.mrs
   pub records : h.mrs + 32 ≤ 512 * h.bucket
-  pub greatest : h.mrs ≤ 8160
+  pub greatest : h.mrs ≤ record_limit
 
 -- two lists of blocks agree on the file's extent
 abbrev pub AgreesOn : FileHead → List (List ℕ) → List (List ℕ) → Type 0
@@ -47,7 +49,7 @@ fell r s = unstaged (record s { disk = answered r s.disk })
 pub record StagesIn (h : FileHead) (limit : ℕ) (old new : StoreState) : Type 0 where
   pub rest : SameButReads (record old { current = new.current; touched = new.touched }) new
   pub blocks : MatchOption old.current (new.current ≡ None) (λ before. IsSomeAnd new.current (AgreesOff (in_extent h) before))
-  pub touched : (n : ℕ) → has_number n new.touched ≡ true → (has_number n old.touched ≡ true) ⊎ (in_extent h (n - 518) ≡ true)
+  pub touched : (n : ℕ) → has_number n new.touched ≡ true → (has_number n old.touched ≡ true) ⊎ (in_extent h (n - content_start) ≡ true)
   pub few : length new.touched ≤ length old.touched + limit
 
 -- the head of the same file: only what a changed record may change differs

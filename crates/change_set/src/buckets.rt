@@ -1,8 +1,10 @@
 //! Buckets of 1 to 16 blocks, read from a store into a frame and staged from one.
 ghost use Rattle.std.specs.Prelude.{◌≡◌, ◌≤◌, ◌<◌, ◌+◌, ◌-◌, ◌*◌, ℕ, take, length, Some, None, OnOk, IfSome, slice_set, option_map};
 ghost use Rattle.frame_pool.specs.Pool.{IsOut};
+ghost use Rattle.block_disk.specs.Sizes.{content_start};
 ghost use Rattle.careful_write.specs.Down.{answered};
 ghost use Rattle.careful_write.specs.Reads.{SameButReads};
+ghost use Rattle.careful_write.specs.Sizes.{group_limit};
 ghost use Rattle.file_base.specs.Bytes.{piece_at, spliced};
 ghost use Rattle.change_set.specs.Buckets.{frame_of, with_frame, bucket_bytes, with_bucket, with_numbers, LiesInHome, WasFree};
 ghost use Rattle.change_set.specs.Files.{free_frames};
@@ -48,7 +50,7 @@ pub fn load_bucket<D: Disk>(
     ensures state { SameButReads (with_frame frame.now (frame_of store.new.pool frame.now) (record store.old { disk = answered result store.old.disk })) store.new }
     ensures reads { store.new.reads ≤ store.old.reads + count }
     ensures out { IsOut store.new.pool frame.now }
-    ensures read { OnOk result (IfSome store.old.current (λ blocks. take (512 * count) (frame_of store.new.pool frame.now) ≡ bucket_bytes blocks (first - 518) count)) }
+    ensures read { OnOk result (IfSome store.old.current (λ blocks. take (512 * count) (frame_of store.new.pool frame.now) ≡ bucket_bytes blocks (first - content_start) count)) }
 {
     for i in 0..count {
         let mut block = [0; 512];
@@ -63,9 +65,9 @@ pub fn stage_bucket<D: Disk>(store: &mut Store<D>, frame: &Frame, first: u32, co
     requires out { IsOut store.old.pool frame.now }
     requires in_home { LiesInHome store.old.disk first count }
     requires within { count ≤ 16 }
-    requires room { length store.old.touched + count ≤ 512 }
+    requires room { length store.old.touched + count ≤ group_limit }
     ensures { store.new ≡ record store.old {
-      current = option_map (λ blocks. with_bucket (frame_of store.old.pool frame.now) blocks (first - 518) count) store.old.current;
+      current = option_map (λ blocks. with_bucket (frame_of store.old.pool frame.now) blocks (first - content_start) count) store.old.current;
       touched = with_numbers first count store.old.touched;
     } }
 {
@@ -80,7 +82,7 @@ pub fn stage_bucket<D: Disk>(store: &mut Store<D>, frame: &Frame, first: u32, co
 pub fn take_frame<D: Disk>(store: &mut Store<D>) -> Frame
     requires { 1 ≤ free_frames store.old.pool }
     ensures free { WasFree store.old.pool result }
-    ensures whole { IfSome store.old.current (λ blocks. length blocks + 518 ≡ store.old.disk.size) }
+    ensures whole { IfSome store.old.current (λ blocks. length blocks + content_start ≡ store.old.disk.size) }
     ensures state { store.new ≡ with_frame result (frame_of store.new.pool result) store.old }
     ensures out { IsOut store.new.pool result }
 {

@@ -4,6 +4,7 @@ ghost use Rattle.std.specs.Option.{option_copied};
 ghost use Rattle.careful_write.specs.State.{IsIdle};
 ghost use Rattle.careful_write.specs.Down.{Counts};
 ghost use Rattle.careful_write.specs.Reads.{SameButReads};
+ghost use Rattle.careful_write.specs.Sizes.{staged_limit};
 ghost use Rattle.file_base.specs.declared.head.FileHead.{FileHead};
 ghost use Rattle.vms_model.specs.Keys as model;
 ghost use Rattle.tree_model.specs.Layouts.{Layout};
@@ -180,7 +181,7 @@ pub trait RecordFile {
         requires form { form head.old }
         requires placed { IsPlaced head.old store.old.disk }
         requires frames { 32 ≤ free_frames store.old.pool }
-        requires staged { length store.old.touched ≤ 64 }
+        requires staged { length store.old.touched ≤ staged_limit }
         requires suits { suits head.old (key_of key.now) (option_copied value) }
         ensures map { OnOk result (IfSome store.old.current (λ before. valid head.old before → takes head.old before (key_of key.now) (option_copied value.entry) → option_map (map head.new) store.new.current ≡ Some (set_key (key_of key.now) (option_copied value.entry) (map head.old before)))) }
         ensures valid { OnOk result (IfSome store.old.current (λ before. valid head.old before → takes head.old before (key_of key.now) (option_copied value.entry) → IfSome store.new.current (valid head.new))) }
@@ -210,7 +211,7 @@ pub trait RecordFile {
         requires form { form head.old }
         requires placed { IsPlaced head.old store.old.disk }
         requires frames { 32 ≤ free_frames store.old.pool }
-        requires staged { length store.old.touched ≤ 64 }
+        requires staged { length store.old.touched ≤ staged_limit }
         requires begins { IfSome store.old.current (λ blocks. valid head.old blocks → begins head.old blocks (Some (key_of key.now)) place) }
         requires suits { suits head.old (key_of key.now) (option_copied value) }
         ensures map { OnOk result (IfSome store.old.current (λ before. valid head.old before → takes head.old before (key_of key.now) (option_copied value.entry) → option_map (map head.new) store.new.current ≡ Some (set_key (key_of key.now) (option_copied value.entry) (map head.old before)))) }

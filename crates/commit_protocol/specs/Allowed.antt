@@ -2,6 +2,7 @@
 use Rattle.std.specs.Prelude.{◌+◌, ◌&&◌, Bool, true, false, List, Option, Some, None, not, nat_lt, length}
 use Rattle.std.specs.List.{list_any}
 use Rattle.vms_model.specs.Ids.{Id}
+use Rattle.vms_model.specs.Limits.{bid_limit, branch_limit, slot_limit}
 use Rattle.commit_protocol.specs.Messages.{Name, RmEvent, PrepareEvent, CommitEvent, OnePhaseEvent, Reply, PreparedReply, ForgetReply, VetoReply, RememberReply, NormalReply, LogRecord, same_name}
 use Rattle.commit_protocol.specs.Table.{Branch, State, Active, Prepared, Tm, first, is_first, find, find_serial, holds}
 use Rattle.commit_protocol.specs.Rows.{Event, Start, Authorise, Begin, JoinRm, Changed, EndTrans, EndBranch, AbortBranch, Replied, Got, Clock, LinkDown, RunDown, InquireBranch}
@@ -23,11 +24,11 @@ there_is (Some b) test = test b
 
 -- A node has at most 64 unsettled branches, and a log has at most 512 slots for them and for committed records. A log with fewer slots refuses earlier.
 abbrev pub has_room : Tm → Bool
-has_room tm = nat_lt (length tm.table) 64 && nat_lt (length tm.table + length tm.records) 512
+has_room tm = nat_lt (length tm.table) branch_limit && nat_lt (length tm.table + length tm.records) slot_limit
 
 -- at most 15 branches are authorised for a transaction
 abbrev pub may_authorise : Branch → Bool
-may_authorise b = is_active b.state && nat_lt (length b.bids) 15
+may_authorise b = is_active b.state && nat_lt (length b.bids) bid_limit
 
 -- a branch that has joined its coordinator and is not ended
 abbrev pub is_working : Branch → Bool

@@ -7,7 +7,7 @@ use Rattle.script_model.specs.Statements.{Says, Settle, At, Init, Deliver as Del
 use Rattle.script_model.specs.Grammar.{reading}
 use Rattle.day_model.specs.Draws.{next, below}
 use Rattle.day_model.specs.Pieces as piece
-use Rattle.day_model.specs.Pieces.{Piece, Words, begun, changed, day, dumps, ended, ending, last_digit, makes_files, quoted, six_digits, transaction, transactions, words_of}
+use Rattle.day_model.specs.Pieces.{Piece, Words, changed, day, dumps, ended, ending, last_digit, makes_files, quoted, six_digits, transaction, transaction_start, transactions, words_of}
 use Rattle.day_model.specs.Readings.{AllSpeak, AllSpeakOn, DaysMakeOnce, DaysSpeak, SpeaksOn}
 use Rattle.day_model.proofs.Decimals.{AreClear, Digits, IsClear, clear_on, decimal_digits, digits_clear, inside_end, inside_quoted, inside_then, label_said, number_said, quoted_said, rest_end, rest_quoted, rest_then, word_end, word_then}
 use Rattle.day_model.proofs.Hearing.{heard, said_by, texts_from}
@@ -114,7 +114,7 @@ dumps_speak : AllSpeakOn dumps
 dumps_speak = ((λ sent small. (_, refl, refl)), ((λ sent small. (_, refl, refl)), ((λ sent small. (_, refl, refl)), ((λ sent small. (_, refl, refl)), ((λ sent small. (_, refl, refl)), ((λ sent small. (_, refl, refl)), tt))))))
 
 module _ (i : ℕ) (d : Number (decimal i)) where
-  begun_speaks : AllSpeakOn (begun i)
+  begun_speaks : AllSpeakOn (transaction_start i)
   begun_speaks = ((λ sent small. (_, starts (decimal i) d, refl)), ((λ sent small. (_, adds (decimal i) d, refl)), ((λ sent small. (_, joins (decimal i) d, refl)), (delivers, (delivers, tt)))))
 
   changed_speaks : (key : ℕ) → key ≤ 200 → AllSpeakOn (changed i key)
@@ -141,7 +141,7 @@ transactions_speak (suc count) i x le =
     let d = number i (omega (arith, le)) in
     let key : below 200 (next x) + 1 ≤ 200 = omega arith in
     all_on (transaction i (below 200 (next x) + 1) (below 10 (next (next x)))) (transactions count (i + 1) (next (next x)))
-    (all_on (begun i) (changed i (below 200 (next x) + 1) ++ ended i (below 10 (next (next x)))) (begun_speaks i d) (all_on (changed i (below 200 (next x) + 1)) (ended i (below 10 (next (next x)))) (changed_speaks i d (below 200 (next x) + 1) key) (ended_speaks i d (below 10 (next (next x))))))
+    (all_on (transaction_start i) (changed i (below 200 (next x) + 1) ++ ended i (below 10 (next (next x)))) (begun_speaks i d) (all_on (changed i (below 200 (next x) + 1)) (ended i (below 10 (next (next x)))) (changed_speaks i d (below 200 (next x) + 1) key) (ended_speaks i d (below 10 (next (next x))))))
     (transactions_speak count (i + 1) (next (next x)) (omega (arith, le)))
 
 pub days_make_once : DaysMakeOnce

@@ -44,15 +44,15 @@ abbrev pub answer_of : List Entry → Option Line
 answer_of es = (tally_of es).last
 
 -- The first pieces of a script were answered by these entries, and it ended at none of them; these pieces are left, and dumps counted so many records.
-abbrev pub Goes : List Piece → List Entry → (left : List Piece) → (counts : List ℕ) → Type 0
-Goes all [] left counts = (left ≡ all) × (counts ≡ [])
-Goes all (e ∷ es) left counts =
-    (p : Piece) × (before : List ℕ) × Goes all es (p ∷ left) before × IsOf p es e × (stops p (answer_of (e ∷ es)) ≡ false) × (counts ≡ before ++ counted p (answer_of (e ∷ es)))
+abbrev pub DayReached : List Piece → List Entry → (left : List Piece) → (counts : List ℕ) → Type 0
+DayReached all [] left counts = (left ≡ all) × (counts ≡ [])
+DayReached all (e ∷ es) left counts =
+    (p : Piece) × (before : List ℕ) × DayReached all es (p ∷ left) before × IsOf p es e × (stops p (answer_of (e ∷ es)) ≡ false) × (counts ≡ before ++ counted p (answer_of (e ∷ es)))
 
 -- The first pieces of a script were answered by these entries, and it ended at the newest.
 abbrev pub Stops : List Piece → List Entry → Type 0
 Stops all [] = ⊥
-Stops all (e ∷ es) = (p : Piece) × (left : List Piece) × (before : List ℕ) × Goes all es (p ∷ left) before × IsOf p es e × (stops p (answer_of (e ∷ es)) ≡ true)
+Stops all (e ∷ es) = (p : Piece) × (left : List Piece) × (before : List ℕ) × DayReached all es (p ∷ left) before × IsOf p es e × (stops p (answer_of (e ∷ es)) ≡ true)
 
 -- words, a count, and a line feed
 abbrev pub counting : List ℕ → ℕ → List ℕ
@@ -79,4 +79,4 @@ answer_text None = []
 -- How a day ended of so many transactions, which drew from this number on, and the text for it: its summary, or where it stopped the answer.
 abbrev pub DayEnds : (count start : ℕ) → List Entry → (text : List ℕ) → Type 0
 DayEnds count start es text =
-    ((counts : List ℕ) × Goes (day count start) es [] counts × (text ≡ summary count (tally_of es).committed dumps counts)) ⊎ (Stops (day count start) es × (text ≡ answer_text (answer_of es)))
+    ((counts : List ℕ) × DayReached (day count start) es [] counts × (text ≡ summary count (tally_of es).committed dumps counts)) ⊎ (Stops (day count start) es × (text ≡ answer_text (answer_of es)))

@@ -54,8 +54,8 @@ opening =
     ∷ (makes_files (codes "A") ++ makes_files (codes "B"))
 
 -- The transaction of a number begins at A, with a branch at B that joins it.
-abbrev pub begun : (number : ℕ) → List Piece
-begun i =
+abbrev pub transaction_start : (number : ℕ) → List Piece
+transaction_start i =
     Words (codes "A: START_TRANS T" ++ decimal i)
     ∷ Words (codes "A: ADD_BRANCH T" ++ (decimal i ++ (codes " B U" ++ decimal i)))
     ∷ Words (codes "B: START_BRANCH U" ++ decimal i)
@@ -85,7 +85,7 @@ ended i choice =
 
 -- a whole transaction
 abbrev pub transaction : (number key choice : ℕ) → List Piece
-transaction i key choice = begun i ++ (changed i key ++ ended i choice)
+transaction i key choice = transaction_start i ++ (changed i key ++ ended i choice)
 
 -- So many transactions, from this number on. Each draws its key, from 1 to 200, and then how it ends.
 abbrev pub transactions : (count number : ℕ) → (drawn : ℕ) → List Piece

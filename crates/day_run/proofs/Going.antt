@@ -9,25 +9,25 @@ use Rattle.run_model.specs.Transcript.{Entry}
 use Rattle.run_model.proofs.NodeLists.{some_is}
 use Rattle.day_model.specs.Draws.{below, next}
 use Rattle.day_model.specs.Pieces as piece
-use Rattle.day_model.specs.Pieces.{Piece, Words, begun, changed, day, dumps, ended, ending, opening, transaction, transactions, written}
+use Rattle.day_model.specs.Pieces.{Piece, Words, changed, day, dumps, ended, ending, opening, transaction, transaction_start, transactions, written}
 use Rattle.day_script.specs.Steps.{piece_of}
 use Rattle.day_script.specs.declared.steps.Step.{Step}
 use Rattle.day_script.specs.declared.steps.Step.TheVariants as step
-use Rattle.day_model.specs.Days.{Goes, IsOf, Stops, counted, stops, tally_of}
+use Rattle.day_model.specs.Days.{DayReached, IsOf, Stops, counted, stops, tally_of}
 use Rattle.day_model.specs.Readings.{AllSpeakOn}
 
 -- What an emitter counts of lines.
 pub tally_on : (a b : Shown) (lines : List Line) (t u : Tally) → Emits a lines b → a.tally ≡ Some t → b.tally ≡ Some u → u ≡ tallied_by lines t
 tally_on a b lines t u m e f = some_is u (tallied_by lines t) (sym f ∙ m.counted ∙ ap (option_map (tallied_by lines)) e)
 
-module _ (all left : List Piece) (p : Piece) (es : List Entry) (counts : List ℕ) (t u : Tally) (goes : Goes all es (p ∷ left) counts) (same : t ≡ tally_of es) (e : Entry) (source : e.source ≡ written t.sent p) (count : u ≡ tallied_by e.lines t) where
+module _ (all left : List Piece) (p : Piece) (es : List Entry) (counts : List ℕ) (t u : Tally) (goes : DayReached all es (p ∷ left) counts) (same : t ≡ tally_of es) (e : Entry) (source : e.source ≡ written t.sent p) (count : u ≡ tallied_by e.lines t) where
   pub counted_on : u ≡ tally_of (e ∷ es)
   counted_on = count ∙ ap (tallied_by e.lines) same
 
   of : IsOf p es e
   of = source ∙ ap (λ (x : Tally). written x.sent p) same
 
-  pub goes_on : (more : List ℕ) → stops p u.last ≡ false → more ≡ counts ++ counted p u.last → Goes all (e ∷ es) left more
+  pub goes_on : (more : List ℕ) → stops p u.last ≡ false → more ≡ counts ++ counted p u.last → DayReached all (e ∷ es) left more
   goes_on more stop is = (p, counts, goes, of, ap (λ (x : Tally). stops p x.last) (sym counted_on) ∙ stop, is ∙ ap (λ (x : Tally). counts ++ counted p x.last) counted_on)
 
   pub stops_here : stops p u.last ≡ true → Stops all (e ∷ es)
@@ -41,14 +41,14 @@ tail_is p q ps qs e = cc
 
 -- the pieces at the head of a script, by the entries so far
 module _ (all : List Piece) (a b : Piece) (rest : List Piece) (parts : all ≡ a ∷ (b ∷ rest)) where
-  pub first_piece : (p : Piece) (left : List Piece) (counts : List ℕ) → Goes all [] (p ∷ left) counts → p ≡ a
+  pub first_piece : (p : Piece) (left : List Piece) (counts : List ℕ) → DayReached all [] (p ∷ left) counts → p ≡ a
   first_piece p left counts g = head_is p a left (b ∷ rest) (g.0 ∙ parts)
 
-  pub second_piece : (e : Entry) (p : Piece) (left : List Piece) (counts : List ℕ) → Goes all (e ∷ []) (p ∷ left) counts → p ≡ b
+  pub second_piece : (e : Entry) (p : Piece) (left : List Piece) (counts : List ℕ) → DayReached all (e ∷ []) (p ∷ left) counts → p ≡ b
   second_piece e p left counts g = head_is p b left rest (tail_is g.0 a (p ∷ left) (b ∷ rest) (g.2.0 ∙ parts))
 
   -- behind the first two all speak on
-  pub left_speaks : (e f : Entry) (es : List Entry) (left : List Piece) (counts : List ℕ) → AllSpeakOn rest → Goes all (e ∷ f ∷ es) left counts → AllSpeakOn left
+  pub left_speaks : (e f : Entry) (es : List Entry) (left : List Piece) (counts : List ℕ) → AllSpeakOn rest → DayReached all (e ∷ f ∷ es) left counts → AllSpeakOn left
   left_speaks e f [] left counts h g = subst AllSpeakOn (sym (tail_is g.0 b left rest (tail_is g.2.0 a (g.0 ∷ left) (b ∷ rest) (g.2.2.0 ∙ parts)))) h
   left_speaks e f (x ∷ es) left counts h g = (left_speaks f x es (g.0 ∷ left) g.1 h g.2).1
 
@@ -96,14 +96,14 @@ transactions_dumps zero i x = refl
 transactions_dumps (suc count) i x =
     let key = below 200 (next x) + 1 in
     let choice = below 10 (next (next x)) in
-    omega (arith, dumps_on (transaction i key choice) (transactions count (i + 1) (next (next x))), dumps_on (begun i) (changed i key ++ ended i choice), dumps_on (changed i key) (ended i choice), ended_dumps i choice, transactions_dumps count (i + 1) (next (next x)))
+    omega (arith, dumps_on (transaction i key choice) (transactions count (i + 1) (next (next x))), dumps_on (transaction_start i) (changed i key ++ ended i choice), dumps_on (changed i key) (ended i choice), ended_dumps i choice, transactions_dumps count (i + 1) (next (next x)))
 
 transactions_few : (count i x : ℕ) → length (transactions count i x) ≤ 14 * count
 transactions_few zero i x = omega arith
 transactions_few (suc count) i x =
     let key = below 200 (next x) + 1 in
     let choice = below 10 (next (next x)) in
-    omega (arith, length-append (transaction i key choice) (transactions count (i + 1) (next (next x))), length-append (begun i) (changed i key ++ ended i choice), length-append (changed i key) (ended i choice), ended_few i choice, transactions_few count (i + 1) (next (next x)))
+    omega (arith, length-append (transaction i key choice) (transactions count (i + 1) (next (next x))), length-append (transaction_start i) (changed i key ++ ended i choice), length-append (changed i key) (ended i choice), ended_few i choice, transactions_few count (i + 1) (next (next x)))
 
 pub day_dumps : (count start : ℕ) → dumps_in (day count start) ≡ 6
 day_dumps count start =

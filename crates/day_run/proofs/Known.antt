@@ -9,7 +9,7 @@ use Rattle.run_agreement.specs.Seen.{IsKnown}
 use Rattle.run_model.specs.World.{Act, DiskCounts, Durable, Formats, Half, Lost, Node, Outturn, Settlement, Shared, Tables, Taken, World, aborted_prepared, acted, find_node, powered, settlement_of, unpowered, with_half, with_node, with_settlement}
 use Rattle.run_model.specs.Answers.{Row, Service, powers, refused_before_reading, spoils, task_service}
 use Rattle.run_model.specs.Steps as task
-use Rattle.run_model.specs.Steps.{Choice, Cut, Unpowered, Whole, WithoutMemory, node_after, node_after_rows, ready_node, rows_to_cut, service_effect, spoilt, task_effect}
+use Rattle.run_model.specs.Steps.{Choice, Cut, Unpowered, Whole, WithoutMemory, node_after, node_after_rows, ready_node, rows_to_cut, service_effect, task_effect, with_unknown_volume}
 use Rattle.run_model.specs.Statements.{Allowed, Begins, Part, PartEffect, Phase, Phases, Step, begun_with, part_effect, phases_of, refused_at_once, stops_at}
 use Rattle.run_model.specs.Transcript.{Turn}
 use Rattle.run_model.proofs.NodeLists.{some_is}
@@ -33,7 +33,7 @@ rows_known : (rs : List Row) (n : Node) → IsKnown n → IsKnown (node_after_ro
 rows_known [] n h = h
 rows_known (r ∷ rs) n h = rows_known rs (node_after r.act n) (after_known r.act n h)
 
-spoilt_known : (b : Bool) (n : Node) → IsKnown n → IsKnown (spoilt b n)
+spoilt_known : (b : Bool) (n : Node) → IsKnown n → IsKnown (with_unknown_volume b n)
 spoilt_known true n h = λ e. refl
 spoilt_known false n h = h
 
@@ -53,7 +53,7 @@ powered_known Taken stops n h = go n.under_way h
 ready_known : (o : Outturn) (stops : ℕ) (e : Service) (n : Node) → IsKnown n → IsKnown (ready_node o stops e n)
 ready_known o stops e n h = go (powers e)
   where
-    go : (b : Bool) → IsKnown (if b then spoilt (spoils e) (powered o stops n) else n)
+    go : (b : Bool) → IsKnown (if b then with_unknown_volume (spoils e) (powered o stops n) else n)
     go true = spoilt_known (spoils e) (powered o stops n) (powered_known o stops n h)
     go false = h
 

@@ -20,7 +20,7 @@ use Rattle.run_model.proofs.NodeLists.{some_is}
 use Rattle.run_model.proofs.PartLemmas.{turn}
 use Rattle.statement_steps.proofs.Stepping.{request_there}
 use Rattle.world_laws.proofs.Induction.{acts_name}
-use Rattle.node_standing.specs.Standing.{Kept}
+use Rattle.node_standing.specs.Standing.{NodeState}
 use Rattle.run_nodes.specs.Together.{StandAll, disks_of}
 use Rattle.day_model.specs.Days.{is_broken}
 use Rattle.day_run.specs.Serving.{AreLarge}
@@ -103,7 +103,7 @@ both_known w a b names ka kb name = λ k found. by (subst (IsIn name) names (fou
 
 -- A node that is found has a disk as large as the one at its place.
 
-pub found_large : (logs : List CallLog) (ks : List Kept) (ns : List Node) → StandAll logs ks ns → AreLarge (disks_of ks) → (name : List ℕ) (k : Node) → find_node name ns ≡ Some k → 4096 ≤ k.blocks
+pub found_large : (logs : List CallLog) (ks : List NodeState) (ns : List Node) → StandAll logs ks ns → AreLarge (disks_of ks) → (name : List ℕ) (k : Node) → find_node name ns ≡ Some k → 4096 ≤ k.blocks
 found_large [] [] [] h large name k e = let none : ⊥ = cc in absurd none
 found_large [] [] (n ∷ ns) h large name k e = absurd h
 found_large [] (x ∷ ks) ns h large name k e = absurd h

@@ -16,14 +16,14 @@ use Rattle.run_shared.specs.Sharing.{SharedState}
 use Rattle.world_laws.specs.Nodes.{NodesAreKept}
 use Rattle.statement_steps.specs.Doing.{AllKept}
 use Rattle.statement_steps.proofs.Keeping.{all_kept}
-use Rattle.node_standing.specs.Standing.{Kept}
+use Rattle.node_standing.specs.Standing.{NodeState}
 use Rattle.run_nodes.specs.Names.{AreApart}
 use Rattle.run_nodes.specs.Together.{ServesTogether, StandsTogether, disks_of}
 use Rattle.run_nodes.specs.Told.{kept_names}
 use Rattle.run_nodes.specs.Untold.{BootsUnknown, IsUntold}
 use Rattle.run_nodes.proofs.Places.{names_same, world_apart}
 use Rattle.day_model.specs.Pieces.{Piece, Words, day, words_of, written}
-use Rattle.day_model.specs.Days.{Goes, counted, is_broken, is_refused, stops, tally_of}
+use Rattle.day_model.specs.Days.{DayReached, counted, is_broken, is_refused, stops, tally_of}
 use Rattle.day_model.specs.Readings.{MakesOnce, makes_volume}
 use Rattle.day_run.specs.Serving.{AreLarge, BothMade, DayServed, MakesNone}
 use Rattle.day_tally.specs.declared.counts.Ended.TheVariants as ended
@@ -38,16 +38,16 @@ Ready (e ∷ []) w = (w.shared.in_use ≡ false) × KnownAt (codes "A") w × Mak
 Ready (e ∷ f ∷ es) w = ((name : List ℕ) → KnownAt name w) × BothMade (e ∷ f ∷ es)
 
 -- between two lines: these entries were legal so far, and this is counted of their lines
-pub record Serving (logs : List CallLog) (opening : World) (count start : ℕ) (left : List Piece) (t : Tally) (counts : List ℕ) (ks : List Kept) (s : SharedState) : Type 0 where
+pub record Serving (logs : List CallLog) (opening : World) (count start : ℕ) (left : List Piece) (t : Tally) (counts : List ℕ) (ks : List NodeState) (s : SharedState) : Type 0 where
   pub entries : List Entry
   pub closing : World
   pub legal : Legal opening entries closing
   pub stands : StandsTogether logs ks s closing
   pub ready : Ready entries closing
   pub tallied : t ≡ tally_of entries
-  pub goes : Goes (day count start) entries left counts
+  pub goes : DayReached (day count start) entries left counts
 
-pub serving_first : (logs : List CallLog) (first : List Node) (disks : List DiskCounts) (count start : ℕ) (left : List Piece) (t : Tally) (counts : List ℕ) (ks : List Kept) (s : SharedState) → left ≡ day count start → t ≡ tally_of [] → counts ≡ [] → StandsTogether logs ks s (opened first disks) →
+pub serving_first : (logs : List CallLog) (first : List Node) (disks : List DiskCounts) (count start : ℕ) (left : List Piece) (t : Tally) (counts : List ℕ) (ks : List NodeState) (s : SharedState) → left ≡ day count start → t ≡ tally_of [] → counts ≡ [] → StandsTogether logs ks s (opened first disks) →
     Serving logs (opened first disks) count start left t counts ks s
 serving_first logs first disks count start left t counts ks s all none empty stands = record { entries = []; closing = opened first disks; legal = refl; stands = stands; ready = refl; tallied = none; goes = (all, empty) }
 
@@ -76,7 +76,7 @@ all_known w s known = by s
     by Settle b = never b.0 b.1 b.2 b.3
 
 -- One line more.
-module _ (law : NodesAreKept) (names : List (List ℕ)) (apart : AreApart names) (a_and_b : names ≡ codes "A" ∷ (codes "B" ∷ [])) (logs : List CallLog) (first : List Node) (disks : List DiskCounts) (opening : AreOpening first) (count start : ℕ) (p : Piece) (left : List Piece) (t u : Tally) (counts : List ℕ) (ks ls : List Kept) (s after : SharedState)
+module _ (law : NodesAreKept) (names : List (List ℕ)) (apart : AreApart names) (a_and_b : names ≡ codes "A" ∷ (codes "B" ∷ [])) (logs : List CallLog) (first : List Node) (disks : List DiskCounts) (opening : AreOpening first) (count start : ℕ) (p : Piece) (left : List Piece) (t u : Tally) (counts : List ℕ) (ks ls : List NodeState) (s after : SharedState)
     (same : names ≡ kept_names ks) (named : names ≡ kept_names ls) (large : AreLarge (disks_of ks)) (once : MakesOnce count start) (small : t.sent < 2 ^ 32) (g : Serving logs (opened first disks) count start (p ∷ left) t counts ks s) (statement : Statement) (says : reading (words_of t.sent p) ≡ Says statement) (a b : Shown) (at : a.tally ≡ Some t) (bt : b.tally ≡ Some u)
     (serves : (before : List CallLog) (w : World) → StandsTogether before ks s w → AllKept w.shared w.nodes → (BootsUnknown w statement → ⊥) → ServesTogether before w statement a b ls after) where
   differ : NamesApart g.closing.nodes
@@ -86,14 +86,14 @@ module _ (law : NodesAreKept) (names : List (List ℕ)) (apart : AreApart names)
   kept = all_kept g.closing.shared g.closing.nodes differ (law first disks g.entries g.closing opening g.legal)
 
   -- the first two lines make the volumes
-  is_first : Goes (day count start) [] (p ∷ left) counts → statement ≡ At (codes "A") (Init 128 1024)
+  is_first : DayReached (day count start) [] (p ∷ left) counts → statement ≡ At (codes "A") (Init 128 1024)
   is_first goes = makes_it (codes "A") (codes "A: INIT") t.sent p statement once.first (first_piece (day count start) (Words (codes "A: INIT")) (Words (codes "B: INIT")) once.rest once.parts p left counts goes) says
 
-  is_second : (e : Entry) → Goes (day count start) (e ∷ []) (p ∷ left) counts → statement ≡ At (codes "B") (Init 128 1024)
+  is_second : (e : Entry) → DayReached (day count start) (e ∷ []) (p ∷ left) counts → statement ≡ At (codes "B") (Init 128 1024)
   is_second e goes = makes_it (codes "B") (codes "B: INIT") t.sent p statement once.second (second_piece (day count start) (Words (codes "A: INIT")) (Words (codes "B: INIT")) once.rest once.parts e p left counts goes) says
 
   -- and the others none
-  is_later : (e f : Entry) (es : List Entry) → Goes (day count start) (e ∷ f ∷ es) (p ∷ left) counts → makes_volume statement ≡ false
+  is_later : (e f : Entry) (es : List Entry) → DayReached (day count start) (e ∷ f ∷ es) (p ∷ left) counts → makes_volume statement ≡ false
   is_later e f es goes =
       let said = (left_speaks (day count start) (Words (codes "A: INIT")) (Words (codes "B: INIT")) once.rest once.parts e f es (p ∷ left) counts once.later goes).0 t.sent small in
       ap makes_volume (says_is statement said.0 (sym says ∙ said.1)) ∙ said.2
@@ -101,7 +101,7 @@ module _ (law : NodesAreKept) (names : List (List ℕ)) (apart : AreApart names)
   never : BootsUnknown g.closing statement → ⊥
   never = by g.entries g.goes g.ready
     where
-      by : (es : List Entry) → Goes (day count start) es (p ∷ left) counts → Ready es g.closing → BootsUnknown g.closing statement → ⊥
+      by : (es : List Entry) → DayReached (day count start) es (p ∷ left) counts → Ready es g.closing → BootsUnknown g.closing statement → ⊥
       by [] goes ready = subst (λ (x : Statement). BootsUnknown g.closing x → ⊥) (sym (is_first goes)) (λ x. x)
       by (e ∷ []) goes ready = subst (λ (x : Statement). BootsUnknown g.closing x → ⊥) (sym (is_second e goes)) (λ x. x)
       by (e ∷ f ∷ es) goes ready = all_known g.closing statement ready.0
@@ -122,14 +122,14 @@ module _ (law : NodesAreKept) (names : List (List ℕ)) (apart : AreApart names)
   makes_at : (node : List ℕ) → statement ≡ At node (Init 128 1024) → last_or None served.lines ≡ Some Normal → Makes node entry
   makes_at node is answered = record { slots = 128; journal = 1024; says = says ∙ ap Says is; answered = answered }
 
-  makes_none : (e f : Entry) (es : List Entry) → Goes (day count start) (e ∷ f ∷ es) (p ∷ left) counts → MakesNone entry
+  makes_none : (e f : Entry) (es : List Entry) → DayReached (day count start) (e ∷ f ∷ es) (p ∷ left) counts → MakesNone entry
   makes_none e f es goes = (statement, says, is_later e f es goes)
 
   -- what was made behind this line, where it ends the day
   made_or_few : BothMade (entry ∷ g.entries) ⊎ (length (entry ∷ g.entries) ≤ 2)
   made_or_few = by g.entries g.goes g.ready
     where
-      by : (es : List Entry) → Goes (day count start) es (p ∷ left) counts → Ready es g.closing → BothMade (entry ∷ es) ⊎ (length (entry ∷ es) ≤ 2)
+      by : (es : List Entry) → DayReached (day count start) es (p ∷ left) counts → Ready es g.closing → BothMade (entry ∷ es) ⊎ (length (entry ∷ es) ≤ 2)
       by [] goes ready = inr (omega arith)
       by (e ∷ []) goes ready = inr (omega arith)
       by (e ∷ f ∷ es) goes ready = inl (makes_none e f es goes, ready.1)
@@ -172,7 +172,7 @@ module _ (law : NodesAreKept) (names : List (List ℕ)) (apart : AreApart names)
     ready : Ready (entry ∷ g.entries) served.world
     ready = by g.entries g.goes g.ready
       where
-        by : (es : List Entry) → Goes (day count start) es (p ∷ left) counts → Ready es g.closing → Ready (entry ∷ es) served.world
+        by : (es : List Entry) → DayReached (day count start) es (p ∷ left) counts → Ready es g.closing → Ready (entry ∷ es) served.world
         by [] goes now =
             let m = made_at (codes "A") (inl refl) (is_first goes) now in
             (m.unused, m.known, makes_at (codes "A") (is_first goes) m.answered)
@@ -193,7 +193,7 @@ module _ (law : NodesAreKept) (names : List (List ℕ)) (apart : AreApart names)
     }
 
 -- All lines were served.
-pub serving_whole : (logs : List CallLog) (opening : World) (count start : ℕ) (left : List Piece) (t : Tally) (counts : List ℕ) (ks : List Kept) (s : SharedState) → left ≡ [] → Serving logs opening count start left t counts ks s → DayServed logs opening count start t ended.Whole counts ks s
+pub serving_whole : (logs : List CallLog) (opening : World) (count start : ℕ) (left : List Piece) (t : Tally) (counts : List ℕ) (ks : List NodeState) (s : SharedState) → left ≡ [] → Serving logs opening count start left t counts ks s → DayServed logs opening count start t ended.Whole counts ks s
 serving_whole logs opening count start left t counts ks s none g = record {
   made = by g.entries g.ready;
   entries = g.entries;
@@ -201,7 +201,7 @@ serving_whole logs opening count start left t counts ks s none g = record {
   legal = g.legal;
   stands = g.stands;
   counted = g.tallied;
-  ends = subst (λ ps. Goes (day count start) g.entries ps counts) none g.goes;
+  ends = subst (λ ps. DayReached (day count start) g.entries ps counts) none g.goes;
 }
   where
     by : (es : List Entry) → Ready es g.closing → BothMade es ⊎ (length es ≤ 2)

@@ -9,12 +9,12 @@ use Rattle.script_model.specs.Grammar.{reading}
 use Rattle.run_said.specs.Said.{Said, nothing_said, said_here, said_of}
 use Rattle.run_model.specs.Transcript.{Entry}
 use Rattle.run_shared.specs.Sharing.{SharedState}
-use Rattle.node_standing.specs.Standing.{Kept}
-use Rattle.run_nodes.specs.Calls.{LineFollows, LineTellsAll}
+use Rattle.node_standing.specs.Standing.{NodeState}
+use Rattle.run_nodes.specs.Calls.{DisksFollowLine, LineFollows}
 use Rattle.day_run.specs.Tells.{EntriesTell}
 use Rattle.run_nodes.specs.Together.{AnswersTogether, disks_of, said_together}
 use Rattle.day_model.specs.Pieces.{Piece, day, words_of, written}
-use Rattle.day_model.specs.Days.{Goes, counted, stops, tally_of}
+use Rattle.day_model.specs.Days.{DayReached, counted, stops, tally_of}
 use Rattle.day_run.specs.Serving.{AreLarge, DayTells}
 use Rattle.day_tally.specs.declared.counts.Ended.TheVariants as ended
 use Rattle.day_run.proofs.Going.{counted_on, goes_on, stops_here, tally_on}
@@ -24,12 +24,12 @@ pub record Telling (names : List (List ℕ)) (before : List DiskState) (count st
   pub tell : EntriesTell names before entries ds
   pub says : said ≡ said_of names entries
   pub tallied : t ≡ tally_of entries
-  pub goes : Goes (day count start) entries left counts
+  pub goes : DayReached (day count start) entries left counts
 
 pub telling_first : (names : List (List ℕ)) (before : List DiskState) (count start : ℕ) (left : List Piece) (t : Tally) (counts : List ℕ) (said : Said) → left ≡ day count start → t ≡ tally_of [] → counts ≡ [] → said ≡ nothing_said names → Telling names before count start left t counts before said
 telling_first names before count start left t counts said all none empty unsaid = record { entries = []; tell = refl; says = unsaid; tallied = none; goes = (all, empty) }
 
-module _ (names : List (List ℕ)) (before : List DiskState) (count start : ℕ) (p : Piece) (left : List Piece) (t u : Tally) (counts : List ℕ) (ks ls : List Kept) (s after : SharedState) (g : Telling names before count start (p ∷ left) t counts (disks_of ks) (said_together ks s))
+module _ (names : List (List ℕ)) (before : List DiskState) (count start : ℕ) (p : Piece) (left : List Piece) (t u : Tally) (counts : List ℕ) (ks ls : List NodeState) (s after : SharedState) (g : Telling names before count start (p ∷ left) t counts (disks_of ks) (said_together ks s))
     (statement : Statement) (says : reading (words_of t.sent p) ≡ Says statement) (a b : Shown) (at : a.tally ≡ Some t) (bt : b.tally ≡ Some u) (h : AnswersTogether names statement a b ks s ls after) where
   abbrev entry : Entry
   entry = record { source = written t.sent p; lines = h.lines }
@@ -41,7 +41,7 @@ module _ (names : List (List ℕ)) (before : List DiskState) (count start : ℕ)
   told = (
     disks_of ks,
     g.tell,
-    subst (λ (z : Said). LineTellsAll names z (reading (words_of t.sent p)) h.lines (disks_of ks) (disks_of ls)) g.says (subst (λ r. LineTellsAll names (said_together ks s) r h.lines (disks_of ks) (disks_of ls)) (sym says) h.tells),
+    subst (λ (z : Said). DisksFollowLine names z (reading (words_of t.sent p)) h.lines (disks_of ks) (disks_of ls)) g.says (subst (λ r. DisksFollowLine names (said_together ks s) r h.lines (disks_of ks) (disks_of ls)) (sym says) h.tells),
     subst (λ r. LineFollows (said_of names g.entries) r h.lines) (sym says) (subst (λ (z : Said). LineFollows z (Says statement) h.lines) g.says h.follows),
   )
 
@@ -63,10 +63,10 @@ module _ (names : List (List ℕ)) (before : List DiskState) (count start : ℕ)
   }
 
 pub telling_whole : (names : List (List ℕ)) (before after : List DiskState) (count start : ℕ) (left : List Piece) (t : Tally) (counts : List ℕ) (said : Said) → left ≡ [] → Telling names before count start left t counts after said → DayTells names before after count start t ended.Whole counts
-telling_whole names before after count start left t counts said none g = record { entries = g.entries; tell = g.tell; counted = g.tallied; ends = subst (λ ps. Goes (day count start) g.entries ps counts) none g.goes }
+telling_whole names before after count start left t counts said none g = record { entries = g.entries; tell = g.tell; counted = g.tallied; ends = subst (λ ps. DayReached (day count start) g.entries ps counts) none g.goes }
 
 -- Disks that were large stay so.
-pub large_on : (names : List (List ℕ)) (said : Said) (s : Statement) (olds news : List DiskState) (lines : List Line) → LineTellsAll names said (Says s) lines olds news → AreLarge olds → AreLarge news
+pub large_on : (names : List (List ℕ)) (said : Said) (s : Statement) (olds news : List DiskState) (lines : List Line) → DisksFollowLine names said (Says s) lines olds news → AreLarge olds → AreLarge news
 large_on [] said s [] [] lines h large = tt
 large_on [] said s [] (new ∷ news) lines h large = absurd h
 large_on [] said s (old ∷ olds) news lines h large = absurd h

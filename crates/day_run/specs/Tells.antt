@@ -4,10 +4,10 @@ use Rattle.block_disk.specs.Disk.{DiskState}
 use Rattle.script_model.specs.Grammar.{reading}
 use Rattle.run_said.specs.Said.{said_of}
 use Rattle.run_model.specs.Transcript.{Entry}
-use Rattle.run_nodes.specs.Calls.{LineFollows, LineTellsAll}
+use Rattle.run_nodes.specs.Calls.{DisksFollowLine, LineFollows}
 
 -- These entries, the newest first, lead from the disks before to those after, and each follows what those before it said.
 abbrev pub EntriesTell : List (List ℕ) → List DiskState → List Entry → List DiskState → Type 0
 EntriesTell names before [] after = after ≡ before
 EntriesTell names before (e ∷ es) after = (mid : List DiskState) × EntriesTell names before es mid
-    × LineTellsAll names (said_of names es) (reading e.source.text) e.lines mid after × LineFollows (said_of names es) (reading e.source.text) e.lines
+    × DisksFollowLine names (said_of names es) (reading e.source.text) e.lines mid after × LineFollows (said_of names es) (reading e.source.text) e.lines

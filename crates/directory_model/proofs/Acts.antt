@@ -26,7 +26,7 @@ use Rattle.run_model.specs.Locks.{is_locked}
 use Rattle.run_model.specs.World.{Durable, Node, File, Settlement, AreUnitsOf, Formats, Tables, Changes, Directs, acted, key_size_of, sizes_of, changed_file, directly_changed, settled_layout, settled_file, settlement_of, with_prepared, with_settlement}
 use Rattle.commit_protocol.specs.Table as table
 use Rattle.log_laws.specs.Slots.{slots_after}
-use Rattle.directory_model.specs.Files.{IsCarried, IsFile, IsPlace, AreFiles, StandsCarried, IsNamed, head_at, file_at, layout_of, organized_by}
+use Rattle.directory_model.specs.Files.{IsCarried, IsFile, IsPlace, AreFiles, AgreesOnCarried, IsNamed, head_at, file_at, layout_of, organized_by}
 use Rattle.directory_model.specs.Restoring.{IsRestored, IsPlaceRestored, AreRestored}
 use Rattle.directory_model.specs.Laws.{KeepsFiles, AreFree, IsChanged, SameBut, carrying, changed_buckets, directly_buckets, settled_buckets}
 use Rattle.directory_model.proofs.Places.{file_mapped, places_set, within_list}
@@ -96,7 +96,7 @@ layout_after held file cs a b h new is layout = ap (layout_changed (sizes_of fil
     go Indexed kind = ap (λ (sizes : Sizes). layout_changed sizes held cs (layout_by Indexed h a)) (sizes_are a h file is kind)
 
 changes : (a b : List (List ℕ)) (heads : List (Option FileHead)) (n : Node) (f : ℕ) (h new : FileHead) (name : List ℕ) (file : File) (tid serial : Id) (cs : List Change) → AreFiles a heads n.durable.directory → AreUnitsOf n →
-    IsNamed heads f h name → file_at n.durable.directory f ≡ Some file → AreFree serial file cs → maps.Found cs (map_of h a) → IsChanged (is_locked n.volatile.locks name) cs a h b new → StandsCarried h a b → SameBut f heads a b →
+    IsNamed heads f h name → file_at n.durable.directory f ≡ Some file → AreFree serial file cs → maps.Found cs (map_of h a) → IsChanged (is_locked n.volatile.locks name) cs a h b new → AgreesOnCarried h a b → SameBut f heads a b →
     AreFiles b (slice_set heads f (Some new)) (changed_buckets (is_locked n.volatile.locks name) tid serial cs f file n.durable.directory)
 changes a b heads n f h new name file tid serial cs are units named there free found is stands same =
     let directory = n.durable.directory in
@@ -113,7 +113,7 @@ changes a b heads n f h new name file tid serial cs are units named there free f
 
 -- PUT, UPDATE, DELETE, TRUNCATE without a label
 directs : (a b : List (List ℕ)) (heads : List (Option FileHead)) (n : Node) (f : ℕ) (h new : FileHead) (name : List ℕ) (file : File) (cs : List Change) (s : Settlement) → AreFiles a heads n.durable.directory → s.outcome ≡ Commit →
-    IsNamed heads f h name → file_at n.durable.directory f ≡ Some file → file.history.live ≡ [] → IsChanged (is_locked n.volatile.locks name) cs a h b new → StandsCarried h a b → SameBut f heads a b →
+    IsNamed heads f h name → file_at n.durable.directory f ≡ Some file → file.history.live ≡ [] → IsChanged (is_locked n.volatile.locks name) cs a h b new → AgreesOnCarried h a b → SameBut f heads a b →
     AreFiles b (slice_set heads f (Some new)) (directly_buckets (is_locked n.volatile.locks name) s cs f file n.durable.directory)
 directs a b heads n f h new name file cs s are commit named there none is stands same =
     let directory = n.durable.directory in
@@ -165,7 +165,7 @@ file_aborted a b h new file s abort orderly back is =
     all : map_in (current file.history) ≡ map_of h a
     all = λ i key. is.records key i
 
-place_aborted : (a b : List (List ℕ)) (f : ℕ) (o o' : Option FileHead) (p : Option File) (s : Settlement) → s.outcome ≡ Abort → ((file : File) → p ≡ Some file → IsOrderly file.history) → IsPlaceRestored s.serial a o p b o' → ((h : FileHead) → o ≡ Some h → StandsCarried h a b) → IsPlace a f o p →
+place_aborted : (a b : List (List ℕ)) (f : ℕ) (o o' : Option FileHead) (p : Option File) (s : Settlement) → s.outcome ≡ Abort → ((file : File) → p ≡ Some file → IsOrderly file.history) → IsPlaceRestored s.serial a o p b o' → ((h : FileHead) → o ≡ Some h → AgreesOnCarried h a b) → IsPlace a f o p →
     IsPlace b f o' (option_map (λ file. carrying file.carried (settled_file s file)) p)
 place_aborted a b f None None None s abort orderly back stands is = tt
 place_aborted a b f None (Some new) None s abort orderly back stands is = absurd back

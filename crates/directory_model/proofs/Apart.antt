@@ -16,7 +16,7 @@ use Rattle.save_laws.specs.Saves.{save_head}
 use Rattle.extents.specs.declared.extent.Extent.{Extent as Area}
 use Rattle.extents.specs.Extents.{IsFreeRun, all_extents, covers, extent, extents_of, is_used, nowhere}
 use Rattle.extents.proofs.Used.{covered, covering, free_is, used_at, not_both}
-use Rattle.directory_model.specs.Files.{Fit, StandsCarried, StandsIn, head_at}
+use Rattle.directory_model.specs.Files.{AgreesOnCarried, AgreesOnFile, Fit, head_at}
 use Rattle.directory_model.specs.Laws.{LieApart, SameBut, WritesApart, in_blocks}
 use Rattle.directory_model.proofs.Places.{within_list}
 
@@ -116,7 +116,7 @@ module _ (area : Area) (heads : List (Option FileHead)) (fit : Fit area heads) w
     ring_stands s same = record { size = size; whole = whole; blocks = λ k from to. same k (holds_extent (s.start - 518) s.blocks k from to) }
 
     -- so of a file, each of whose extents stands
-    pub file_stands_in : (g : ℕ) (k : FileHead) → head_at heads g ≡ Some k → ((l u v n : ℕ) → l < 4 → at (4 * g + l) ≡ extent u v → in_blocks u v n ≡ true → block_at b n ≡ block_at a n) → StandsIn k a b
+    pub file_stands_in : (g : ℕ) (k : FileHead) → head_at heads g ≡ Some k → ((l u v n : ℕ) → l < 4 → at (4 * g + l) ≡ extent u v → in_blocks u v n ≡ true → block_at b n ≡ block_at a n) → AgreesOnFile k a b
     file_stands_in g k there same = record {
       own = λ n in_it. sym (same 0 k.start (k.alloc * k.bucket) n (omega arith) (extent_at heads g 0 k there (omega arith)) in_it);
       carried = record {
@@ -141,7 +141,7 @@ module _ (area : Area) (heads : List (Option FileHead)) (fit : Fit area heads) w
       own_stands l u v low differs is_too n = stays_at f l u v n h there low (λ e. differs (omega arith)) is_too
 
     -- only blocks of a free run differ
-    free_stands : (start blocks : ℕ) → IsFreeRun area (all_extents heads) start blocks → ((n : ℕ) → in_blocks start blocks n ≡ false → block_at b n ≡ block_at a n) → (g : ℕ) (other : FileHead) → head_at heads g ≡ Some other → StandsIn other a b
+    free_stands : (start blocks : ℕ) → IsFreeRun area (all_extents heads) start blocks → ((n : ℕ) → in_blocks start blocks n ≡ false → block_at b n ≡ block_at a n) → (g : ℕ) (other : FileHead) → head_at heads g ≡ Some other → AgreesOnFile other a b
     free_stands start blocks run off g other there = file_stands_in g other there (λ l u v n low is in_it. off n (in_run_not l u v n low is in_it))
       where
         unused : (n : ℕ) → in_blocks start blocks n ≡ true → is_used (all_extents heads) (n + 518) ≡ false
@@ -162,7 +162,7 @@ module _ (area : Area) (heads : List (Option FileHead)) (fit : Fit area heads) w
             go false has = has
 
     -- blocks of the area are the same
-    before_stands : ((n : ℕ) → area.start ≤ n + 518 → block_at a n ≡ block_at b n) → (g : ℕ) (other : FileHead) → head_at heads g ≡ Some other → StandsIn other a b
+    before_stands : ((n : ℕ) → area.start ≤ n + 518 → block_at a n ≡ block_at b n) → (g : ℕ) (other : FileHead) → head_at heads g ≡ Some other → AgreesOnFile other a b
     before_stands same g other there = file_stands_in g other there (λ l u v n low is in_it. let number = number_low g other there in sym (same n (in_area (4 * g + l) u v n (omega arith) is in_it).0))
 
   -- The extents of a file.
@@ -179,7 +179,7 @@ module _ (area : Area) (heads : List (Option FileHead)) (fit : Fit area heads) w
   pub save_is : (f : ℕ) (h : FileHead) → head_at heads f ≡ Some h → at (4 * f + 3) ≡ extent h.save.start (h.save.alloc * h.bucket)
   save_is f h there = extent_at heads f 3 h there (omega arith)
 
-  in_file : (f : ℕ) (h : FileHead) (a b : List (List ℕ)) → head_at heads f ≡ Some h → AgreesOff (in_extent h) a b → EachWhole b → SameBut f heads a b × StandsCarried h a b
+  in_file : (f : ℕ) (h : FileHead) (a b : List (List ℕ)) → head_at heads f ≡ Some h → AgreesOff (in_extent h) a b → EachWhole b → SameBut f heads a b × AgreesOnCarried h a b
   in_file f h a b there agrees whole =
       let stays = own_stands a b agrees.size whole f 0 h.start (h.alloc * h.bucket) h there (omega arith) (own_is f h there) agrees.others in (
         others_stand a b agrees.size whole f 0 h.start (h.alloc * h.bucket) h there (omega arith) (own_is f h there) agrees.others,

@@ -13,7 +13,7 @@ use Rattle.save_laws.specs.Saves.{IsOfNow, KeepsSave, StandAt}
 use Rattle.script_model.specs.Statements.{Side, AfterImages, BeforeImages}
 use Rattle.records_model.specs.History.{current}
 use Rattle.run_model.specs.World.{Node, Carried, File, Marks, ForUnits, BeginsImages, EndsImages, Saves, acted, begun_images, ended_images, marked_file, saved_file}
-use Rattle.directory_model.specs.Files.{IsCarried, IsFile, AreFiles, IsNamed, StandsIn, head_at, file_at}
+use Rattle.directory_model.specs.Files.{IsCarried, IsFile, AreFiles, IsNamed, AgreesOnFile, head_at, file_at}
 use Rattle.directory_model.specs.Laws.{begun_head, end_by, ended_head, marked, saved_head}
 use Rattle.directory_model.proofs.Places.{places_set, within_list}
 use Rattle.directory_model.proofs.Finding.{finds_files}
@@ -111,7 +111,7 @@ ends content heads n f h name side are named =
 
 -- BACKUP
 
-carried_saved : (a b : List (List ℕ)) (f : ℕ) (h : FileHead) (file : File) (v : Save) (greatest : ℕ) → StandsIn h a b → IsOfNow h v → v.position ≡ h.ai.end → v.moment.0 ≡ greatest → StandAt h v.start a b → IsFile a h file → IsCarried a f h file.carried →
+carried_saved : (a b : List (List ℕ)) (f : ℕ) (h : FileHead) (file : File) (v : Save) (greatest : ℕ) → AgreesOnFile h a b → IsOfNow h v → v.position ≡ h.ai.end → v.moment.0 ≡ greatest → StandAt h v.start a b → IsFile a h file → IsCarried a f h file.carried →
     IsCarried b f (saved_head v h) (saved_file v.start greatest file).carried
 carried_saved a b f h file v greatest stands now position moment copied is has =
     let saved = saves_follow.made a b h (record h.marks { save = true }) v (current file.history) is.head.form is.laid is.records now copied in
@@ -125,7 +125,7 @@ carried_saved a b f h file v greatest stands now position moment copied is has =
     }
 
 pub saves : (a b : List (List ℕ)) (heads : List (Option FileHead)) (n : Node) (f : ℕ) (h : FileHead) (name : List ℕ) (v : Save) → AreFiles a heads n.durable.directory → IsNamed heads f h name →
-    ((g : ℕ) (k : FileHead) → head_at heads g ≡ Some k → StandsIn k a b) → IsOfNow h v → v.position ≡ h.ai.end → v.moment.0 ≡ n.durable.greatest → StandAt h v.start a b →
+    ((g : ℕ) (k : FileHead) → head_at heads g ≡ Some k → AgreesOnFile k a b) → IsOfNow h v → v.position ≡ h.ai.end → v.moment.0 ≡ n.durable.greatest → StandAt h v.start a b →
     AreFiles b (slice_set heads f (Some (saved_head v h))) (acted (Saves name v.start) n).durable.directory
 saves a b heads n f h name v are named stand now position moment copied =
     let found = finds_files.found a heads n.durable.directory f h name are named in

@@ -18,7 +18,7 @@ use Rattle.tree_model.specs.Layouts.{Layout}
 use Rattle.records_model.specs.History.{History, current}
 use Rattle.run_model.specs.World as world
 use Rattle.run_model.specs.World.{Carried, File}
-use Rattle.directory_model.specs.Files.{IsCarried, IsHeadOf, IsFile, IsPlace, AreFiles, StandsCarried, head_at, file_at, layout_of, organized_by}
+use Rattle.directory_model.specs.Files.{IsCarried, IsHeadOf, IsFile, IsPlace, AreFiles, AgreesOnCarried, head_at, file_at, layout_of, organized_by}
 use Rattle.directory_model.specs.Laws.{SameBut}
 use Rattle.directory_model.proofs.Places.{file_mapped, within_list}
 use Rattle.directory_model.proofs.Standing.{place_stands}
@@ -90,7 +90,7 @@ save_kept h new same = record {
 }
 
 -- and carries the same, where that stands
-pub carried_moved : (a b : List (List ℕ)) (f : ℕ) (h new : FileHead) (r : Carried) → SameFile h new → StandsCarried h a b → IsCarried a f h r → IsCarried b f new r
+pub carried_moved : (a b : List (List ℕ)) (f : ℕ) (h new : FileHead) (r : Carried) → SameFile h new → AgreesOnCarried h a b → IsCarried a f h r → IsCarried b f new r
 carried_moved a b f h new r same stands is = record {
   after = subst (λ (k : FileHead). HasSide b k.marks.ai k.ai f (form_of k) r.after) (sym same.is) (sides_follow.stays a b h.marks.ai h.ai f (form_of h) r.after is.after stands.after);
   before = subst (λ (k : FileHead). HasSide b k.marks.bi k.bi f (form_of k) r.before) (sym same.is) (sides_follow.stays a b h.marks.bi h.bi f (form_of h) r.before is.before stands.before);

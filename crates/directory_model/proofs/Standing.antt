@@ -8,7 +8,7 @@ use Rattle.save_laws.specs.Saves.{KeepsSave}
 use Rattle.file_images.specs.Files.{form_of}
 use Rattle.file_images.proofs.Sides.{saves_follow, sides_follow}
 use Rattle.run_model.specs.World.{Carried, File}
-use Rattle.directory_model.specs.Files.{IsCarried, IsFile, IsPlace, StandsCarried, StandsIn, head_at, file_at}
+use Rattle.directory_model.specs.Files.{IsCarried, IsFile, IsPlace, AgreesOnCarried, AgreesOnFile, head_at, file_at}
 use Rattle.directory_model.specs.Laws.{StandsOnExtents}
 
 -- The records, the layout and that buckets are laid out are the same in contents that agree on the extent; so the file stands.
@@ -25,7 +25,7 @@ same_save : (h : FileHead) → KeepsSave h h
 same_save h = record { organization = refl; bucket = refl; mrs = refl; mrn = refl; key_pos = refl; key_size = refl; save = refl }
 
 -- what a file carries is the same where the rings of its journals and its save stand
-pub carried_stands : (a b : List (List ℕ)) (f : ℕ) (h : FileHead) (r : Carried) → StandsCarried h a b → IsCarried a f h r → IsCarried b f h r
+pub carried_stands : (a b : List (List ℕ)) (f : ℕ) (h : FileHead) (r : Carried) → AgreesOnCarried h a b → IsCarried a f h r → IsCarried b f h r
 carried_stands a b f h r stands is = record {
   after = sides_follow.stays a b h.marks.ai h.ai f (form_of h) r.after is.after stands.after;
   before = sides_follow.stays a b h.marks.bi h.bi f (form_of h) r.before is.before stands.before;
@@ -33,7 +33,7 @@ carried_stands a b f h r stands is = record {
   save = saves_follow.stays a b h.marks.save h h r.save is.save (same_save h) stands.save;
 }
 
-pub place_stands : (a b : List (List ℕ)) (f : ℕ) (o : Option FileHead) (p : Option File) → ((h : FileHead) → o ≡ Some h → StandsIn h a b) → IsPlace a f o p → IsPlace b f o p
+pub place_stands : (a b : List (List ℕ)) (f : ℕ) (o : Option FileHead) (p : Option File) → ((h : FileHead) → o ≡ Some h → AgreesOnFile h a b) → IsPlace a f o p → IsPlace b f o p
 place_stands a b f None None agree is = tt
 place_stands a b f None (Some file) agree is = absurd is
 place_stands a b f (Some h) None agree is = absurd is

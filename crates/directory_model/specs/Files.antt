@@ -1,6 +1,8 @@
 -- Which file of the world each file of a volume is.
 use Rattle.std.specs.Prelude.{◌≡◌, ℕ, ◌+◌, ◌<◌, ◌≤◌, ◌*◌, List, [], ◌∷◌, true, false, Option, Some, None, length, slice_set, slice_index_or, take}
 use Rattle.std.specs.FinMap.{get, entries}
+use Rattle.block_disk.specs.Sizes.{content_start}
+use Rattle.vms_model.specs.Limits.{file_limit, key_limit}
 use Rattle.file_base.specs.declared.head.FileHead.{FileHead}
 use Rattle.file_base.specs.declared.head.Organization.{Organization as Kept}
 use Rattle.file_base.specs.declared.head.Organization.TheVariants as kept
@@ -77,20 +79,20 @@ IsPlace content f (Some h) (Some file) = IsFile content h file × IsCarried cont
 
 -- so of each of the 64 file numbers
 pub record AreFiles (content : List (List ℕ)) (heads : List (Option FileHead)) (directory : List (Option File)) : Type 0 where
-  pub heads_long : length heads ≡ 64
-  pub directory_long : length directory ≡ 64
+  pub heads_long : length heads ≡ file_limit
+  pub directory_long : length directory ≡ file_limit
   pub each : (f : ℕ) → IsPlace content f (head_at heads f) (file_at directory f)
 
 -- What a head's file carries stands in another content, of whole blocks: the rings of its journals, and its save.
-pub record StandsCarried (h : FileHead) (a b : List (List ℕ)) : Type 0 where
+pub record AgreesOnCarried (h : FileHead) (a b : List (List ℕ)) : Type 0 where
   pub after : h.marks.ai ≡ true → SameRing h.ai a b
   pub before : h.marks.bi ≡ true → SameRing h.bi a b
   pub save : h.marks.save ≡ true → AgreesOn (save_head h) a b
 
 -- and its buckets too
-pub record StandsIn (h : FileHead) (a b : List (List ℕ)) : Type 0 where
+pub record AgreesOnFile (h : FileHead) (a b : List (List ℕ)) : Type 0 where
   pub own : AgreesOn h a b
-  pub carried : StandsCarried h a b
+  pub carried : AgreesOnCarried h a b
 
 -- no file of a lower number has this name
 abbrev pub NoneNamed : List (Option FileHead) → ℕ → List ℕ → Type 0
@@ -116,7 +118,7 @@ AreNamedOnce heads = (f : ℕ) (h : FileHead) → head_at heads f ≡ Some h →
 abbrev pub IsOrganized : Form → FileHead → Type 0
 IsOrganized (form.Sequential buckets) h = (h.organization ≡ kept.Sequential) × (h.used ≡ 1) × (h.levels ≡ 0)
 IsOrganized (form.Relative records) h = (h.organization ≡ kept.Relative) × (h.mrn ≡ records) × (h.used ≡ h.alloc) × (h.levels ≡ 0)
-IsOrganized (form.Indexed buckets position size) h = (h.organization ≡ kept.Indexed) × (h.key_pos ≡ position) × (h.key_size ≡ size) × (h.used ≡ 1) × (h.levels ≡ 1) × (1 ≤ size) × (size ≤ 64) × (position + size ≤ h.mrs)
+IsOrganized (form.Indexed buckets position size) h = (h.organization ≡ kept.Indexed) × (h.key_pos ≡ position) × (h.key_size ≡ size) × (h.used ≡ 1) × (h.levels ≡ 1) × (1 ≤ size) × (size ≤ key_limit) × (position + size ≤ h.mrs)
 
 -- a head carries nothing for its file's recovery
 pub record CarriesNothing (h : FileHead) : Type 0 where
@@ -143,14 +145,14 @@ pub record IsNewHead (f : Form) (h : FileHead) : Type 0 where
 
 -- each extent of the heads lies in an area behind block 518, and apart from those before it
 pub record Fit (area : Area) (heads : List (Option FileHead)) : Type 0 where
-  pub heads_long : length heads ≡ 64
-  pub behind : 518 ≤ area.start
+  pub heads_long : length heads ≡ file_limit
+  pub behind : content_start ≤ area.start
   pub each : (i : ℕ) → i < 256 → FitsAt area (all_extents heads) i
 
 -- a file's extent lies in the content, and each block there has 512 bytes
 pub record IsWithin (content : List (List ℕ)) (h : FileHead) : Type 0 where
-  pub from : 518 ≤ h.start
-  pub to : h.start + h.alloc * h.bucket ≤ length content + 518
+  pub from : content_start ≤ h.start
+  pub to : h.start + h.alloc * h.bucket ≤ length content + content_start
   pub whole : EachWhole content
 
 -- Showing a file's records.

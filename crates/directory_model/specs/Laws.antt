@@ -4,6 +4,8 @@ use Rattle.std.specs.Prelude.{◌≡◌, ◌≢◌, ℕ, ◌+◌, ◌-◌, ◌*�
 use Rattle.std.specs.List.{AllByRecursion}
 use Rattle.std.specs.FinMap.{entries, get}
 use Rattle.block_disk.specs.Blocks.{block_at}
+use Rattle.block_disk.specs.Sizes.{content_start, greatest_disk_size}
+use Rattle.vms_model.specs.Limits.{file_limit}
 use Rattle.careful_write.specs.State.{EachWhole}
 use Rattle.careful_write.specs.Steps.{AgreesOff}
 use Rattle.file_base.specs.declared.head.FileHead.{FileHead}
@@ -40,20 +42,20 @@ use Rattle.run_model.specs.Operations.{count_of, first_behind, in_order, need_of
 use Rattle.run_model.specs.Extents.{is_taken}
 use Rattle.run_model.specs.Locks.{is_locked}
 use Rattle.run_model.specs.World.{Node, Carried, File, Settlement, AreUnitsOf, Formats, Boots, Creates, Marks, ForUnits, BeginsImages, EndsImages, Saves, Draws, Tables, Changes, Holds, Directs, acted, area_start, changed_file, directly_changed, extents_of as files_extents, nothing_carried, settled_file, find_file, free_place, longest_free, lowest_free, settlement_of}
-use Rattle.directory_model.specs.Files.{AreFiles, IsCarried, IsFile, StandsCarried, StandsIn, NoneNamed, IsNamed, IsFoundAt, AreNamedOnce, IsNewHead, Fit, file_at, head_at, layout_of, IsShown}
+use Rattle.directory_model.specs.Files.{AreFiles, IsCarried, IsFile, AgreesOnCarried, AgreesOnFile, NoneNamed, IsNamed, IsFoundAt, AreNamedOnce, IsNewHead, Fit, file_at, head_at, layout_of, IsShown}
 use Rattle.directory_model.specs.Restoring.{AreRestored}
 
 -- a file is found by its name: the one of the lowest number that has it, and none where none has it. So it is changed there.
 pub record FindsFiles : Type 0 where
   pub found : (content : List (List ℕ)) (heads : List (Option FileHead)) (directory : List (Option File)) (f : ℕ) (h : FileHead) (name : List ℕ) → AreFiles content heads directory → IsNamed heads f h name →
       (file : File) × IsFile content h file × IsFoundAt name directory f file × IsCarried content f h file.carried
-  pub none : (content : List (List ℕ)) (heads : List (Option FileHead)) (directory : List (Option File)) (name : List ℕ) → AreFiles content heads directory → NoneNamed heads 64 name → find_file name directory ≡ None
+  pub none : (content : List (List ℕ)) (heads : List (Option FileHead)) (directory : List (Option File)) (name : List ℕ) → AreFiles content heads directory → NoneNamed heads file_limit name → find_file name directory ≡ None
 
 -- a new file's place is the lowest number that has no file, and there is none where all have one
 pub record FindsPlaces : Type 0 where
-  pub lowest : (content : List (List ℕ)) (heads : List (Option FileHead)) (directory : List (Option File)) (f : ℕ) → AreFiles content heads directory → f < 64 → head_at heads f ≡ None → ((g : ℕ) → g < f → head_at heads g ≡ None → ⊥) →
+  pub lowest : (content : List (List ℕ)) (heads : List (Option FileHead)) (directory : List (Option File)) (f : ℕ) → AreFiles content heads directory → f < file_limit → head_at heads f ≡ None → ((g : ℕ) → g < f → head_at heads g ≡ None → ⊥) →
       free_place directory ≡ Some f
-  pub none : (content : List (List ℕ)) (heads : List (Option FileHead)) (directory : List (Option File)) → AreFiles content heads directory → ((g : ℕ) → g < 64 → head_at heads g ≡ None → ⊥) → free_place directory ≡ None
+  pub none : (content : List (List ℕ)) (heads : List (Option FileHead)) (directory : List (Option File)) → AreFiles content heads directory → ((g : ℕ) → g < file_limit → head_at heads g ≡ None → ⊥) → free_place directory ≡ None
 
 -- a block is taken in the world where an extent of a head has it
 abbrev pub TakesBlocks : Type 0
@@ -80,7 +82,7 @@ marked units h = record h { marks = record h.marks { ru = units } }
 
 -- all that files but this one have in one content stands in another
 abbrev pub SameBut : ℕ → List (Option FileHead) → List (List ℕ) → List (List ℕ) → Type 0
-SameBut f heads a b = (g : ℕ) (h : FileHead) → g ≢ f → head_at heads g ≡ Some h → StandsIn h a b
+SameBut f heads a b = (g : ℕ) (h : FileHead) → g ≢ f → head_at heads g ≡ Some h → AgreesOnFile h a b
 
 -- A file was changed from one content to another: its head, its buckets, its records and its layout are those after these changes, while these keys were held.
 pub record IsChanged (held : Key → Bool) (cs : List Change) (a : List (List ℕ)) (h : FileHead) (b : List (List ℕ)) (new : FileHead) : Type 0 where
@@ -137,12 +139,12 @@ saved_head v h = record h { marks = record h.marks { save = true }; save = v }
 -- The files stay those of the heads over each act. How the content changes with it is told by what the keys of the files have. Of an act that has images in
 -- journals, this is what stands before they do: EntersImages says what they make of it.
 pub record KeepsFiles : Type 0 where
-  pub formats : (content : List (List ℕ)) (n : Node) (slots journal : ℕ) → AreFiles content (replicate 64 None) (acted (Formats slots journal) n).durable.directory
+  pub formats : (content : List (List ℕ)) (n : Node) (slots journal : ℕ) → AreFiles content (replicate file_limit None) (acted (Formats slots journal) n).durable.directory
   pub boots : (content : List (List ℕ)) (heads : List (Option FileHead)) (n : Node) → AreFiles content heads n.durable.directory → AreFiles content heads (acted Boots n).durable.directory
   pub draws : (content : List (List ℕ)) (heads : List (Option FileHead)) (n : Node) → AreFiles content heads n.durable.directory → AreFiles content heads (acted Draws n).durable.directory
   pub holds : (content : List (List ℕ)) (heads : List (Option FileHead)) (n : Node) (serial : Id) (name : List ℕ) (keys : List Key) → AreFiles content heads n.durable.directory →
       AreFiles content heads (acted (Holds serial name keys) n).durable.directory
-  pub creates : (content : List (List ℕ)) (heads : List (Option FileHead)) (n : Node) (f : ℕ) (h : FileHead) (file : File) → AreFiles content heads n.durable.directory → f < 64 → IsFile content h file → IsCarried content f h file.carried →
+  pub creates : (content : List (List ℕ)) (heads : List (Option FileHead)) (n : Node) (f : ℕ) (h : FileHead) (file : File) → AreFiles content heads n.durable.directory → f < file_limit → IsFile content h file → IsCarried content f h file.carried →
       AreFiles content (slice_set heads f (Some h)) (acted (Creates f file) n).durable.directory
   pub marks : (content : List (List ℕ)) (heads : List (Option FileHead)) (n : Node) (f : ℕ) (h : FileHead) (name : List ℕ) (units : Bool) → AreFiles content heads n.durable.directory → IsNamed heads f h name →
       AreFiles content (slice_set heads f (Some (marked units h))) (acted (Marks name (ForUnits units)) n).durable.directory
@@ -153,15 +155,15 @@ pub record KeepsFiles : Type 0 where
       AreFiles content (slice_set heads f (Some (ended_head side h))) (acted (Marks name (EndsImages side)) n).durable.directory
   -- a copy of the file's buckets is its save
   pub saves : (a b : List (List ℕ)) (heads : List (Option FileHead)) (n : Node) (f : ℕ) (h : FileHead) (name : List ℕ) (v : Save) → AreFiles a heads n.durable.directory → IsNamed heads f h name →
-      ((g : ℕ) (k : FileHead) → head_at heads g ≡ Some k → StandsIn k a b) → IsOfNow h v → v.position ≡ h.ai.end → v.moment.0 ≡ n.durable.greatest → StandAt h v.start a b →
+      ((g : ℕ) (k : FileHead) → head_at heads g ≡ Some k → AgreesOnFile k a b) → IsOfNow h v → v.position ≡ h.ai.end → v.moment.0 ≡ n.durable.greatest → StandAt h v.start a b →
       AreFiles b (slice_set heads f (Some (saved_head v h))) (acted (Saves name v.start) n).durable.directory
   -- changes of free keys that noted what they found
   pub changes : (a b : List (List ℕ)) (heads : List (Option FileHead)) (n : Node) (f : ℕ) (h new : FileHead) (name : List ℕ) (file : File) (tid serial : Id) (cs : List Change) → AreFiles a heads n.durable.directory → AreUnitsOf n →
-      IsNamed heads f h name → file_at n.durable.directory f ≡ Some file → AreFree serial file cs → Found cs (map_of h a) → IsChanged (is_locked n.volatile.locks name) cs a h b new → StandsCarried h a b → SameBut f heads a b →
+      IsNamed heads f h name → file_at n.durable.directory f ≡ Some file → AreFree serial file cs → Found cs (map_of h a) → IsChanged (is_locked n.volatile.locks name) cs a h b new → AgreesOnCarried h a b → SameBut f heads a b →
       AreFiles b (slice_set heads f (Some new)) (changed_buckets (is_locked n.volatile.locks name) tid serial cs f file n.durable.directory)
   -- changes that are committed at once, in a file that no unsettled branch changed
   pub directs : (a b : List (List ℕ)) (heads : List (Option FileHead)) (n : Node) (f : ℕ) (h new : FileHead) (name : List ℕ) (file : File) (cs : List Change) (s : Settlement) → AreFiles a heads n.durable.directory → s.outcome ≡ Commit →
-      IsNamed heads f h name → file_at n.durable.directory f ≡ Some file → file.history.live ≡ [] → IsChanged (is_locked n.volatile.locks name) cs a h b new → StandsCarried h a b → SameBut f heads a b →
+      IsNamed heads f h name → file_at n.durable.directory f ≡ Some file → file.history.live ≡ [] → IsChanged (is_locked n.volatile.locks name) cs a h b new → AgreesOnCarried h a b → SameBut f heads a b →
       AreFiles b (slice_set heads f (Some new)) (directly_buckets (is_locked n.volatile.locks name) s cs f file n.durable.directory)
   -- an act of the table that settles no branch, and one that commits a branch
   pub tables : (content : List (List ℕ)) (heads : List (Option FileHead)) (n : Node) (a : table.Act) (moment : ℕ) → settlement_of a moment ≡ None → AreFiles content heads n.durable.directory →
@@ -220,8 +222,8 @@ pub record ReadsFiles : Type 0 where
   pub position : (content : List (List ℕ)) (h : FileHead) (position : ℕ) (bytes : List ℕ) → h.organization ≡ Sequential → 1 ≤ position → map_of h content (Number position) ≡ Some bytes →
       drop (position - 1) (records_in h content) ≡ bytes ∷ drop position (records_in h content)
   -- as many records as numbers of 32 bits tell, where a bucket has at most 16 blocks; in a sequential file one more may come
-  pub few : (content : List (List ℕ)) (h : FileHead) (file : File) → IsFile content h file → h.mrn ≤ 4294967295 → h.bucket ≤ 16 → h.used ≤ 65536 → length (in_order file) ≤ 4294967295
-  pub below : (content : List (List ℕ)) (h : FileHead) (file : File) → IsFile content h file → h.organization ≡ Sequential → h.bucket ≤ 16 → h.used ≤ 65536 → h.count < 4294967295
+  pub few : (content : List (List ℕ)) (h : FileHead) (file : File) → IsFile content h file → h.mrn ≤ 4294967295 → h.bucket ≤ 16 → h.used ≤ greatest_disk_size → length (in_order file) ≤ 4294967295
+  pub below : (content : List (List ℕ)) (h : FileHead) (file : File) → IsFile content h file → h.organization ≡ Sequential → h.bucket ≤ 16 → h.used ≤ greatest_disk_size → h.count < 4294967295
   -- there are records that the keys have
   pub some : (content : List (List ℕ)) (h : FileHead) → any.IsFile h → IsLaidOut h content → (m : Records) × ((key : Key) → get m key ≡ map_of h content key)
 
@@ -235,26 +237,26 @@ pub record ShowsRecords : Type 0 where
 
 -- contents in which all that each file has stands have the same files
 abbrev pub StandsOnExtents : Type 0
-StandsOnExtents = (a b : List (List ℕ)) (heads : List (Option FileHead)) (directory : List (Option File)) → ((f : ℕ) (h : FileHead) → head_at heads f ≡ Some h → StandsIn h a b) → AreFiles a heads directory → AreFiles b heads directory
+StandsOnExtents = (a b : List (List ℕ)) (heads : List (Option FileHead)) (directory : List (Option File)) → ((f : ℕ) (h : FileHead) → head_at heads f ≡ Some h → AgreesOnFile h a b) → AreFiles a heads directory → AreFiles b heads directory
 
 -- Files whose extents fit lie in the area, and apart: a block of one is none of another. A file's blocks are counted from 518 on, as in the content.
 pub record LieApart : Type 0 where
   pub lies : (area : Area) (heads : List (Option FileHead)) (f : ℕ) (h : FileHead) → Fit area heads → head_at heads f ≡ Some h → 1 ≤ h.alloc * h.bucket → (area.start ≤ h.start) × (h.start + h.alloc * h.bucket ≤ area.end)
   pub run_lies : (area : Area) (heads : List (Option FileHead)) (start blocks : ℕ) → IsFreeRun area (all_extents heads) start blocks → 1 ≤ blocks → (area.start ≤ start) × (start + blocks ≤ area.end)
-  pub within : (area : Area) (heads : List (Option FileHead)) (f n : ℕ) (h : FileHead) → Fit area heads → head_at heads f ≡ Some h → in_extent h n ≡ true → (area.start ≤ n + 518) × (n + 518 < area.end)
+  pub within : (area : Area) (heads : List (Option FileHead)) (f n : ℕ) (h : FileHead) → Fit area heads → head_at heads f ≡ Some h → in_extent h n ≡ true → (area.start ≤ n + content_start) × (n + content_start < area.end)
   pub apart : (area : Area) (heads : List (Option FileHead)) (f g n : ℕ) (h other : FileHead) → Fit area heads → g ≢ f → head_at heads f ≡ Some h → head_at heads g ≡ Some other → in_extent h n ≡ true → in_extent other n ≡ false
   -- nor is a block of a free run
   pub free : (area : Area) (heads : List (Option FileHead)) (g n : ℕ) (h other : FileHead) → Fit area heads → IsFreeRun area (all_extents heads) h.start (h.alloc * h.bucket) → head_at heads g ≡ Some other → in_extent h n ≡ true → in_extent other n ≡ false
 
 -- the block of the content of this number is one of so many blocks
 abbrev pub in_blocks : (start blocks : ℕ) → ℕ → Bool
-in_blocks start blocks n = nat_le (start - 518) n && nat_lt n (start - 518 + blocks)
+in_blocks start blocks n = nat_le (start - content_start) n && nat_lt n (start - content_start + blocks)
 
 -- In contents of whole blocks, what is written in one file's buckets leaves the other files and what it carries itself. What is written in the ring of one of its
 -- journals leaves the other files, its buckets, its other journal and its save; and so on. What is written in a free run leaves all, and so does what is written
 -- before the area.
 pub record WritesApart : Type 0 where
-  pub in_file : (area : Area) (heads : List (Option FileHead)) (f : ℕ) (h : FileHead) (a b : List (List ℕ)) → Fit area heads → head_at heads f ≡ Some h → AgreesOff (in_extent h) a b → EachWhole b → SameBut f heads a b × StandsCarried h a b
+  pub in_file : (area : Area) (heads : List (Option FileHead)) (f : ℕ) (h : FileHead) (a b : List (List ℕ)) → Fit area heads → head_at heads f ≡ Some h → AgreesOff (in_extent h) a b → EachWhole b → SameBut f heads a b × AgreesOnCarried h a b
   pub in_after : (area : Area) (heads : List (Option FileHead)) (f : ℕ) (h : FileHead) (a b : List (List ℕ)) → Fit area heads → head_at heads f ≡ Some h → AgreesOff (in_blocks h.ai.start h.ai.blocks) a b → EachWhole b →
       SameBut f heads a b × AgreesOn h a b × SameRing h.bi a b × AgreesOn (save_head h) a b
   pub in_before : (area : Area) (heads : List (Option FileHead)) (f : ℕ) (h : FileHead) (a b : List (List ℕ)) → Fit area heads → head_at heads f ≡ Some h → AgreesOff (in_blocks h.bi.start h.bi.blocks) a b → EachWhole b →
@@ -262,14 +264,14 @@ pub record WritesApart : Type 0 where
   pub in_save : (area : Area) (heads : List (Option FileHead)) (f : ℕ) (h : FileHead) (a b : List (List ℕ)) → Fit area heads → head_at heads f ≡ Some h → AgreesOff (in_extent (save_head h)) a b → EachWhole b →
       SameBut f heads a b × AgreesOn h a b × SameRing h.ai a b × SameRing h.bi a b
   pub in_free : (area : Area) (heads : List (Option FileHead)) (start blocks : ℕ) (a b : List (List ℕ)) → Fit area heads → IsFreeRun area (all_extents heads) start blocks → AgreesOff (in_blocks start blocks) a b → EachWhole b →
-      (f : ℕ) (other : FileHead) → head_at heads f ≡ Some other → StandsIn other a b
-  pub before : (area : Area) (heads : List (Option FileHead)) (a b : List (List ℕ)) → Fit area heads → length b ≡ length a → EachWhole b → ((n : ℕ) → area.start ≤ n + 518 → block_at a n ≡ block_at b n) →
-      (f : ℕ) (h : FileHead) → head_at heads f ≡ Some h → StandsIn h a b
+      (f : ℕ) (other : FileHead) → head_at heads f ≡ Some other → AgreesOnFile other a b
+  pub before : (area : Area) (heads : List (Option FileHead)) (a b : List (List ℕ)) → Fit area heads → length b ≡ length a → EachWhole b → ((n : ℕ) → area.start ≤ n + content_start → block_at a n ≡ block_at b n) →
+      (f : ℕ) (h : FileHead) → head_at heads f ≡ Some h → AgreesOnFile h a b
 
 -- The extents fit and names are of one file, also where a file is made in a free run under a new name, is marked, or is changed.
 pub record KeepsHeads : Type 0 where
-  pub creates : (area : Area) (heads : List (Option FileHead)) (f : ℕ) (form : Form) (h : FileHead) → Fit area heads → f < 64 → IsNewHead form h → IsFreeRun area (all_extents heads) h.start (h.alloc * h.bucket) → Fit area (slice_set heads f (Some h))
-  pub creates_named : (heads : List (Option FileHead)) (f : ℕ) (h : FileHead) → AreNamedOnce heads → length heads ≡ 64 → NoneNamed heads 64 h.name → AreNamedOnce (slice_set heads f (Some h))
+  pub creates : (area : Area) (heads : List (Option FileHead)) (f : ℕ) (form : Form) (h : FileHead) → Fit area heads → f < file_limit → IsNewHead form h → IsFreeRun area (all_extents heads) h.start (h.alloc * h.bucket) → Fit area (slice_set heads f (Some h))
+  pub creates_named : (heads : List (Option FileHead)) (f : ℕ) (h : FileHead) → AreNamedOnce heads → length heads ≡ file_limit → NoneNamed heads file_limit h.name → AreNamedOnce (slice_set heads f (Some h))
   pub marks : (area : Area) (heads : List (Option FileHead)) (f : ℕ) (h : FileHead) (units : Bool) → Fit area heads → head_at heads f ≡ Some h → Fit area (slice_set heads f (Some (marked units h)))
   pub marks_named : (heads : List (Option FileHead)) (f : ℕ) (h : FileHead) (units : Bool) → AreNamedOnce heads → head_at heads f ≡ Some h → AreNamedOnce (slice_set heads f (Some (marked units h)))
   pub changes : (area : Area) (heads : List (Option FileHead)) (f : ℕ) (h new : FileHead) → Fit area heads → head_at heads f ≡ Some h → SameFile h new → Fit area (slice_set heads f (Some new))

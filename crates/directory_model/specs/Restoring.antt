@@ -2,6 +2,7 @@
 use Rattle.std.specs.Prelude.{◌≡◌, ℕ, ◌≤◌, List, Option, Some, None, length, map}
 use Rattle.std.specs.List.{AllByRecursion}
 use Rattle.std.specs.FinMap.{get}
+use Rattle.vms_model.specs.Limits.{file_limit}
 use Rattle.file_base.specs.declared.head.FileHead.{FileHead}
 use Rattle.file_base.specs.declared.head.Organization.{Organization as Kept}
 use Rattle.file_base.specs.declared.head.Organization.TheVariants as kept
@@ -23,7 +24,7 @@ use Rattle.unit_laws.specs.Units.{map_in, earliest_before, with_before_images, H
 use Rattle.unit_laws.specs.Journal.{Journal}
 use Rattle.unit_laws.specs.Layouts.{layout_restored}
 use Rattle.run_model.specs.World.{File, IsPreparedUnit}
-use Rattle.directory_model.specs.Files.{IsCarried, IsHeadOf, StandsCarried, head_at, file_at, layout_of}
+use Rattle.directory_model.specs.Files.{IsCarried, IsHeadOf, AgreesOnCarried, head_at, file_at, layout_of}
 
 -- a slot but for its record
 abbrev pub bare : Slot → Slot
@@ -81,8 +82,8 @@ IsPlaceLeft content f (Some h) (Some file) = IsLeft content h file × IsCarried 
 
 -- so of each of the 64 file numbers
 pub record AreLeft (content : List (List ℕ)) (heads : List (Option FileHead)) (directory : List (Option File)) : Type 0 where
-  pub heads_long : length heads ≡ 64
-  pub directory_long : length directory ≡ 64
+  pub heads_long : length heads ≡ file_limit
+  pub directory_long : length directory ≡ file_limit
   pub each : (f : ℕ) → IsPlaceLeft content f (head_at heads f) (file_at directory f)
 
 -- what branches that are prepared changed in a file stands there as they left it
@@ -125,7 +126,7 @@ IsPlaceRestored serial a h file b new = ⊥
 pub record AreRestored (serial : Id) (a : List (List ℕ)) (heads : List (Option FileHead)) (directory : List (Option File)) (b : List (List ℕ)) (new : List (Option FileHead)) : Type 0 where
   pub long : length new ≡ length heads
   pub each : (f : ℕ) → IsPlaceRestored serial a (head_at heads f) (file_at directory f) b (head_at new f)
-  pub carried : (f : ℕ) (h : FileHead) → head_at heads f ≡ Some h → StandsCarried h a b
+  pub carried : (f : ℕ) (h : FileHead) → head_at heads f ≡ Some h → AgreesOnCarried h a b
 
 -- A group of an undo was applied to a file: each key that an unsettled branch changed has one of the images of its changes, all others have what they had,
 -- slots and rooms stay, and what is not restored yet can be.
@@ -146,4 +147,4 @@ IsPlaceGrouped a h file b new = ⊥
 pub record AreGrouped (a : List (List ℕ)) (heads : List (Option FileHead)) (directory : List (Option File)) (b : List (List ℕ)) (new : List (Option FileHead)) : Type 0 where
   pub long : length new ≡ length heads
   pub each : (f : ℕ) → IsPlaceGrouped a (head_at heads f) (file_at directory f) b (head_at new f)
-  pub carried : (f : ℕ) (h : FileHead) → head_at heads f ≡ Some h → StandsCarried h a b
+  pub carried : (f : ℕ) (h : FileHead) → head_at heads f ≡ Some h → AgreesOnCarried h a b

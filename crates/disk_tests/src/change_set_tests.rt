@@ -1,6 +1,8 @@
 //! The laws hold, and a bucket is staged and read back.
 ghost use Rattle.std.specs.Prelude.{◌≡◌, ◌≤◌, ◌+◌, ℕ, length, replicate, OnOk};
 ghost use Rattle.frame_pool.specs.Pool.{IsOut};
+ghost use Rattle.block_disk.specs.Sizes.{least_disk_size};
+ghost use Rattle.careful_write.specs.Sizes.{staged_limit};
 ghost use Rattle.change_set.specs.Buckets.{with_frame};
 ghost use Rattle.change_set.specs.Files.{free_frames};
 
@@ -24,8 +26,8 @@ fn fill<D: Disk>(store: &mut Store<D>, frame: &Frame, byte: u8)
 // Stages a bucket that is filled with a byte, and tells whether the frame reads the same back.
 fn stages_and_reads<D: Disk>(store: &mut Store<D>, frame: &Frame, byte: u8) -> Result<bool, Down>
     requires out { IsOut store.old.pool frame.now }
-    requires size { 4096 ≤ store.old.disk.size }
-    requires room { length store.old.touched ≤ 64 }
+    requires size { least_disk_size ≤ store.old.disk.size }
+    requires room { length store.old.touched ≤ staged_limit }
     ensures still_out { IsOut store.new.pool frame.now }
 {
     fill(store, frame, byte);
@@ -38,8 +40,8 @@ fn stages_and_reads<D: Disk>(store: &mut Store<D>, frame: &Frame, byte: u8) -> R
 
 fn in_a_frame<D: Disk>(store: &mut Store<D>) -> Result<bool, Down>
     requires frames { 1 ≤ free_frames store.old.pool }
-    requires size { 4096 ≤ store.old.disk.size }
-    requires room { length store.old.touched ≤ 64 }
+    requires size { least_disk_size ≤ store.old.disk.size }
+    requires room { length store.old.touched ≤ staged_limit }
 {
     let frame = take_frame(store);
     let same = stages_and_reads(store, &frame, 7);

@@ -10,8 +10,8 @@ use Rattle.run_model.specs.World.{Node}
 use Rattle.run_model.specs.Transcript.{AreOpening}
 use Rattle.transcript_model.specs.Script.{lines_of}
 use Rattle.script_model.specs.Command.{is_run_form}
-use Rattle.dtm_run.specs.Calls.{TellsOver}
-use Rattle.dtm_run.specs.Headline.{is_command, StandOn, Unread}
+use Rattle.dtm_run.specs.Calls.{DisksFollowRun}
+use Rattle.dtm_run.specs.Headline.{DisksRepresent, is_command, Unread}
 use Rattle.dtm_run.specs.Leading.{RunOver}
 use Rattle.dtm_command.specs.Images.{Store, IsImageOf, images_of}
 use Rattle.dtm.specs.Images.{IsFilled}
@@ -22,9 +22,9 @@ pub record CommandRan {File Image : Type 0} (store : Store File Image) (state : 
   pub rack : Rack Image
   pub filled : IsFilled (IsImageOf store state) (λ image. (state image).size) (images_of words) [] [] (names_in rack) (disks_in rack)
   pub names : names_in left ≡ names_in rack
-  pub ran : is_run_form (names_in rack) words ≡ true → (nodes : List Node) → AreOpening nodes → StandOn (names_in rack) (states_in state rack) nodes → RunOver (names_in rack) nodes (states_in state rack) (states_in state left) script old new ended
+  pub ran : is_run_form (names_in rack) words ≡ true → (nodes : List Node) → AreOpening nodes → DisksRepresent (names_in rack) (states_in state rack) nodes → RunOver (names_in rack) nodes (states_in state rack) (states_in state left) script old new ended
   -- Whether or not the images tell their content.
-  pub calls : is_run_form (names_in rack) words ≡ true → TellsOver (names_in rack) (states_in state rack) (states_in state left) (option_map lines_of script) old new ended
+  pub calls : is_run_form (names_in rack) words ≡ true → DisksFollowRun (names_in rack) (states_in state rack) (states_in state left) (option_map lines_of script) old new ended
   pub usage : is_command (names_in rack) words ≡ false → (ended ≡ exit.Memory) ⊎ Unread old new ended
   pub commanded : is_command (names_in rack) words ≡ true → ended ≡ exit.Usage → ⊥
   -- Words that are no command, and a run for which memory is missing, leave the script and the disks as they were.

@@ -12,7 +12,7 @@ use Rattle.run_model.specs.Transcript.{AreOpening}
 use Rattle.script_model.specs.Command.{is_run_form}
 use Rattle.day_model.specs.Command.{Asked, day_asked}
 use Rattle.dtm_run.specs.Days.{DayRan, DayTold}
-use Rattle.dtm_run.specs.Headline.{is_command, StandOn, Unread}
+use Rattle.dtm_run.specs.Headline.{DisksRepresent, is_command, Unread}
 
 -- whether MAKE stands behind the program's name
 abbrev pub is_for_a_day : List (List ℕ) → Bool
@@ -35,9 +35,9 @@ pub record DayCommandRan {Image : Type 0} (state : Image → DiskState) (words :
   pub nodes : names_in rack ≡ codes "A" ∷ (codes "B" ∷ [])
   pub blank : AllByRecursion IsBlank (states_in state rack)
   -- On these disks there stand nodes as before a first line, so that what a day promises from such nodes on holds.
-  pub begins : (nodes : List Node) × AreOpening nodes × StandOn (names_in rack) (states_in state rack) nodes
+  pub begins : (nodes : List Node) × AreOpening nodes × DisksRepresent (names_in rack) (states_in state rack) nodes
   pub names : names_in left ≡ names_in rack
-  pub makes : (asked : Asked) → day_asked (names_in rack) words ≡ Some asked → (nodes : List Node) → AreOpening nodes → StandOn (names_in rack) (states_in state rack) nodes →
+  pub makes : (asked : Asked) → day_asked (names_in rack) words ≡ Some asked → (nodes : List Node) → AreOpening nodes → DisksRepresent (names_in rack) (states_in state rack) nodes →
       (ended ≡ exit.Memory) ⊎ DayRan nodes (states_in state rack) (states_in state left) asked.count asked.start old new ended
   pub made : (asked : Asked) → day_asked (names_in rack) words ≡ Some asked → (ended ≡ exit.Memory) ⊎ DayTold (names_in rack) (states_in state rack) (states_in state left) asked.count asked.start old new ended
   pub unread_day : is_run_form (names_in rack) words ≡ false → rest ≡ script

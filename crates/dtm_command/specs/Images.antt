@@ -5,6 +5,7 @@ use Rattle.std.specs.Str.{bytes_eq}
 use Rattle.block_disk.specs.Disk.{DiskState}
 use Rattle.vms_model.specs.Names.{node_named}
 use Rattle.vms_model.specs.Words.{parted_at}
+use Rattle.block_disk.specs.Sizes.{greatest_disk_size, least_disk_size}
 use Rattle.script_model.specs.LineWords.{is_empty}
 
 -- whether a word begins with a dash
@@ -59,8 +60,8 @@ pub record IsImageOf {File Image : Type 0} (store : Store File Image) (state : I
   pub file : File
   pub of_path : IsFileOf store path file
   pub whole : store.has_bytes file (512 * (state image).size)
-  pub low : 4096 ≤ (state image).size
-  pub high : (state image).size ≤ 65536
+  pub low : least_disk_size ≤ (state image).size
+  pub high : (state image).size ≤ greatest_disk_size
   pub settled : (state image).pending ≡ []
   pub over : store.over file image
 
@@ -69,4 +70,4 @@ pub record IsWrongSize {File Image : Type 0} (store : Store File Image) (path : 
   pub file : File
   pub of_path : IsFileOf store path file
   pub has : store.has_bytes file bytes
-  pub wrong : (blocks : ℕ) → 4096 ≤ blocks → blocks ≤ 65536 → bytes ≡ 512 * blocks → ⊥
+  pub wrong : (blocks : ℕ) → least_disk_size ≤ blocks → blocks ≤ greatest_disk_size → bytes ≡ 512 * blocks → ⊥

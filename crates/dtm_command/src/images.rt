@@ -1,6 +1,7 @@
 //! The images that a command names.
 ghost use Rattle.std.specs.Prelude.{◌≡◌, ◌≤◌, ◌*◌, ℕ, List, IfOk, IfErr, IfSome, OnErr, Some, MatchOption, []};
 ghost use Rattle.std.specs.Option.{option_map};
+ghost use Rattle.block_disk.specs.Sizes.{greatest_disk_size, least_disk_size};
 ghost use Rattle.script_model.specs.Command.{is_disk_of};
 ghost use Rattle.dtm_command.specs.Images.{node_and_image as node_and_image_of, is_for, Store, IsFileOf, IsImageOf};
 ghost use Rattle.dtm_command.specs.Causes.{WhyUnopened};
@@ -87,9 +88,9 @@ pub enum OpenErr<'a> {
 }
 
 /// How many whole blocks a file of so many bytes has, where a node can have so many.
-pub(crate) fn blocks_in(bytes: u64) -> Option<u32>
-    ensures whole { IfSome result (λ blocks. (512 * blocks ≡ bytes) × (4096 ≤ blocks) × (blocks ≤ 65536)) }
-    ensures each { (blocks : ℕ) → 4096 ≤ blocks → blocks ≤ 65536 → bytes ≡ 512 * blocks → result ≡ Some blocks }
+pub fn blocks_in(bytes: u64) -> Option<u32>
+    ensures whole { IfSome result (λ blocks. (512 * blocks ≡ bytes) × (least_disk_size ≤ blocks) × (blocks ≤ greatest_disk_size)) }
+    ensures each { (blocks : ℕ) → least_disk_size ≤ blocks → blocks ≤ greatest_disk_size → bytes ≡ 512 * blocks → result ≡ Some blocks }
 {
     let blocks = bytes / BLOCK_BYTES;
     if bytes % BLOCK_BYTES == 0 && FEWEST_BLOCKS <= blocks && blocks <= MOST_BLOCKS {

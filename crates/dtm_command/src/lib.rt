@@ -8,10 +8,7 @@ mod watch;
 mod words;
 
 pub use help::{bad_line, said_of_images, too_long, usage};
-pub use images::{Failed, ImageFiles, OpenErr, Refusal, node_and_image, open_image};
+pub use images::{Failed, ImageFiles, OpenErr, Refusal, blocks_in, node_and_image, open_image};
 pub use system::{SystemFiles, hold_streams};
 pub use watch::{Tail, WatchedSink, WatchedSource};
 pub use words::image_words;
-
-#[cfg(test)]
-mod tests;

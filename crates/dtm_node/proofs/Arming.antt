@@ -16,9 +16,9 @@ use Rattle.run_shared.specs.Sharing.{SharedState}
 use Rattle.volume.specs.State.{VolumeState}
 use Rattle.node_table.specs.Standing.{IsUp, Up}
 use Rattle.node_standing.specs.Keeping.{PerformsRequest}
-use Rattle.node_standing.specs.Standing.{IsDown, IsRunning, Kept, Place, StandsIn, counts_of, disk_in, is_up}
+use Rattle.node_standing.specs.Standing.{IsDown, IsRunning, NodeState, Place, PlaceRepresents, counts_of, disk_in, is_up}
 use Rattle.dtm_node.specs.Nodes.{place_armed}
-use Rattle.node_standing.specs.Telling.{Passes, TellsTask, said_shared}
+use Rattle.node_standing.specs.Telling.{DiskAdvancesOverCalls, TellsTask, said_shared}
 use Rattle.dtm_node.proofs.Answered.{calm_answers}
 use Rattle.dtm_node.proofs.DiskLemmas.{disk_kept}
 use Rattle.dtm_node.proofs.Held.{holds_same}
@@ -31,7 +31,7 @@ armed_volume writes choice v = record v { store = record v.store { disk = armed 
 kept_armed : (writes choice : ℕ) (s : UnitsState) (v : VolumeState) (n : Node) → IsKept s v n → IsKept s (armed_volume writes choice v) n
 kept_armed writes choice s v n h = record { content = h.content; told = h.told; name = h.name; blocks = h.blocks; has = h.has; log = h.log; branches = h.branches; locks = h.locks; each = h.each }
 
-armed_stands : KeepsNodes → (writes choice clock : ℕ) (p : Place) (n : Node) → StandsIn clock p n → StandsIn clock (place_armed writes choice p) (acted (Arms writes choice) n)
+armed_stands : KeepsNodes → (writes choice clock : ℕ) (p : Place) (n : Node) → PlaceRepresents clock p n → PlaceRepresents clock (place_armed writes choice p) (acted (Arms writes choice) n)
 armed_stands law writes choice clock (IsDown has_parts d) n s = record {
   down = s.down;
   reserved = s.reserved;
@@ -71,8 +71,8 @@ or_true false = refl
 fuse_plain : (writes choice : ℕ) → IsPlain (service (Fuse writes choice)) false
 fuse_plain writes choice = record { powers = refl; occupies = refl; closing = refl; closing_lines = λ n. refl; goes = refl }
 
-module _ (writes choice : ℕ) (k : Kept) (s : SharedState) (a b : Shown) (shows : Emits a (line.Normal ∷ []) b) where
-  abbrev pub kept_armed_so : Kept
+module _ (writes choice : ℕ) (k : NodeState) (s : SharedState) (a b : Shown) (shows : Emits a (line.Normal ∷ []) b) where
+  abbrev pub kept_armed_so : NodeState
   kept_armed_so = record k { place = place_armed writes choice k.place }
 
   pub fuse_tells : TellsTask (Serves (Fuse writes choice)) true false k s a b kept_armed_so s
@@ -86,7 +86,7 @@ module _ (writes choice : ℕ) (k : Kept) (s : SharedState) (a b : Shown) (shows
     says = ap (λ (u : Bool). record { nodes = record { name = k.name; up = u; unmade = k.unmade } ∷ []; shared = said_shared s }) (sym (armed_up writes choice k.place));
     calls = ap (λ (d : DiskState). d.calls) (armed_disk writes choice k.place);
     failures = λ cause i counted. absurd i;
-    passes = subst (λ d. Passes (disk_in k.place) d) (sym (armed_disk writes choice k.place)) (record { size = refl; faults = λ c. omega arith; stops = λ c. omega arith; counted = λ c. c; told = refl });
+    passes = subst (λ d. DiskAdvancesOverCalls (disk_in k.place) d) (sym (armed_disk writes choice k.place)) (record { size = refl; faults = λ c. omega arith; stops = λ c. omega arith; counted = λ c. c; told = refl });
     quiet = λ x. refl;
     fused = λ w c q. refl;
     boots = λ q. (let f : ⊥ = cc in absurd f);

@@ -27,9 +27,9 @@ use Rattle.commit_protocol.specs.Messages.{Message}
 use Rattle.dtm_node.specs.Boots.{IsBootRefusal}
 use Rattle.node_standing.specs.Keeping.{IsPromised, Performs}
 use Rattle.dtm_node.specs.Opening.{EndsBoot, EndsTask, boots_node, kept_down, used}
-use Rattle.node_standing.specs.Standing.{StandsFor, counts_of}
+use Rattle.node_standing.specs.Standing.{RepresentsNode, counts_of}
 use Rattle.node_standing.specs.Holding.{HoldsAs}
-use Rattle.node_standing.specs.Telling.{AnswersTask, Passes, TellsTask, may_answer_task, powered_task, said_alone, said_shared}
+use Rattle.node_standing.specs.Telling.{AnswersTask, DiskAdvancesOverCalls, TellsTask, may_answer_task, powered_task, said_alone, said_shared}
 use Rattle.dtm_node.proofs.Answered.{boot_may, calm_answers, fell_answers, restart_may}
 use Rattle.dtm_node.proofs.BootSteps.{IsBoot, boot_is, in_use, restart_is}
 use Rattle.node_requests.proofs.SaysLemmas.{all_on, alone_down, down_behind, lines_calm, lines_on, own_calm, with_wire}
@@ -64,7 +64,7 @@ pub record IsEnding (name : List ℕ) (lines : List Line) (answer : Line) (power
   pub may : ends_boot_by answer ≡ true
   pub answers : (task : Task) → (task ≡ Serves said.Crash → ⊥) → (refusal : Option Line) → (refusal ≡ None → may_answer_task task true answer ≡ true) → AnswersTask task name refusal lines answer true
 
-module _ (name : List ℕ) (clock : ℕ) (has_parts has_then : Bool) (d0 d : DiskState) (lines : List Line) (answer : Line) (powers uses : Bool) (e : IsEnding name lines answer powers uses) (passes : Passes d0 d)
+module _ (name : List ℕ) (clock : ℕ) (has_parts has_then : Bool) (d0 d : DiskState) (lines : List Line) (answer : Line) (powers uses : Bool) (e : IsEnding name lines answer powers uses) (passes : DiskAdvancesOverCalls d0 d)
     (calls : d.calls ≡ (let cs : CallLog = if powers then noted (disk_call.Power d0.stops) d0.calls else d0.calls in cs))
     (failures : (cause : Cause) → In (line.Down name cause) lines → IsCounted d0 → Rose (count_of cause (counts_of d0)) (count_of cause (counts_of d)))
     (held : powers && not (is_boot_refusal answer) ≡ false → HoldsAs d0 d) where
@@ -116,7 +116,7 @@ module _ (name : List ℕ) (clock : ℕ) (has_parts has_then : Bool) (d0 d : Dis
         used_said false h = refl
 
   -- with its step at each node of the world
-  pub ends_boot : ((t : Task) (p : IsBoot t) (log : CallLog) (w : Shared) (n : Node) (h : StandsFor log (kept_down name clock has_parts d0) n) → refused_before_reading w n (task_service t) ≡ None → IsKeptNode w n → IsPromised Restarts n → (s : SharedState) → IsShared s w → (a b : Shown) → Emits a (lines ++ answer ∷ []) b
+  pub ends_boot : ((t : Task) (p : IsBoot t) (log : CallLog) (w : Shared) (n : Node) (h : RepresentsNode log (kept_down name clock has_parts d0) n) → refused_before_reading w n (task_service t) ≡ None → IsKeptNode w n → IsPromised Restarts n → (s : SharedState) → IsShared s w → (a b : Shown) → Emits a (lines ++ answer ∷ []) b
       → Performs log w n (counts_of d0) t true true a b (kept_down name clock has_then d) (if uses then used s else s)) → EndsBoot (kept_down name clock has_parts d0) lines answer uses (kept_down name clock has_then d)
   ends_boot performs = λ task is s in_use_before a b m. each_boot (λ t. (t ≡ Restarts → s.in_use ≡ true) → EndsTask t (kept_down name clock has_parts d0) s a b (kept_down name clock has_then d) (if uses then used s else s))
       (λ u. (boot_ends s a b m, λ log n w h share kept promised. performs (Serves Boot) boot_is log w n h (early_boot w n h.place.down h.unmade) kept promised s share a b m))

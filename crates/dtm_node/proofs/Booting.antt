@@ -16,19 +16,19 @@ use Rattle.recovery_units.specs.Calls.{BreaksAfter, IsRestarting, after_undone, 
 use Rattle.recovery_units.specs.Told.{ReopenedTold}
 use Rattle.recovery_units.specs.declared.settled.SettledUnit.{SettledUnit}
 use Rattle.run_shared.specs.Sharing.{IsShared, SharedState}
-use Rattle.node_table.specs.Standing.{StandsUp, Up}
+use Rattle.node_table.specs.Standing.{Up, UpRepresents}
 use Rattle.dtm_node.specs.Boots.{IsAwake}
 use Rattle.node_standing.specs.Keeping.{Performs}
 use Rattle.dtm_node.specs.Nodes.{last_lines_of, undone_line}
 use Rattle.dtm_node.specs.Opening.{Wakes, kept_down}
-use Rattle.node_standing.specs.Standing.{StandsFor, counts_of, disk_of, noted_all}
-use Rattle.node_standing.specs.Telling.{Passes}
+use Rattle.node_standing.specs.Standing.{RepresentsNode, counts_of, disk_of, noted_all}
+use Rattle.node_standing.specs.Telling.{DiskAdvancesOverCalls}
 use Rattle.dtm_node.proofs.BootSteps.{IsBoot, in_use, step_barred, step_fell, step_lacking, step_risen, step_unpowered}
 use Rattle.dtm_node.proofs.DiskLemmas.{disk_kept}
 use Rattle.dtm_node.proofs.Performing.{kept_fallen, kept_up}
 use Rattle.dtm_node.proofs.Restarting.{all_rows, told_few, undone_begun, undone_count, undone_nodes, undone_rows, undone_same, undone_shared, undone_shown}
 
-module _ (log : CallLog) (s : Shared) (n : Node) (name : List ℕ) (clock : ℕ) (has_parts : Bool) (d0 : DiskState) (h : StandsFor log (kept_down name clock has_parts d0) n) (t : Task) (p : IsBoot t) (early : refused_before_reading s n (task_service t) ≡ None) where
+module _ (log : CallLog) (s : Shared) (n : Node) (name : List ℕ) (clock : ℕ) (has_parts : Bool) (d0 : DiskState) (h : RepresentsNode log (kept_down name clock has_parts d0) n) (t : Task) (p : IsBoot t) (early : refused_before_reading s n (task_service t) ≡ None) where
   -- memory is missing
   pub boot_lacks : (a b : Shown) (after : SharedState) → has_parts ≡ false → IsShared after s → Emits a (line.NoMemory ∷ []) b → Performs log s n (counts_of d0) t true true a b (kept_down name clock has_parts d0) after
   boot_lacks a b after none share shows = record {
@@ -46,7 +46,7 @@ module _ (log : CallLog) (s : Shared) (n : Node) (name : List ℕ) (clock : ℕ)
       never false e = e
       never true e = absurd (let q : true ≡ false = sym (h.place.reserved e) ∙ none in (let f : ⊥ = cc in f))
 
-  module _ (after : SharedState) (share : IsShared after (in_use s)) (d : DiskState) (passes : Passes d0 d) (calls : d.calls ≡ noted (disk_call.Power d0.stops) d0.calls) where
+  module _ (after : SharedState) (share : IsShared after (in_use s)) (d : DiskState) (passes : DiskAdvancesOverCalls d0 d) (calls : d.calls ≡ noted (disk_call.Power d0.stops) d0.calls) where
     -- the disk does not run again
     pub boot_unpowered : (a b : Shown) → d.pending ≡ d0.pending → d.seen ≡ d0.seen → Rose (count_of Failed (counts_of d0)) (count_of Failed (counts_of d)) → Emits a (line.Down name Failed ∷ line.Broken Failed ∷ []) b → Performs log s n (counts_of d0) t true true a b (kept_fallen name clock d) after
     boot_unpowered a b pending seen rose m = record {
@@ -79,9 +79,9 @@ module _ (log : CallLog) (s : Shared) (n : Node) (name : List ℕ) (clock : ℕ)
     woken_down : woken.up ≡ false
     woken_down = x.woken.up ∙ h.place.down
 
-    module _ (d : DiskState) (passes : Passes d0 d) (calls : d.calls ≡ noted (disk_call.Power d0.stops) d0.calls) where
+    module _ (d : DiskState) (passes : DiskAdvancesOverCalls d0 d) (calls : d.calls ≡ noted (disk_call.Power d0.stops) d0.calls) where
       -- a node that is down, as the one that woke but for its disk and its table
-      down_stands : (m : Node) → m.name ≡ woken.name → m.blocks ≡ woken.blocks → m.clock ≡ woken.clock → m.unmade ≡ woken.unmade → m.calls ≡ woken.calls → m.up ≡ false → HasDisk m d → StandsFor log (kept_fallen name clock d) m
+      down_stands : (m : Node) → m.name ≡ woken.name → m.blocks ≡ woken.blocks → m.clock ≡ woken.clock → m.unmade ≡ woken.unmade → m.calls ≡ woken.calls → m.up ≡ false → HasDisk m d → RepresentsNode log (kept_fallen name clock d) m
       down_stands m named blocks clocked made called down has = record {
         name = named ∙ x.woken.name ∙ h.name;
         blocks = blocks ∙ x.woken.blocks ∙ h.blocks ∙ sym passes.size;
@@ -147,7 +147,7 @@ module _ (log : CallLog) (s : Shared) (n : Node) (name : List ℕ) (clock : ℕ)
         (subst (λ (ks : List Line). Emits a (ks ++ (map undone_line told ++ ls)) b) (sym (last_is v r)) m)
 
     -- the disk went down in it
-    pub boot_broke : (v : VolumeState) (told : ReopenedTold) (cause : Cause) (d : DiskState) (passes : Passes d0 d) (calls : d.calls ≡ noted (disk_call.Power d0.stops) d0.calls) (after : SharedState) → IsShared after (in_use s) → (a b : Shown) → bootable woken ≡ None → IsRestarting v raised → BreaksAfter told raised d
+    pub boot_broke : (v : VolumeState) (told : ReopenedTold) (cause : Cause) (d : DiskState) (passes : DiskAdvancesOverCalls d0 d) (calls : d.calls ≡ noted (disk_call.Power d0.stops) d0.calls) (after : SharedState) → IsShared after (in_use s) → (a b : Shown) → bootable woken ≡ None → IsRestarting v raised → BreaksAfter told raised d
         → Rose (count_of cause (counts_of d0)) (count_of cause (counts_of d)) → Emits a (last_lines_of v.catalog.home ++ (map undone_line told.settled ++ line.Down name cause ∷ line.Broken cause ∷ [])) b → Performs log s n (counts_of d0) t true true a b (kept_fallen name clock d) after
     boot_broke v told cause d passes calls after share a b free r broke rose m =
         let k = length told.settled in
@@ -173,7 +173,7 @@ module _ (log : CallLog) (s : Shared) (n : Node) (name : List ℕ) (clock : ℕ)
         }
 
     -- The node is up: a step with what the task shows then, and its answer.
-    pub boot_risen : (told : ReopenedTold) (new : Up) (passes : Passes d0 (disk_of new)) → bootable woken ≡ None → told_in told.settled ≡ settlements_of (length units) raised units
+    pub boot_risen : (told : ReopenedTold) (new : Up) (passes : DiskAdvancesOverCalls d0 (disk_of new)) → bootable woken ≡ None → told_in told.settled ≡ settlements_of (length units) raised units
         → NodeStep s n (counts_of d0) t (shown_so told.settled ++ (task_service t).closing_lines woken) ((task_service t).answer s woken) false (acted ComesUp (undone (length units))) (in_use s) (counts_of (disk_of new))
     boot_risen told new passes free settled =
         let k = length units in
@@ -189,7 +189,7 @@ module _ (log : CallLog) (s : Shared) (n : Node) (name : List ℕ) (clock : ℕ)
         (step_risen s n t (counts_of d0) (counts_of d) (passes.faults h.counts) (passes.stops h.counts) p early x.outturn x.may free)))
 
     -- and what is kept of it stands for it
-    pub risen_stands : (new : Up) (passes : Passes d0 (disk_of new)) → (disk_of new).calls ≡ noted (disk_call.Power d0.stops) d0.calls → StandsUp clock new (acted ComesUp (undone (length units))) → StandsFor log (kept_up name clock new) (acted ComesUp (undone (length units)))
+    pub risen_stands : (new : Up) (passes : DiskAdvancesOverCalls d0 (disk_of new)) → (disk_of new).calls ≡ noted (disk_call.Power d0.stops) d0.calls → UpRepresents clock new (acted ComesUp (undone (length units))) → RepresentsNode log (kept_up name clock new) (acted ComesUp (undone (length units)))
     risen_stands new passes calls up =
         let same = (undone_same (length units) raised units).same in
         record {

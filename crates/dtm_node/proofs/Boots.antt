@@ -29,7 +29,7 @@ use Rattle.dtm_node.specs.Causes.{cause_of}
 use Rattle.node_standing.specs.Keeping.{PerformsRequest, PerformsTask}
 use Rattle.dtm_node.specs.Nodes.{last_lines_of, undone_line}
 use Rattle.dtm_node.specs.Opening.{ComesTo, EndsBoot, EndsTask, IsOpen, Opens, Reopens, Rises, kept_down, used}
-use Rattle.node_standing.specs.Standing.{IsDown, IsRunning, Kept, Place, StandsFor, StandsIn, counts_of, disk_in, is_up}
+use Rattle.node_standing.specs.Standing.{IsDown, IsRunning, NodeState, Place, PlaceRepresents, RepresentsNode, counts_of, disk_in, is_up}
 use Rattle.said_steps.specs.Answers.{IsSteady}
 use Rattle.said_steps.proofs.Falls.{steady_on}
 use Rattle.dtm_node.proofs.Answered.{calm_answers, calm_steady, refused_answers, steady_answers}
@@ -44,24 +44,24 @@ use Rattle.node_requests.proofs.SaysLemmas.{all_on, calm_not_down, lines_calm, l
 
 -- What an opening came to.
 
-pub opens_open : (k : Kept) (p : Place) → Opens k p opened.Up → IsOpen k.name p
+pub opens_open : (k : NodeState) (p : Place) → Opens k p opened.Up → IsOpen k.name p
 opens_open k (IsDown has_parts d) h = h
 opens_open k (IsRunning r) h = (h.raised, h.none)
 
-pub opens_lacks : (k : Kept) (p : Place) → Opens k p opened.NoMemory → (is_up p ≡ false) × EndsBoot k [] line.NoMemory false (record k { place = p })
+pub opens_lacks : (k : NodeState) (p : Place) → Opens k p opened.NoMemory → (is_up p ≡ false) × EndsBoot k [] line.NoMemory false (record k { place = p })
 opens_lacks k (IsDown has_parts d) h = (refl, h)
 opens_lacks k (IsRunning r) h = absurd h
 
-pub opens_refused : (k : Kept) (p : Place) (form : Form) → Opens k p (opened.Refused form) → (is_up p ≡ false) × HasTime form × EndsBoot k [] (line_of form) false (record k { place = p })
+pub opens_refused : (k : NodeState) (p : Place) (form : Form) → Opens k p (opened.Refused form) → (is_up p ≡ false) × HasTime form × EndsBoot k [] (line_of form) false (record k { place = p })
 opens_refused k (IsDown has_parts d) form h = (refl, h.0, h.1)
 opens_refused k (IsRunning r) form h = absurd h
 
-pub opens_fell : (k : Kept) (p : Place) (down : Down) → Opens k p (opened.Fell down) → (is_up p ≡ false) × EndsBoot k (line.Down k.name (cause_of down) ∷ []) (line.Broken (cause_of down)) true (record k { place = p })
+pub opens_fell : (k : NodeState) (p : Place) (down : Down) → Opens k p (opened.Fell down) → (is_up p ≡ false) × EndsBoot k (line.Down k.name (cause_of down) ∷ []) (line.Broken (cause_of down)) true (record k { place = p })
 opens_fell k (IsDown has_parts d) down h = (refl, h)
 opens_fell k (IsRunning r) down h = absurd h
 
 -- a boot that ended so
-pub ended_comes : (k : Kept) (p : Place) (lines : List Line) (answer : Line) (uses : Bool) → k.unmade ≡ false → EndsBoot (record k { unmade = false }) lines answer uses (record k { unmade = false; place = p }) → (s : SharedState) (a b : Shown) → Emits a (lines ++ answer ∷ []) b → ComesTo k s None a b (record k { place = p }) (if uses then used s else s)
+pub ended_comes : (k : NodeState) (p : Place) (lines : List Line) (answer : Line) (uses : Bool) → k.unmade ≡ false → EndsBoot (record k { unmade = false }) lines answer uses (record k { unmade = false; place = p }) → (s : SharedState) (a b : Shown) → Emits a (lines ++ answer ∷ []) b → ComesTo k s None a b (record k { place = p }) (if uses then used s else s)
 ended_comes k p lines answer uses made ends s a b m =
     subst (λ (u : Bool). ComesTo (record k { unmade = u }) s None a b (record k { unmade = u; place = p }) (if uses then used s else s)) (sym made) (λ task is before. ends task is s before a b m)
 
@@ -80,7 +80,7 @@ up_at laws name clock has_parts d0 (IsRunning r0) (IsDown other d) None s a b op
     subst (λ (x : Bool). EndsTask task (kept_down name clock has_parts d0) s a b (kept_down name clock x d) (used s)) (sym re.0)
     (came_down laws name clock has_parts d0 r0 opens d a b re.1 task is s before a b (subst (λ (ls : List Line). Emits a ls b) (sym (append_assoc (last ++ undone) fall broken ∙ append_assoc last undone (fall ++ broken))) re.1.emits))
 
-pub up_comes : TheLaws → (k : Kept) (p q : Place) (result : Option ℕ) (s : SharedState) (a b : Shown) → k.unmade ≡ false → is_up k.place ≡ false → Opens (record k { unmade = false }) p opened.Up → Reopens k.name k.clock p result q a b → ComesTo k s result a b (record k { place = q }) (used s)
+pub up_comes : TheLaws → (k : NodeState) (p q : Place) (result : Option ℕ) (s : SharedState) (a b : Shown) → k.unmade ≡ false → is_up k.place ≡ false → Opens (record k { unmade = false }) p opened.Up → Reopens k.name k.clock p result q a b → ComesTo k s result a b (record k { place = q }) (used s)
 up_comes laws k p q result s a b made down opens re =
     subst (λ (u : Bool). ComesTo (record k { unmade = u }) s result a b (record k { unmade = u; place = q }) (used s)) (sym made) (go k.place down opens)
   where
@@ -90,7 +90,7 @@ up_comes laws k p q result s a b made down opens re =
 
 -- The node is up, and that is answered.
 
-module _ (k : Kept) (s : SharedState) (boot : ℕ) (a mid b : Shown) (l : Kept) (t : SharedState) (r : Rises k s boot a mid l t) (made : k.unmade ≡ false) (down : is_up k.place ≡ false) where
+module _ (k : NodeState) (s : SharedState) (boot : ℕ) (a mid b : Shown) (l : NodeState) (t : SharedState) (r : Rises k s boot a mid l t) (made : k.unmade ≡ false) (down : is_up k.place ≡ false) where
   -- what its lines say
   calm : lines_said r.lines (said_alone k s) ≡ said_alone k s
   calm = lines_calm r.lines (said_alone k s) r.work ∙ ap (λ (w : List Message). with_wire w (said_alone k s)) (r.unsent s.wire)
@@ -207,10 +207,10 @@ module _ (k : Kept) (s : SharedState) (boot : ℕ) (a mid b : Shown) (l : Kept) 
 
 -- Refusals before the disk is made to run again.
 
-abbrev IsStill : Task → Line → Kept → SharedState → Type 0
+abbrev IsStill : Task → Line → NodeState → SharedState → Type 0
 IsStill task answer k s = (task_said task [] answer k s ≡ said_alone k s) × ((u : Said) → line_said answer u ≡ u) × (powered_task task true answer ≡ false)
 
-module _ (k : Kept) (s : SharedState) (a b : Shown) where
+module _ (k : NodeState) (s : SharedState) (a b : Shown) where
   still_tells : (task : Task) (answer : Line) → Emits a (answer ∷ []) b → IsStill task answer k s → ((calls : CallLog) → armed_task task calls ≡ calls) → ((writes choice : ℕ) → task ≡ Serves (Fuse writes choice) → ⊥)
       → ((refusal : Line) → refused_task (said_shared s) (said_node k) task ≡ Some refusal → answer ≡ refusal) → (refused_task (said_shared s) (said_node k) task ≡ None → is_of_lines answer ≡ false) → (task ≡ Restarts → RestartTold k k [] answer true) → AnswersTask task k.name (refused_task (said_shared s) (said_node k) task) [] answer true → TellsTask task true true k s a b k s
   still_tells task answer m still unarmed no_fuse refuses others boots answered = record {
@@ -231,7 +231,7 @@ module _ (k : Kept) (s : SharedState) (a b : Shown) where
     held = λ d unused. (d, holds_is (disk_in k.place) (disk_in k.place) refl);
   }
 
-  first_performs : (task : Task) (p : IsBoot task) (answer : Line) → Emits a (answer ∷ []) b → ((log : CallLog) (w : Shared) (n : Node) → StandsFor log k n → refused_before_reading w n (task_service task) ≡ Some answer) → PerformsTask task true true k s a b k s
+  first_performs : (task : Task) (p : IsBoot task) (answer : Line) → Emits a (answer ∷ []) b → ((log : CallLog) (w : Shared) (n : Node) → RepresentsNode log k n → refused_before_reading w n (task_service task) ≡ Some answer) → PerformsTask task true true k s a b k s
   first_performs task p answer m refuses = λ log n w h share kept promised. record {
     lines = [];
     answer = answer;
@@ -247,17 +247,17 @@ module _ (k : Kept) (s : SharedState) (a b : Shown) where
   some_answer x y e = cc
 
   -- the node is up
-  up_node : (log : CallLog) (n : Node) → is_up k.place ≡ true → StandsFor log k n → n.up ≡ true
+  up_node : (log : CallLog) (n : Node) → is_up k.place ≡ true → RepresentsNode log k n → n.up ≡ true
   up_node log n up h = go k.place up h.place
     where
-      go : (p : Place) → is_up p ≡ true → StandsIn k.clock p n → n.up ≡ true
+      go : (p : Place) → is_up p ≡ true → PlaceRepresents k.clock p n → n.up ≡ true
       go (IsDown has_parts d) e x = let none : ⊥ = cc in absurd none
       go (IsRunning r) e x = x.stands.up
 
-  down_node : (log : CallLog) (n : Node) → is_up k.place ≡ false → StandsFor log k n → n.up ≡ false
+  down_node : (log : CallLog) (n : Node) → is_up k.place ≡ false → RepresentsNode log k n → n.up ≡ false
   down_node log n down h = go k.place down h.place
     where
-      go : (p : Place) → is_up p ≡ false → StandsIn k.clock p n → n.up ≡ false
+      go : (p : Place) → is_up p ≡ false → PlaceRepresents k.clock p n → n.up ≡ false
       go (IsDown has_parts d) e x = x.down
       go (IsRunning r) e x = let none : ⊥ = cc in absurd none
 

@@ -14,16 +14,16 @@ use Rattle.run_model.specs.Answers.{Hears, LosesLink, Restarts, RunsDown, Serves
 use Rattle.run_model.specs.Operations.{first_of, refused_if}
 use Rattle.volume_model.specs.Volumes.{HasDisk}
 use Rattle.world_laws.specs.Nodes.{AreUp, IsKeptNode, RowsKeepUp}
-use Rattle.recovery_units.specs.Uses.{Caused, Goes}
+use Rattle.recovery_units.specs.Uses.{Caused, DiskAdvances}
 use Rattle.row_laws.specs.Doing.{DoesRows}
 use Rattle.run_shared.specs.Sharing.{IsShared, SharedState}
 use Rattle.node_table.specs.Running.{IsNewFor, TellsRows}
-use Rattle.node_table.specs.Standing.{StandsUp, Up}
+use Rattle.node_table.specs.Standing.{Up, UpRepresents}
 use Rattle.node_table.specs.Telling.{ShowsWork}
 use Rattle.dtm_node.specs.Causes.{cause_of}
 use Rattle.node_standing.specs.Keeping.{Performs, PerformsTask}
 use Rattle.node_requests.specs.Running.{ComesFreely, TellsEvent, event_told, name_of, shown_first}
-use Rattle.node_standing.specs.Standing.{IsDown, Kept, StandsFor, counts_of, disk_in, disk_of}
+use Rattle.node_standing.specs.Standing.{IsDown, NodeState, RepresentsNode, counts_of, disk_in, disk_of}
 use Rattle.dtm_node.proofs.EventSteps.{did_performs, does_behind, up_behind, went_performs}
 use Rattle.dtm_node.proofs.EventTasks.{IsEventTask, event_down, event_fails, event_task, event_tells}
 use Rattle.dtm_node.proofs.Performing.{kept_fallen, kept_up}
@@ -56,16 +56,16 @@ free_new (rows.AbortBranch serial why) n f = tt
 free_new (rows.Replied serial rm reply) n f = tt
 free_new (rows.InquireBranch serial) n f = tt
 
-module _ (rows_keep_up : RowsKeepUp) (e : Event) (free : ComesFreely e) (name : List ℕ) (clock : ℕ) (old new : Up) (before after : SharedState) (a b : Shown) (named : name_of old ≡ name) (told : (n : Node) → StandsUp clock old n → is_some (disk_of old).seen ≡ true)
-    (goes : Goes (disk_of old) (disk_of new)) (node_is : name_of new ≡ name_of old) (work : ShowsWork before after a b) where
+module _ (rows_keep_up : RowsKeepUp) (e : Event) (free : ComesFreely e) (name : List ℕ) (clock : ℕ) (old new : Up) (before after : SharedState) (a b : Shown) (named : name_of old ≡ name) (told : (n : Node) → UpRepresents clock old n → is_some (disk_of old).seen ≡ true)
+    (goes : DiskAdvances (disk_of old) (disk_of new)) (node_is : name_of new ≡ name_of old) (work : ShowsWork before after a b) where
   module _ {T : Type 0} (r : Result T Down) (does : TellsRows r e clock old new before after a b) (task : Task) (is : IsEventTask task clock e) (a0 : Shown) (first : Emits a0 (shown_first true task) a) where
     -- what its rows came to at a node of the world, with what is shown first
-    does_here : (s : Shared) (n : Node) → StandsUp clock old n → IsShared before s → IsKeptNode s n → DoesRows r (map shown_line (shown_first true task) ++ told_rows s n (just e)) s n a0 b (IsShared after) (StandsUp clock new) (λ m. HasDisk m (disk_of new))
+    does_here : (s : Shared) (n : Node) → UpRepresents clock old n → IsShared before s → IsKeptNode s n → DoesRows r (map shown_line (shown_first true task) ++ told_rows s n (just e)) s n a0 b (IsShared after) (UpRepresents clock new) (λ m. HasDisk m (disk_of new))
     does_here s n up share kept =
         let early : refused_before_reading s n (task_service task) ≡ None = ap (λ (x : Bool). first_of (refused_if (not (x || (task_service task).while_down)) line.NodeDown) ((task_service task).refused_before_reading s n)) up.stands.up ∙ is.early s n in
         let ups : AreUp ((task_service task).rows s n) n = rows_keep_up s n task kept up.stands.up early (is.late s n) in
         let ups' : AreUp (told_rows s n (just e)) n = up_behind (shown_first true task) (told_rows s n (just e)) n (subst (λ rs. AreUp rs n) (is.rows s n up.stands.clock_is) ups) in
-        does_behind (shown_first true task) (first_is task) r (told_rows s n (just e)) s n a0 a b (IsShared after) (StandsUp clock new) (λ m. HasDisk m (disk_of new)) first
+        does_behind (shown_first true task) (first_is task) r (told_rows s n (just e)) s n a0 a b (IsShared after) (UpRepresents clock new) (λ m. HasDisk m (disk_of new)) first
         (does s n up (free_new e n free) share ups')
 
   -- it was done
@@ -94,7 +94,7 @@ module _ (rows_keep_up : RowsKeepUp) (e : Event) (free : ComesFreely e) (name : 
       shown true m = m
       shown false m = m
 
-      as_task : (task_service task).goes_on ≡ goes_on → (log : CallLog) (n : Node) (s : Shared) → StandsFor log (kept_up name clock old) n → Performs log s n (counts_of (disk_of old)) task (not goes_on) (not (task_service task).goes_on) a0 c (kept_fallen name clock (disk_of new)) after
+      as_task : (task_service task).goes_on ≡ goes_on → (log : CallLog) (n : Node) (s : Shared) → RepresentsNode log (kept_up name clock old) n → Performs log s n (counts_of (disk_of old)) task (not goes_on) (not (task_service task).goes_on) a0 c (kept_fallen name clock (disk_of new)) after
           → Performs log s n (counts_of (disk_of old)) task (not goes_on) (not goes_on) a0 c (kept_fallen name clock (disk_of new)) after
       as_task q log n s h p = subst (λ x. Performs log s n (counts_of (disk_of old)) task (not goes_on) (not x) a0 c (kept_fallen name clock (disk_of new)) after) q p
 
@@ -119,7 +119,7 @@ none_first RunsDown = refl
 none_first Restarts = refl
 
 -- a request or another task that a node which is down refuses for that
-pub down_performs : (t : Task) (goes_on : Bool) → IsPlain (task_service t) goes_on → (k : Kept) (s : SharedState) (a b : Shown) → ((w : Shared) (n : Node) → n.up ≡ false → refused_before_reading w n (task_service t) ≡ Some line.NodeDown) → ((log : CallLog) (n : Node) → StandsFor log k n → n.up ≡ false)
+pub down_performs : (t : Task) (goes_on : Bool) → IsPlain (task_service t) goes_on → (k : NodeState) (s : SharedState) (a b : Shown) → ((w : Shared) (n : Node) → n.up ≡ false → refused_before_reading w n (task_service t) ≡ Some line.NodeDown) → ((log : CallLog) (n : Node) → RepresentsNode log k n → n.up ≡ false)
     → Emits a (line.NodeDown ∷ []) b → PerformsTask t true true k s a b k s
 down_performs t goes_on plain k s a b refuses down shows = λ log n w h share kept promised. record {
   lines = [];
@@ -133,9 +133,9 @@ down_performs t goes_on plain k s a b refuses down shows = λ log n w h share ke
 }
 
 pub event_at_down : (e : Event) (name : List ℕ) (unmade : Bool) (clock : ℕ) (has_parts : Bool) (d : DiskState) (s : SharedState) (a b : Shown) → Emits a (line.NodeDown ∷ []) b
-    → (let k : Kept = record { name = name; unmade = unmade; clock = clock; place = IsDown has_parts d } in TellsEvent e false true k s a b k s)
+    → (let k : NodeState = record { name = name; unmade = unmade; clock = clock; place = IsDown has_parts d } in TellsEvent e false true k s a b k s)
 event_at_down e name unmade clock has_parts d s a b shows task first of on begins =
-    let k : Kept = record { name = name; unmade = unmade; clock = clock; place = IsDown has_parts d } in
+    let k : NodeState = record { name = name; unmade = unmade; clock = clock; place = IsDown has_parts d } in
     let is = event_task clock task e of in
     let whole : Emits first (line.NodeDown ∷ []) b = emits_on first a b [] (line.NodeDown ∷ []) (subst (λ ls. Emits first ls a) (none_first task) begins) shows in (
       event_down task clock e is k s first b refl whole,

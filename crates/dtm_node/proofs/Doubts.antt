@@ -13,7 +13,7 @@ use Rattle.run_model.specs.World as world
 use Rattle.run_model.specs.World.{Node}
 use Rattle.statement_steps.specs.Settling.{doubts_of, in_doubt_of}
 use Rattle.world_laws.specs.Nodes.{IsKeptNode}
-use Rattle.node_table.specs.Standing.{IsUp, NamesPrepared, StandsUp, Up, standing}
+use Rattle.node_table.specs.Standing.{IsUp, NamesPrepared, Up, UpRepresents, unsettled_serials}
 use Rattle.node_table.proofs.Doubting.{in_cut, standing_settled, stands}
 
 -- none is prepared where none is named
@@ -47,31 +47,31 @@ names_cut k ks bs d n = record {
   prepared = λ b i j. n.prepared b (in_cut k b bs i) (inr j);
 }
 
-standing_same : (ks : List Key) (bs cs : List Branch) → ((k : Key) → In k ks → is_some (find k bs) ≡ is_some (find k cs)) → standing ks bs ≡ standing ks cs
+standing_same : (ks : List Key) (bs cs : List Branch) → ((k : Key) → In k ks → is_some (find k bs) ≡ is_some (find k cs)) → unsettled_serials ks bs ≡ unsettled_serials ks cs
 standing_same [] bs cs h = refl
 standing_same (k ∷ ks) bs cs h = λ i. if h k (inl refl) i then k.serial ∷ standing_same ks bs cs (λ j m. h j (inr m)) i else standing_same ks bs cs (λ j m. h j (inr m)) i
 
-cut_absent : (k : Key) (ks : List Key) (bs : List Branch) → find k bs ≡ None → standing ks (cut k bs) ≡ standing ks bs
+cut_absent : (k : Key) (ks : List Key) (bs : List Branch) → find k bs ≡ None → unsettled_serials ks (cut k bs) ≡ unsettled_serials ks bs
 cut_absent k ks bs e = standing_same ks (cut k bs) bs (λ j i. elim (told_key k j) [
   | inl t ↦ subst (λ (x : Key). is_some (find x (cut k bs)) ≡ is_some (find x bs)) t.1 (ap is_some (find-cut k bs) ∙ ap is_some (sym e))
   | inr t ↦ ap is_some (find-cut_other k j bs t.1)
 ])
 
-pub doubts_standing : (ks : List Key) (bs : List Branch) → Distinct (branch_serials bs) → NamesPrepared ks bs → Distinct (standing ks bs) → in_doubt_of (arranged ks bs) ≡ standing ks bs
+pub doubts_standing : (ks : List Key) (bs : List Branch) → Distinct (branch_serials bs) → NamesPrepared ks bs → Distinct (unsettled_serials ks bs) → in_doubt_of (arranged ks bs) ≡ unsettled_serials ks bs
 doubts_standing [] bs d n u = none_prepared bs (λ b i p. n.named b i p)
 doubts_standing (k ∷ ks) bs d n u = go (find k bs) refl u (doubts_standing ks (cut k bs) (cut_distinct k bs d) (names_cut k ks bs d n))
   where
-    go : (o : Option Branch) → find k bs ≡ o → Distinct (if is_some o then k.serial ∷ standing ks bs else standing ks bs) → (Distinct (standing ks (cut k bs)) → in_doubt_of (arranged ks (cut k bs)) ≡ standing ks (cut k bs))
-        → in_doubt_of (arranged_by o (arranged ks (cut k bs))) ≡ (if is_some o then k.serial ∷ standing ks bs else standing ks bs)
+    go : (o : Option Branch) → find k bs ≡ o → Distinct (if is_some o then k.serial ∷ unsettled_serials ks bs else unsettled_serials ks bs) → (Distinct (unsettled_serials ks (cut k bs)) → in_doubt_of (arranged ks (cut k bs)) ≡ unsettled_serials ks (cut k bs))
+        → in_doubt_of (arranged_by o (arranged ks (cut k bs))) ≡ (if is_some o then k.serial ∷ unsettled_serials ks bs else unsettled_serials ks bs)
     go None e v more = (let same = cut_absent k ks bs e in more (subst Distinct (sym same) v) ∙ same)
     go (Some b) e v more =
-        let same : standing ks (cut k bs) ≡ standing ks bs = standing_settled ks k b bs d e ∙ without_none k.serial (standing ks bs) v.0 in
+        let same : unsettled_serials ks (cut k bs) ≡ unsettled_serials ks bs = standing_settled ks k b bs d e ∙ without_none k.serial (unsettled_serials ks bs) v.0 in
         let key : b.key ≡ k = find-key k bs b e in
         let prepared : is_prepared b.state ≡ true = n.prepared b (find_in k bs b e) (inl key) in
         ap (λ (t : Bool). if t then b.key.serial ∷ in_doubt_of (arranged ks (cut k bs)) else in_doubt_of (arranged ks (cut k bs))) prepared
         ∙ (λ i. (key i).serial ∷ (more (subst Distinct (sym same) v.1) ∙ same) i)
 
-pub doubts_kept : (clock : ℕ) (r : Up) (s : world.Shared) (n : Node) → IsUp r → StandsUp clock r n → IsKeptNode s n → doubts_of n ≡ r.stored.in_doubt
+pub doubts_kept : (clock : ℕ) (r : Up) (s : world.Shared) (n : Node) → IsUp r → UpRepresents clock r n → IsKeptNode s n → doubts_of n ≡ r.stored.in_doubt
 doubts_kept clock r s n up h kept =
     doubts_standing n.volatile.preparation n.volatile.branches
     (parts_apart (branch_serials n.volatile.branches) (record_serials n.volatile.records) (kept.runs h.stands.up).0.table.apart).one

@@ -14,16 +14,16 @@ use Rattle.run_model.specs.Answers.{Row, Task, just, shown_line, table_rows, tas
 use Rattle.run_model.specs.Steps.{lines_of_rows, node_after_rows, rows_if, shared_after_rows}
 use Rattle.volume_model.specs.Volumes.{HasDisk}
 use Rattle.world_laws.specs.Nodes.{AreUp}
-use Rattle.recovery_units.specs.Uses.{Caused, Goes}
+use Rattle.recovery_units.specs.Uses.{Caused, DiskAdvances}
 use Rattle.row_laws.specs.Doing.{DidAll, DoesRows, WentDown}
 use Rattle.row_laws.proofs.Composing.{does_more}
 use Rattle.run_shared.specs.Sharing.{IsShared, SharedState}
 use Rattle.node_table.specs.Serving.{WasCut, service_at}
-use Rattle.node_table.specs.Standing.{StandsUp, Up}
+use Rattle.node_table.specs.Standing.{Up, UpRepresents}
 use Rattle.dtm_node.specs.Causes.{cause_of}
 use Rattle.node_standing.specs.Keeping.{Performs}
 use Rattle.node_requests.specs.Running.{name_of, shown_first}
-use Rattle.node_standing.specs.Standing.{StandsFor, counts_of, disk_of}
+use Rattle.node_standing.specs.Standing.{RepresentsNode, counts_of, disk_of}
 use Rattle.dtm_node.proofs.EventTasks.{IsEventTask}
 use Rattle.dtm_node.proofs.Performing.{LeavesRest, cut_performs, kept_fallen, kept_up, leaves_rest, rows_same, stands_then}
 use Rattle.dtm_node.proofs.Stepping.{step_done}
@@ -62,8 +62,8 @@ does_behind {T} front (inr e) r rs s n a0 a b shares stands falls first d =
     subst (λ ls. DoesRows r (map shown_line ls ++ rs) s n a0 b shares stands falls) (sym e.1)
     (does_more shares stands falls r (shown_line e.0) rs s n a0 a b (subst (λ ls. Emits a0 ls a) e.1 first) d)
 
-module _ (log : CallLog) (s : Shared) (n : Node) (name : List ℕ) (clock : ℕ) (old : Up) (h : StandsFor log (kept_up name clock old) n) (named : name_of old ≡ name) (told : is_some (disk_of old).seen ≡ true)
-    (t : Task) (e : Event) (is : IsEventTask t clock e) (new : Up) (goes : Goes (disk_of old) (disk_of new)) (node_is : name_of new ≡ name_of old) (after : SharedState) where
+module _ (log : CallLog) (s : Shared) (n : Node) (name : List ℕ) (clock : ℕ) (old : Up) (h : RepresentsNode log (kept_up name clock old) n) (named : name_of old ≡ name) (told : is_some (disk_of old).seen ≡ true)
+    (t : Task) (e : Event) (is : IsEventTask t clock e) (new : Up) (goes : DiskAdvances (disk_of old) (disk_of new)) (node_is : name_of new ≡ name_of old) (after : SharedState) where
   abbrev event_rows : List Row
   event_rows = map shown_line (shown_first true t) ++ told_rows s n (just e)
 
@@ -73,7 +73,7 @@ module _ (log : CallLog) (s : Shared) (n : Node) (name : List ℕ) (clock : ℕ)
   rest : AllByRecursion LeavesRest ((task_service t).rows s n)
   rest = subst (AllByRecursion LeavesRest) (sym rows_are) (shown_rest (shown_first true t) (told_rows s n (just e)) (table_rest (row (tm_of n) e) s n))
 
-  pub did_performs : (a b : Shown) → DidAll event_rows s n a b (IsShared after) (StandsUp clock new) → Performs log s n (counts_of (disk_of old)) t false false a b (kept_up name clock new) after
+  pub did_performs : (a b : Shown) → DidAll event_rows s n a b (IsShared after) (UpRepresents clock new) → Performs log s n (counts_of (disk_of old)) t false false a b (kept_up name clock new) after
   did_performs a b d =
       let rs = (task_service t).rows s n in
       record {
@@ -84,7 +84,7 @@ module _ (log : CallLog) (s : Shared) (n : Node) (name : List ℕ) (clock : ℕ)
         step = step_done s n t (counts_of (disk_of old)) (counts_of (disk_of new)) (goes.faults h.counts) (goes.stops h.counts) (task_service t).goes_on is.plain (Rattle.dtm_node.proofs.Performing.before_here log s n name clock old h named told (task_service t) ∙ is.early s n) (is.late s n);
         emits = subst (λ x. Emits a (lines_of_rows x) b) (sym rows_are) d.shows;
         alike = subst (λ x. IsShared after (shared_after_rows x s)) (sym rows_are) d.shared;
-        stands = stands_then log s n name clock old h named told t (task_service t).goes_on is.plain new goes node_is after (node_after_rows rs n) (subst (λ x. StandsUp clock new (node_after_rows x n)) (sym rows_are) d.node) (rows_same rs n rest);
+        stands = stands_then log s n name clock old h named told t (task_service t).goes_on is.plain new goes node_is after (node_after_rows rs n) (subst (λ x. UpRepresents clock new (node_after_rows x n)) (sym rows_are) d.node) (rows_same rs n rest);
       }
 
   pub went_performs : (d : Down) (answers : Bool) (a mid b : Shown) → Caused (Some d) (disk_of old) (disk_of new) → WentDown event_rows s n a mid (IsShared after) (λ m. HasDisk m (disk_of new))

@@ -18,17 +18,17 @@ use Rattle.run_model.specs.World as world
 use Rattle.run_model.specs.World.{Node}
 use Rattle.run_model.specs.Answers.{Hears, LosesLink, Restarts, RunsDown, Serves, Takes, Task, Ticks, just, shown_line, task_service, told_rows, touches}
 use Rattle.run_model.specs.Steps.{count_of}
-use Rattle.recovery_units.specs.Uses.{Caused, Goes}
+use Rattle.recovery_units.specs.Uses.{Caused, DiskAdvances}
 use Rattle.run_shared.specs.Sharing.{SharedState}
 use Rattle.node_table.specs.Standing.{Up}
 use Rattle.node_table.specs.Telling.{IsOfWork, ShowsWork, wire_after, wire_behind}
 use Rattle.dtm_node.specs.Causes.{cause_of}
 use Rattle.node_standing.specs.Keeping.{all_shown}
 use Rattle.node_requests.specs.Running.{event_told, shown_first}
-use Rattle.node_standing.specs.Standing.{Kept, counts_of, disk_in, disk_of, is_up}
+use Rattle.node_standing.specs.Standing.{NodeState, counts_of, disk_in, disk_of, is_up}
 use Rattle.dtm_node.proofs.Answered.{calm_answers, fell_answers, goes_answers, refused_answers}
 use Rattle.dtm_node.proofs.Held.{holds_is}
-use Rattle.node_standing.specs.Telling.{AnswersTask, Passes, TellsTask, calls_after_task, may_answer_task, refused_task, said_alone, said_node, said_shared, task_said}
+use Rattle.node_standing.specs.Telling.{AnswersTask, DiskAdvancesOverCalls, TellsTask, calls_after_task, may_answer_task, refused_task, said_alone, said_node, said_shared, task_said}
 use Rattle.dtm_node.proofs.Performing.{kept_fallen, kept_up, rose_of}
 use Rattle.node_requests.proofs.SaysLemmas.{all_on, alone_down, calm_not_down, down_behind, lines_calm, lines_on, own_calm}
 use Rattle.dtm_node.proofs.Stepping.{IsPlain}
@@ -36,7 +36,7 @@ use Rattle.dtm_node.proofs.Stepping.{IsPlain}
 -- What is so of each of them.
 pub record IsEventTask (t : Task) (clock : ℕ) (e : Event) : Type 0 where
   pub refused : (s : SaidShared) (n : SaidNode) → refused_task s n t ≡ down_said n
-  pub said : (ls : List Line) (l : Line) (k : Kept) (s : SharedState) → task_said t ls l k s ≡ lines_said ls (said_alone k s)
+  pub said : (ls : List Line) (l : Line) (k : NodeState) (s : SharedState) → task_said t ls l k s ≡ lines_said ls (said_alone k s)
   pub calls : (ends : Bool) (l : Line) (stops : ℕ) (calls : CallLog) → calls_after_task t ends l stops calls ≡ calls
   pub no_fuse : (writes choice : ℕ) → t ≡ Serves (Fuse writes choice) → ⊥
   pub no_restart : t ≡ Restarts → ⊥
@@ -143,7 +143,7 @@ event_task clock RunsDown e h = subst (IsEventTask RunsDown clock) (same_event r
   rows = λ s n c. refl;
 })
 
-pub passes_of : (d e : DiskState) → Goes d e → Passes d e
+pub passes_of : (d e : DiskState) → DiskAdvances d e → DiskAdvancesOverCalls d e
 passes_of d e g = record { size = g.size; faults = g.faults; stops = g.stops; counted = g.counted; told = g.told }
 
 -- what is shared, with another wire, is said so
@@ -173,7 +173,7 @@ module _ (t : Task) (clock : ℕ) (e : Event) (is : IsEventTask t clock e) (name
       ∙ ap (λ (w : List Message). record { nodes = record { name = name; up = true; unmade = false } ∷ []; shared = record (said_shared before) { wire = w } }) wire_is
       ∙ ap (λ (x : SaidShared). record { nodes = record { name = name; up = true; unmade = false } ∷ []; shared = x }) (sym (said_shared_as before after (wire_after says.lines before.wire) says.shared))
 
-  module _ (new : Up) (goes : Goes (disk_of old) (disk_of new)) where
+  module _ (new : Up) (goes : DiskAdvances (disk_of old) (disk_of new)) where
     -- it was done
     pub event_tells : TellsTask t false false (kept_up name clock old) before a0 b (kept_up name clock new) after
     event_tells = record {
@@ -235,7 +235,7 @@ module _ (t : Task) (clock : ℕ) (e : Event) (is : IsEventTask t clock e) (name
         quiet_is false s = refl
 
 -- at a node that is down
-pub event_down : (t : Task) (clock : ℕ) (e : Event) → IsEventTask t clock e → (k : Kept) (s : SharedState) (a b : Shown) → is_up k.place ≡ false → Emits a (line.NodeDown ∷ []) b → TellsTask t true true k s a b k s
+pub event_down : (t : Task) (clock : ℕ) (e : Event) → IsEventTask t clock e → (k : NodeState) (s : SharedState) (a b : Shown) → is_up k.place ≡ false → Emits a (line.NodeDown ∷ []) b → TellsTask t true true k s a b k s
 event_down t clock e is k s a b down shows = record {
   lines = [];
   answer = line.NodeDown;

@@ -5,7 +5,7 @@ use Rattle.volume.specs.Catalogs.{TellsCatalog}
 use Rattle.run_model.specs.World.{Durable, Node}
 use Rattle.volume_model.specs.Volumes.{HasDisk, IsEitherOf}
 use Rattle.recovery_units.specs.Laws.{KeepsNodes}
-use Rattle.node_table.specs.Standing.{IsUp, StandsUp, Up}
+use Rattle.node_table.specs.Standing.{IsUp, Up, UpRepresents}
 use Rattle.node_standing.specs.Standing.{disk_of}
 use Rattle.dtm_node.proofs.DiskLemmas.{Content, disk_sound, idle_leaves}
 
@@ -14,11 +14,11 @@ some_of f (Some x) y e = refl
 some_of f None y e = let none : ⊥ = cc in absurd none
 
 -- its disk is told
-pub told_up : (clock : ℕ) (r : Up) (n : Node) → IsUp r → StandsUp clock r n → is_some (disk_of r).seen ≡ true
+pub told_up : (clock : ℕ) (r : Up) (n : Node) → IsUp r → UpRepresents clock r n → is_some (disk_of r).seen ≡ true
 told_up clock r n up h = some_of content_of (disk_of r).seen h.stands.kept.content (sym up.follows.order.idle.current ∙ h.stands.kept.told)
 
 -- it has what the node leaves of it
-pub fallen_disk : KeepsNodes → (clock : ℕ) (r : Up) (n m : Node) → IsUp r → StandsUp clock r n → m.name ≡ n.name → m.blocks ≡ n.blocks → m.durable ≡ n.durable → m.up ≡ false → HasDisk m (disk_of r)
+pub fallen_disk : KeepsNodes → (clock : ℕ) (r : Up) (n m : Node) → IsUp r → UpRepresents clock r n → m.name ≡ n.name → m.blocks ≡ n.blocks → m.durable ≡ n.durable → m.up ≡ false → HasDisk m (disk_of r)
 fallen_disk law clock r n m up h name blocks durable down =
     let kept = h.stands.kept in
     let v = r.stored.volume in

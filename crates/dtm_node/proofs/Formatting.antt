@@ -31,7 +31,7 @@ use Rattle.said_steps.specs.Own.{IsOwn, alone}
 use Rattle.run_model.specs.World.{DiskCounts, Formats, Lost, Node, Power, Shared, Unknown, acted, fallen, powered, unpowered}
 use Rattle.run_model.specs.Answers.{Serves, is_volume_form, is_within, refused_before_reading, service}
 use Rattle.run_model.specs.Operations.{first_of, refused_if}
-use Rattle.run_model.specs.Steps.{Cut, NodeStep, Unpowered, Whole, count_of, spoilt}
+use Rattle.run_model.specs.Steps.{Cut, NodeStep, Unpowered, Whole, count_of, with_unknown_volume}
 use Rattle.volume_model.specs.Volumes.{IsLeftBy, LeavesVolume}
 use Rattle.recovery_units.specs.Laws.{IsMade, KeepsNodes}
 use Rattle.recovery_units.specs.Uses.{IsCounted}
@@ -41,11 +41,11 @@ use Rattle.dtm_node.specs.declared.node.Formatted.TheVariants as formatted
 use Rattle.dtm_node.specs.Causes.{cause_of}
 use Rattle.dtm_node.specs.Formatting.{Formats as FormatsPlace, FormatsDisk, init_answer, init_lines, is_ended, kept_so, unmade_then}
 use Rattle.node_standing.specs.Keeping.{Performs, PerformsRequest}
-use Rattle.node_standing.specs.Standing.{IsDown, IsRunning, Kept, Place, StandsFor, counts_of, disk_in, noted_all}
+use Rattle.node_standing.specs.Standing.{IsDown, IsRunning, NodeState, Place, RepresentsNode, counts_of, disk_in, noted_all}
 use Rattle.node_standing.specs.Holding.{HoldsAs}
 use Rattle.dtm_node.proofs.Answered.{calm_answers, fell_answers, refused_answers}
 use Rattle.dtm_node.proofs.Held.{holds_is}
-use Rattle.node_standing.specs.Telling.{AnswersTask, Passes, TellsTask, task_used, powered_task, refused_task, said_alone, said_node, said_shared, task_said}
+use Rattle.node_standing.specs.Telling.{AnswersTask, DiskAdvancesOverCalls, TellsTask, task_used, powered_task, refused_task, said_alone, said_node, said_shared, task_said}
 use Rattle.dtm_node.proofs.DiskLemmas.{as_it_was, disk_unknown}
 use Rattle.dtm_node.proofs.Passing.{Unpowers, passes_counts, passes_on, passes_power, passes_same, power_calls, rose_after, rose_down}
 use Rattle.node_requests.proofs.SaysLemmas.{alone_down, same_text}
@@ -137,13 +137,13 @@ module _ (s : Shared) (n : Node) (slots journal : ℕ) (old new : DiskCounts) (f
   step_early refusal early = record { choice = Whole Lost; allowed = tt; faults = faults; stops = stops; shows = rw early refl; answers = rw early refl; over = rw early refl; node = rw early refl; shared = rw early refl }
 
   module _ (early : refused_before_reading s n (service (Init slots journal)) ≡ None) where
-    step_dead : Rose (count_of Failed old) (count_of Failed new) → NodeStep s n old (Serves (Init slots journal)) (line.Down n.name Failed ∷ []) (line.Broken Failed) true (spoilt true (unpowered old.stops n)) s new
+    step_dead : Rose (count_of Failed old) (count_of Failed new) → NodeStep s n old (Serves (Init slots journal)) (line.Down n.name Failed ∷ []) (line.Broken Failed) true (with_unknown_volume true (unpowered old.stops n)) s new
     step_dead rose = record { choice = Unpowered; allowed = (early, refl, rose); faults = faults; stops = stops; shows = refl; answers = refl; over = refl; node = refl; shared = unoccupied }
 
-    step_fell : (cause : Cause) → Rose (count_of cause old) (count_of cause new) → NodeStep s n old (Serves (Init slots journal)) (line.Down n.name cause ∷ []) (line.Broken cause) true (fallen None (spoilt true (powered Lost old.stops n))) s new
+    step_fell : (cause : Cause) → Rose (count_of cause old) (count_of cause new) → NodeStep s n old (Serves (Init slots journal)) (line.Down n.name cause ∷ []) (line.Broken cause) true (fallen None (with_unknown_volume true (powered Lost old.stops n))) s new
     step_fell cause rose = record { choice = Cut Lost 0 false cause; allowed = (early, refl, tt, omega arith, rose); faults = faults; stops = stops; shows = refl; answers = refl; over = refl; node = refl; shared = unoccupied }
 
-    step_made : NodeStep s n old (Serves (Init slots journal)) [] line.Normal false (acted (Formats slots journal) (spoilt true (powered Lost old.stops n))) s new
+    step_made : NodeStep s n old (Serves (Init slots journal)) [] line.Normal false (acted (Formats slots journal) (with_unknown_volume true (powered Lost old.stops n))) s new
     step_made = record { choice = Whole Lost; allowed = tt; faults = faults; stops = stops; shows = rw early refl; answers = rw early refl; over = rw early refl; node = rw early refl; shared = rw early unoccupied }
 
 early_by : (s : Shared) (n : Node) (slots journal : ℕ) (used form : Bool) → n.up ≡ false → s.in_use ≡ used → is_volume_form slots journal n ≡ form
@@ -157,7 +157,7 @@ alone_unmade n s u = ap (λ (b : Bool). record { nodes = (if b then record n { u
 
 module _ (name : List ℕ) (slots journal : ℕ) (has_parts : Bool) (d0 : DiskState) where
   module _ (unmade : Bool) (clock : ℕ) (s : SharedState) (unused : s.in_use ≡ false) (a b : Shown) where
-    abbrev before : Kept
+    abbrev before : NodeState
     before = kept_so name unmade clock has_parts d0
 
     unrefused : refused_task (said_shared s) (said_node before) (Serves (Init slots journal)) ≡ None
@@ -169,7 +169,7 @@ module _ (name : List ℕ) (slots journal : ℕ) (has_parts : Bool) (d0 : DiskSt
     tells : (done : Formatted) (d : DiskState) → Emits a (init_lines name done ++ init_answer done ∷ []) b → AllByRecursion (IsOwn name) (init_lines name done) → is_of_lines (init_answer done) ≡ false
         → task_said (Serves (Init slots journal)) (init_lines name done) (init_answer done) before s ≡ said_alone (kept_so name (unmade_then done unmade) clock has_parts d) s → ((u : Said) → line_said (init_answer done) u ≡ u)
         → d.calls ≡ (let cs : CallLog = if powered_task (Serves (Init slots journal)) (is_ended done) (init_answer done) then noted (disk_call.Power d0.stops) d0.calls else d0.calls in cs)
-        → ((cause : Cause) → In (line.Down name cause) (init_lines name done) → IsCounted d0 → Rose (count_of cause (counts_of d0)) (count_of cause (counts_of d))) → Passes d0 d → (task_used (Serves (Init slots journal)) (is_ended done) (init_answer done) ≡ false → HoldsAs d0 d)
+        → ((cause : Cause) → In (line.Down name cause) (init_lines name done) → IsCounted d0 → Rose (count_of cause (counts_of d0)) (count_of cause (counts_of d))) → DiskAdvancesOverCalls d0 d → (task_used (Serves (Init slots journal)) (is_ended done) (init_answer done) ≡ false → HoldsAs d0 d)
         → TellsTask (Serves (Init slots journal)) true (is_ended done) before s a b (kept_so name (unmade_then done unmade) clock has_parts d) s
     tells done d m own plain says quiet calls failures passes held = record {
       lines = init_lines name done;
@@ -199,7 +199,7 @@ module _ (name : List ℕ) (slots journal : ℕ) (has_parts : Bool) (d0 : DiskSt
         ap (request_said name (Init slots journal) (line.Broken cause)) (alone_down (record { name = name; up = false; unmade = unmade }) (said_shared s) cause)
         ∙ alone_unmade (record { name = name; up = false; unmade = unmade }) (said_shared s) true
 
-    fell_tells : (down : Down) (d : DiskState) → Emits a (line.Down name (cause_of down) ∷ line.Broken (cause_of down) ∷ []) b → d.calls ≡ noted (disk_call.Power d0.stops) d0.calls → (IsCounted d0 → Rose (count_of (cause_of down) (counts_of d0)) (count_of (cause_of down) (counts_of d))) → Passes d0 d
+    fell_tells : (down : Down) (d : DiskState) → Emits a (line.Down name (cause_of down) ∷ line.Broken (cause_of down) ∷ []) b → d.calls ≡ noted (disk_call.Power d0.stops) d0.calls → (IsCounted d0 → Rose (count_of (cause_of down) (counts_of d0)) (count_of (cause_of down) (counts_of d))) → DiskAdvancesOverCalls d0 d
         → TellsTask (Serves (Init slots journal)) true true before s a b (kept_so name true clock has_parts d) s
     fell_tells down d m calls rose passes = tells (formatted.Failed down) d m (refl, tt) refl (fell_says (cause_of down) d) (λ u. refl) calls only passes (λ unused. (let f : ⊥ = cc in absurd f))
       where
@@ -211,7 +211,7 @@ module _ (name : List ℕ) (slots journal : ℕ) (has_parts : Bool) (d0 : DiskSt
         only cause (inr i) counted = absurd i
 
     -- In the world.
-    module _ (log : CallLog) (w : Shared) (n : Node) (h : StandsFor log before n) (share : IsShared s w) where
+    module _ (log : CallLog) (w : Shared) (n : Node) (h : RepresentsNode log before n) (share : IsShared s w) where
       no_use : w.in_use ≡ false
       no_use = share.in_use ∙ unused
 
@@ -227,12 +227,12 @@ module _ (name : List ℕ) (slots journal : ℕ) (has_parts : Bool) (d0 : DiskSt
         stands = h;
       }
 
-      module _ (fit : SizesFit d0.size (record { blocks = d0.size; slots = slots; ru_blocks = journal })) (d : DiskState) (passes : Passes d0 d) (calls : d.calls ≡ noted (disk_call.Power d0.stops) d0.calls) where
+      module _ (fit : SizesFit d0.size (record { blocks = d0.size; slots = slots; ru_blocks = journal })) (d : DiskState) (passes : DiskAdvancesOverCalls d0 d) (calls : d.calls ≡ noted (disk_call.Power d0.stops) d0.calls) where
         none_early : refused_before_reading w n (service (Init slots journal)) ≡ None
         none_early = early_by w n slots journal false true h.place.down no_use (fits_form slots journal d0.size n h.blocks fit)
 
         -- a node whose last INIT failed
-        spoilt_stands : (m : Node) → m.name ≡ n.name → m.blocks ≡ n.blocks → m.clock ≡ n.clock → m.durable.volume ≡ Unknown → m.unmade ≡ true → m.up ≡ false → (m.was_up ≡ true → n.was_up ≡ true) → m.calls ≡ Power d0.stops ∷ n.calls → StandsFor log (kept_so name true clock has_parts d) m
+        spoilt_stands : (m : Node) → m.name ≡ n.name → m.blocks ≡ n.blocks → m.clock ≡ n.clock → m.durable.volume ≡ Unknown → m.unmade ≡ true → m.up ≡ false → (m.was_up ≡ true → n.was_up ≡ true) → m.calls ≡ Power d0.stops ∷ n.calls → RepresentsNode log (kept_so name true clock has_parts d) m
         spoilt_stands m same blocks clocked volume made down was noted_there = record {
           name = same ∙ h.name;
           blocks = blocks ∙ h.blocks ∙ sym passes.size;
@@ -248,13 +248,13 @@ module _ (name : List ℕ) (slots journal : ℕ) (has_parts : Bool) (d0 : DiskSt
         dead_performs rose m = record {
           lines = line.Down name Failed ∷ [];
           answer = line.Broken Failed;
-          node = spoilt true (unpowered d0.stops n);
+          node = with_unknown_volume true (unpowered d0.stops n);
           shared = w;
-          step = subst (λ x. NodeStep w n (counts_of d0) (Serves (Init slots journal)) (line.Down x Failed ∷ []) (line.Broken Failed) true (spoilt true (unpowered d0.stops n)) w (counts_of d)) h.name
+          step = subst (λ x. NodeStep w n (counts_of d0) (Serves (Init slots journal)) (line.Down x Failed ∷ []) (line.Broken Failed) true (with_unknown_volume true (unpowered d0.stops n)) w (counts_of d)) h.name
               (step_dead w n slots journal (counts_of d0) (counts_of d) (passes.faults h.counts) (passes.stops h.counts) none_early rose);
           emits = m;
           alike = share;
-          stands = spoilt_stands (spoilt true (unpowered d0.stops n)) refl refl refl refl refl refl (λ e. e) refl;
+          stands = spoilt_stands (with_unknown_volume true (unpowered d0.stops n)) refl refl refl refl refl refl (λ e. e) refl;
         }
 
         -- it went down while the volume was written
@@ -262,17 +262,17 @@ module _ (name : List ℕ) (slots journal : ℕ) (has_parts : Bool) (d0 : DiskSt
         fell_performs cause rose m = record {
           lines = line.Down name cause ∷ [];
           answer = line.Broken cause;
-          node = fallen None (spoilt true (powered Lost d0.stops n));
+          node = fallen None (with_unknown_volume true (powered Lost d0.stops n));
           shared = w;
-          step = subst (λ x. NodeStep w n (counts_of d0) (Serves (Init slots journal)) (line.Down x cause ∷ []) (line.Broken cause) true (fallen None (spoilt true (powered Lost d0.stops n))) w (counts_of d)) h.name
+          step = subst (λ x. NodeStep w n (counts_of d0) (Serves (Init slots journal)) (line.Down x cause ∷ []) (line.Broken cause) true (fallen None (with_unknown_volume true (powered Lost d0.stops n))) w (counts_of d)) h.name
               (step_fell w n slots journal (counts_of d0) (counts_of d) (passes.faults h.counts) (passes.stops h.counts) none_early cause rose);
           emits = m;
           alike = share;
-          stands = spoilt_stands (fallen None (spoilt true (powered Lost d0.stops n))) refl refl refl refl refl refl (λ e. e) refl;
+          stands = spoilt_stands (fallen None (with_unknown_volume true (powered Lost d0.stops n))) refl refl refl refl refl refl (λ e. e) refl;
         }
 
         abbrev made : Node
-        made = acted (Formats slots journal) (spoilt true (powered Lost d0.stops n))
+        made = acted (Formats slots journal) (with_unknown_volume true (powered Lost d0.stops n))
 
         abbrev catalog : Catalog
         catalog = empty_catalog (empty_home name d0.size slots journal)
@@ -285,7 +285,7 @@ module _ (name : List ℕ) (slots journal : ℕ) (has_parts : Bool) (d0 : DiskSt
               tells = told;
               sound = rw (h.name, h.blocks) sound;
               leaves = λ each. subst (λ (c : List (List ℕ)). LeavesVolume c catalog made) (sym content)
-                  (law.formats (home image) catalog (spoilt true (powered Lost d0.stops n)) slots journal (is_made name d0.size slots journal image fit whole least (subst (IsEmptyVolume (empty_home name d0.size slots journal)) content empty)) (subst EachWhole content each) h.place.down);
+                  (law.formats (home image) catalog (with_unknown_volume true (powered Lost d0.stops n)) slots journal (is_made name d0.size slots journal image fit whole least (subst (IsEmptyVolume (empty_home name d0.size slots journal)) content empty)) (subst EachWhole content each) h.place.down);
             }
 
         made_performs : KeepsNodes → IfSome d.seen (λ image. TellsCatalog catalog (content_of image)) → IfSome d.seen (λ image. IsEmptyVolume (empty_home name d0.size slots journal) (content_of image)) → IsSound name d0.size catalog → IfSome d.seen (λ image. gate_open image ≡ false) → IfSome d.seen (IsWhole d.size) → 4096 ≤ d0.size
@@ -363,7 +363,7 @@ or_true true = refl
 or_true false = refl
 
 -- A node may have been in use.
-pub init_in_use : (slots journal : ℕ) (k : Kept) (s : SharedState) (a b : Shown) → s.in_use ≡ true → Emits a (line.VolumeInUse ∷ []) b → TellsTask (Serves (Init slots journal)) true true k s a b k s × PerformsRequest (Init slots journal) k s a b k s
+pub init_in_use : (slots journal : ℕ) (k : NodeState) (s : SharedState) (a b : Shown) → s.in_use ≡ true → Emits a (line.VolumeInUse ∷ []) b → TellsTask (Serves (Init slots journal)) true true k s a b k s × PerformsRequest (Init slots journal) k s a b k s
 init_in_use slots journal k s a b used m = (
   record {
     lines = [];
@@ -405,11 +405,11 @@ init_in_use slots journal k s a b used m = (
     some_line x y e = cc
 
 -- None was, and it was refused, done or cut.
-pub init_at : (slots journal : ℕ) (k : Kept) (done : Formatted) (p : Place) → FormatsPlace k.name slots journal k.place done p → (s : SharedState) → s.in_use ≡ false → (a b : Shown) → Emits a (init_lines k.name done ++ init_answer done ∷ []) b
+pub init_at : (slots journal : ℕ) (k : NodeState) (done : Formatted) (p : Place) → FormatsPlace k.name slots journal k.place done p → (s : SharedState) → s.in_use ≡ false → (a b : Shown) → Emits a (init_lines k.name done ++ init_answer done ∷ []) b
     → TellsTask (Serves (Init slots journal)) true (is_ended done) k s a b (record k { unmade = unmade_then done k.unmade; place = p }) s × PerformsRequest (Init slots journal) k s a b (record k { unmade = unmade_then done k.unmade; place = p }) s
 init_at slots journal k done p h s unused a b m = go k.place p h
   where
-    go : (x y : Place) → FormatsPlace k.name slots journal x done y → (let j : Kept = record { name = k.name; unmade = k.unmade; clock = k.clock; place = x } in let l : Kept = record { name = k.name; unmade = unmade_then done k.unmade; clock = k.clock; place = y } in
+    go : (x y : Place) → FormatsPlace k.name slots journal x done y → (let j : NodeState = record { name = k.name; unmade = k.unmade; clock = k.clock; place = x } in let l : NodeState = record { name = k.name; unmade = unmade_then done k.unmade; clock = k.clock; place = y } in
         TellsTask (Serves (Init slots journal)) true (is_ended done) j s a b l s × PerformsRequest (Init slots journal) j s a b l s)
     go (IsRunning r) y h = absurd h
     go (IsDown has_parts d0) (IsRunning r) h = absurd h

@@ -16,14 +16,14 @@ use Rattle.dtm_node.specs.declared.node.Place as code
 use Rattle.dtm_node.specs.declared.node.Place.TheVariants as code_place
 use Rattle.node_standing.specs.Keeping.{PerformsRequest}
 use Rattle.dtm_node.specs.Nodes.{IsNode, IsPlaceOf, fallen_place, kept_of, place_of}
-use Rattle.node_standing.specs.Standing.{Kept, Place, disk_of, is_up}
+use Rattle.node_standing.specs.Standing.{NodeState, Place, disk_of, is_up}
 use Rattle.node_standing.specs.Telling.{TellsTask}
 use Rattle.dtm_node.proofs.Performing.{kept_fallen, kept_up}
 use Rattle.dtm_node.proofs.Simple.{crash_performs, crash_tells}
 
 module _ {D U : Type 0} (state : D → DiskState) (units : U → UnitsState) where
   -- what is kept of the node, and of what is left of it
-  was_up : (m : Node D U) (p : code.Place D U) → m.place ≡ p → (count : ℕ) (s : SharedState) → IsPlaceOf state units count s m p → is_up (place_of state units p) ≡ true → (q : Place) → q ≡ fallen_place (place_of state units p) → (P : Kept → Kept → Type 0)
+  was_up : (m : Node D U) (p : code.Place D U) → m.place ≡ p → (count : ℕ) (s : SharedState) → IsPlaceOf state units count s m p → is_up (place_of state units p) ≡ true → (q : Place) → q ≡ fallen_place (place_of state units p) → (P : NodeState → NodeState → Type 0)
       → ((r : Running D U) → IsPlaceOf state units count s m (code_place.Up r) → P (kept_up m.name m.clock.0 (up_of units r)) (kept_fallen m.name m.clock.0 (disk_of (up_of units r)))) → P (kept_of state units m) (record (kept_of state units m) { place = q })
   was_up m (code_place.Down disk parts) is count s h up q fell P f = let none : ⊥ = cc in absurd none
   was_up m (code_place.Up r) is count s h up q fell P f =

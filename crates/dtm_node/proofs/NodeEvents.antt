@@ -22,13 +22,13 @@ use Rattle.commit_protocol.specs.Messages.{Message}
 use Rattle.run_model.specs.Answers.{Hears, Task, outcome_told}
 use Rattle.vms_model.specs.Transactions.{Outcome}
 use Rattle.emitter_model.proofs.EmittingLemmas.{emits_nothing, emits_on}
-use Rattle.node_standing.specs.Standing.{IsDown, IsRunning, Kept, Place, disk_of, is_up}
+use Rattle.node_standing.specs.Standing.{IsDown, IsRunning, NodeState, Place, disk_of, is_up}
 use Rattle.dtm_node.proofs.Coming.{event_at_down, event_done, event_failed}
 use Rattle.dtm_node.proofs.Falling.{told_up}
 use Rattle.dtm_node.proofs.NodeLemmas.{kept_is_down, kept_is_up}
 use Rattle.dtm_node.proofs.Performing.{kept_fallen, kept_up}
 
-tells_as : (e : Event) (goes_on ends : Bool) (k k' : Kept) (s t : SharedState) (a b : Shown) (l l' : Kept) → k ≡ k' → l ≡ l' → TellsEvent e goes_on ends k' s a b l' t → TellsEvent e goes_on ends k s a b l t
+tells_as : (e : Event) (goes_on ends : Bool) (k k' : NodeState) (s t : SharedState) (a b : Shown) (l l' : NodeState) → k ≡ k' → l ≡ l' → TellsEvent e goes_on ends k' s a b l' t → TellsEvent e goes_on ends k s a b l t
 tells_as e goes_on ends k k' s t a b l l' p q h = subst (λ x. TellsEvent e goes_on ends x s a b l t) (sym p) (subst (λ x. TellsEvent e goes_on ends k' s a b x t) (sym q) h)
 
 module _ {D U : Type 0} (state : D → DiskState) (units : U → UnitsState) (rows : RowsKeepUp) (e : Event) (free : ComesFreely e) (n : Node D U) (s : SharedState) where
@@ -44,7 +44,7 @@ module _ {D U : Type 0} (state : D → DiskState) (units : U → UnitsState) (ro
         (kept_is_up state units n r is p.3) (kept_is_up state units (record n { place = code_place.Up new }) new refl p.3)
         (event_done rows e free n.name n.clock.0 (up_of units r) (up_of units new) s t a b (sym (p.1 ∙ p.0.follows.node)) (λ w stands. told_up n.clock.0 (up_of units r) w p.0 stands) keeps.goes keeps.node keeps.work goes_on does)
 
-    pub node_failed : (d : Down) (c : Shown) (goes_on : Bool) (l : Kept) → l ≡ record (kept_of state units (record n { place = code_place.Up new })) { place = fallen_place (kept_of state units (record n { place = code_place.Up new })).place }
+    pub node_failed : (d : Down) (c : Shown) (goes_on : Bool) (l : NodeState) → l ≡ record (kept_of state units (record n { place = code_place.Up new })) { place = fallen_place (kept_of state units (record n { place = code_place.Up new })).place }
         → Emits b (line.Down n.name (cause_of d) ∷ (if not goes_on then line.Broken (cause_of d) ∷ [] else [])) c → KeepsUp {T = Unit {0}} (Err d) e n.clock.0 (up_of units r) (up_of units new) s t a b → TellsRows {T = Unit {0}} (Err d) e n.clock.0 (up_of units r) (up_of units new) s t a b
         → TellsEvent e goes_on (not goes_on) (kept_of state units n) s a c l t
     node_failed d c goes_on l q shows keeps does =
@@ -53,7 +53,7 @@ module _ {D U : Type 0} (state : D → DiskState) (units : U → UnitsState) (ro
         (kept_is_up state units n r is p.3) (q ∙ (λ i. kept_fallen_with (p.3 i)))
         (event_failed rows e free n.name n.clock.0 (up_of units r) (up_of units new) s t a b (sym (p.1 ∙ p.0.follows.node)) (λ w stands. told_up n.clock.0 (up_of units r) w p.0 stands) keeps.goes keeps.node keeps.work d c goes_on keeps.cause shows does)
       where
-        kept_fallen_with : Bool → Kept
+        kept_fallen_with : Bool → NodeState
         kept_fallen_with u = record (kept_fallen n.name n.clock.0 (disk_of (up_of units new))) { unmade = u }
 
   pub node_down : (disk : D) (parts : Option (Parts U)) → n.place ≡ code_place.Down disk parts → (a b : Shown) → Emits a (line.NodeDown ∷ []) b → TellsEvent e false true (kept_of state units n) s a b (kept_of state units n) s
@@ -63,11 +63,11 @@ module _ {D U : Type 0} (state : D → DiskState) (units : U → UnitsState) (ro
 
 -- A node that is down, whatever its place is.
 
-down_place : (e : Event) (name : List ℕ) (unmade : Bool) (clock : ℕ) (p : Place) (s : SharedState) (a b : Shown) → is_up p ≡ false → Emits a (line.NodeDown ∷ []) b → (let k : Kept = record { name = name; unmade = unmade; clock = clock; place = p } in TellsEvent e false true k s a b k s)
+down_place : (e : Event) (name : List ℕ) (unmade : Bool) (clock : ℕ) (p : Place) (s : SharedState) (a b : Shown) → is_up p ≡ false → Emits a (line.NodeDown ∷ []) b → (let k : NodeState = record { name = name; unmade = unmade; clock = clock; place = p } in TellsEvent e false true k s a b k s)
 down_place e name unmade clock (IsDown has_parts d) s a b down shows = event_at_down e name unmade clock has_parts d s a b shows
 down_place e name unmade clock (IsRunning r) s a b down shows = let f : ⊥ = cc in absurd f
 
-pub down_event : (e : Event) (k : Kept) (s : SharedState) (a b : Shown) → is_up k.place ≡ false → Emits a (line.NodeDown ∷ []) b → TellsEvent e false true k s a b k s
+pub down_event : (e : Event) (k : NodeState) (s : SharedState) (a b : Shown) → is_up k.place ≡ false → Emits a (line.NodeDown ∷ []) b → TellsEvent e false true k s a b k s
 down_event e k s a b down shows = down_place e k.name k.unmade k.clock k.place s a b down shows
 
 pub none_first : (u : Bool) (m : Message) (a : Shown) → u ≡ false → Emits a (shown_first u (Hears m)) a

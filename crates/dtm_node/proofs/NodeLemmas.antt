@@ -5,7 +5,7 @@ use Rattle.commit_protocol.specs.Rows as rows
 use Rattle.commit_protocol.specs.Rows.{Event}
 use Rattle.commit_protocol.specs.Allowed.{allowed}
 use Rattle.commit_protocol.specs.Table.{Tm}
-use Rattle.log_laws.specs.Slots.{begun}
+use Rattle.log_laws.specs.Slots.{branches_added}
 use Rattle.recovery_units.specs.State.{UnitsState}
 use Rattle.run_shared.specs.Sharing.{SharedState}
 use Rattle.node_table.specs.Code.{up_of}
@@ -71,7 +71,7 @@ free_fresh r (rows.AbortBranch serial why) f = tt
 free_fresh r (rows.Replied serial rm reply) f = tt
 free_fresh r (rows.InquireBranch serial) f = tt
 
-free_begun : (e : Event) → ComesFreely e → begun e ≡ 0
+free_begun : (e : Event) → ComesFreely e → branches_added e ≡ 0
 free_begun (rows.Got m) f = refl
 free_begun (rows.Clock now) f = refl
 free_begun (rows.LinkDown other) f = refl

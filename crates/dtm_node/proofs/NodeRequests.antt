@@ -13,7 +13,7 @@ use Rattle.run_model.specs.World as world
 use Rattle.recovery_units.specs.State.{UnitsState}
 use Rattle.run_shared.specs.Sharing.{SharedState}
 use Rattle.node_table.specs.Code.{up_of}
-use Rattle.node_table.specs.Standing.{IsUp, StandsUp}
+use Rattle.node_table.specs.Standing.{IsUp, UpRepresents}
 use Rattle.node_table.specs.declared.running.Running.{Running}
 use Rattle.dtm_node.specs.declared.node.Node.{Node}
 use Rattle.dtm_node.specs.declared.node.Parts.{Parts}
@@ -24,7 +24,7 @@ use Rattle.node_standing.specs.Keeping.{PerformsRequest}
 use Rattle.dtm_node.specs.Nodes.{IsNode, IsPlaceOf, MayFall, fallen_place, kept_of}
 use Rattle.node_requests.specs.Requests.{DoesRequest, IsForUp, LacksMemory, MayServe, SaysRequest, said_up}
 use Rattle.node_requests.specs.Running.{name_of}
-use Rattle.node_standing.specs.Standing.{Kept, disk_of}
+use Rattle.node_standing.specs.Standing.{NodeState, disk_of}
 use Rattle.node_standing.specs.Telling.{TellsTask}
 use Rattle.dtm_node.proofs.Falling.{told_up}
 use Rattle.dtm_node.proofs.NodeLemmas.{grown_more, kept_is_down, kept_is_up, may_serve, moved_grown}
@@ -68,12 +68,12 @@ module _ {D U : Type 0} (state : D → DiskState) (units : U → UnitsState) whe
     pub may_serve_node : (count : ℕ) × (count < 1000002) × IsNode state units count s n → MayServe n.clock.0 (up_of units r)
     may_serve_node h = let p = at h.0 h.2 in may_serve n.clock.0 h.0 (up_of units r) p.0 p.4 h.1 h.2.clock
 
-    told : (count : ℕ) → IsNode state units count s n → (m : world.Node) → StandsUp n.clock.0 (up_of units r) m → is_some (disk_of (up_of units r)).seen ≡ true
+    told : (count : ℕ) → IsNode state units count s n → (m : world.Node) → UpRepresents n.clock.0 (up_of units r) m → is_some (disk_of (up_of units r)).seen ≡ true
     told count h m stands = told_up n.clock.0 (up_of units r) m (at count h).0 stands
 
     module _ (request : Request) (asks : IsForUp request) (new : Running D U) (t : SharedState) (a b : Shown) where
       -- what is kept of the node before and behind
-      kept_so : (count : ℕ) → IsNode state units count s n → (P : Kept → Kept → Type 0) → P (kept_up (name_of (up_of units r)) n.clock.0 (up_of units r)) (kept_up (name_of (up_of units r)) n.clock.0 (up_of units new))
+      kept_so : (count : ℕ) → IsNode state units count s n → (P : NodeState → NodeState → Type 0) → P (kept_up (name_of (up_of units r)) n.clock.0 (up_of units r)) (kept_up (name_of (up_of units r)) n.clock.0 (up_of units new))
           → P (kept_of state units n) (kept_of state units (record n { place = code_place.Up new }))
       kept_so count h P x =
           let made = (at count h).3 in
@@ -81,7 +81,7 @@ module _ {D U : Type 0} (state : D → DiskState) (units : U → UnitsState) whe
           subst (λ k. P k (kept_of state units (record n { place = code_place.Up new }))) (sym (kept_is_up state units n r is made ∙ ap (λ (name : List ℕ). kept_up name n.clock.0 (up_of units r)) same))
           (subst (λ l. P (kept_up (name_of (up_of units r)) n.clock.0 (up_of units r)) l) (sym (kept_is_up state units (record n { place = code_place.Up new }) new refl made ∙ ap (λ (name : List ℕ). kept_up name n.clock.0 (up_of units new)) same)) x)
 
-      fell_so : (count : ℕ) → IsNode state units count s n → (l : Kept) → l ≡ record (kept_of state units (record n { place = code_place.Up new })) { place = fallen_place (kept_of state units (record n { place = code_place.Up new })).place } → (P : Kept → Kept → Type 0)
+      fell_so : (count : ℕ) → IsNode state units count s n → (l : NodeState) → l ≡ record (kept_of state units (record n { place = code_place.Up new })) { place = fallen_place (kept_of state units (record n { place = code_place.Up new })).place } → (P : NodeState → NodeState → Type 0)
           → P (kept_up (name_of (up_of units r)) n.clock.0 (up_of units r)) (kept_fallen (name_of (up_of units r)) n.clock.0 (disk_of (up_of units new))) → P (kept_of state units n) l
       fell_so count h l q P x =
           let made = (at count h).3 in
@@ -135,7 +135,7 @@ module _ {D U : Type 0} (state : D → DiskState) (units : U → UnitsState) whe
             let size = sym does.keeps.goes.size in
             (subst (λ (d : ℕ). 4096 ≤ d) size order.least, subst (λ (d : ℕ). d ≤ 65536) size order.most, subst (λ p. 32 ≤ free_frames p) (sym does.keeps.pool) order.frames)
 
-        module _ (c : Shown) (l : Kept) (fell : l ≡ record (kept_of state units (record n { place = code_place.Up new })) { place = fallen_place (kept_of state units (record n { place = code_place.Up new })).place })
+        module _ (c : Shown) (l : NodeState) (fell : l ≡ record (kept_of state units (record n { place = code_place.Up new })) { place = fallen_place (kept_of state units (record n { place = code_place.Up new })).place })
             (shows : Emits b (line.Down n.name (cause_of e) ∷ line.Broken (cause_of e) ∷ []) c) where
           named_so : (count : ℕ) → IsNode state units count s n → Emits b (line.Down (name_of (up_of units r)) (cause_of e) ∷ line.Broken (cause_of e) ∷ []) c
           named_so count h = subst (λ (name : List ℕ). Emits b (line.Down name (cause_of e) ∷ line.Broken (cause_of e) ∷ []) c) (sym (named count h)) shows

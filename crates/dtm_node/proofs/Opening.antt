@@ -14,13 +14,13 @@ use Rattle.volume_model.specs.Volumes.{HasDisk}
 use Rattle.world_laws.specs.Nodes.{IsKeptNode, StepsKeepNodes}
 use Rattle.recovery_units.specs.Calls.{IsRestarting}
 use Rattle.recovery_units.specs.State.{HasNoUnit}
-use Rattle.recovery_units.specs.Uses.{Goes, IsCounted}
+use Rattle.recovery_units.specs.Uses.{DiskAdvances, IsCounted}
 use Rattle.node_table.specs.Standing.{Up}
 use Rattle.dtm_node.specs.Boots.{IsAwake, IsBootRefusal, IsRaised}
 use Rattle.dtm_node.specs.Causes.{cause_of}
 use Rattle.node_standing.specs.Keeping.{IsPromised}
 use Rattle.dtm_node.specs.Opening.{EndsBoot, OpensUp, Wakes, kept_down, used}
-use Rattle.node_standing.specs.Standing.{StandsFor, counts_of, disk_of}
+use Rattle.node_standing.specs.Standing.{RepresentsNode, counts_of, disk_of}
 use Rattle.dtm_node.proofs.BootEnds.{ends_boot, fallen_end, fallen_rose, lacking_end, refused_end, shares_used}
 use Rattle.dtm_node.proofs.Booting.{boot_fell, boot_lacks, boot_refused, boot_unpowered}
 use Rattle.node_standing.specs.Holding.{HoldsAs}
@@ -43,14 +43,14 @@ module _ (name : List ℕ) (clock : ℕ) (has_parts : Bool) (d0 : DiskState) whe
 
   module _ (steps : StepsKeepNodes) (d1 : DiskState) (power : IsPowered d0 d1) where
     -- the node of the world once its disk runs again
-    wakes_here : (log : CallLog) (w : Shared) (n : Node) → StandsFor log (kept_down name clock has_parts d0) n → IsKeptNode w n → IsPromised Restarts n → Wakes n d0 d1
+    wakes_here : (log : CallLog) (w : Shared) (n : Node) → RepresentsNode log (kept_down name clock has_parts d0) n → IsKeptNode w n → IsPromised Restarts n → Wakes n d0 d1
     wakes_here log w n h kept promised = wakes w n d0 d1 h.place.down h.blocks h.place.told (λ e. (let clash : true ≡ false = sym (promised e) ∙ h.unmade in let none : ⊥ = cc in none)) kept
         (λ outturn may. powered_kept steps w n kept h.place.down h.unmade outturn d0.stops may) h.place.disk power
 
-    awake_here : (log : CallLog) (n : Node) → StandsFor log (kept_down name clock has_parts d0) n → (x : Wakes n d0 d1) → IsAwake name d1 (powered x.outturn d0.stops n)
+    awake_here : (log : CallLog) (n : Node) → RepresentsNode log (kept_down name clock has_parts d0) n → (x : Wakes n d0 d1) → IsAwake name d1 (powered x.outturn d0.stops n)
     awake_here log n h x = subst (λ y. IsAwake y d1 (powered x.outturn d0.stops n)) h.name x.awake
 
-    module _ (d : DiskState) (goes : Goes d1 d) where
+    module _ (d : DiskState) (goes : DiskAdvances d1 d) where
       -- what the disk has refuses the boot, or a quota
       pub open_refused : (refusal : Line) → IsBootRefusal refusal → HoldsAs d1 d → ((n : Node) → IsAwake name d1 n → (bootable n ≡ Some refusal) × HasDisk n d) → EndsBoot (kept_down name clock has_parts d0) [] refusal false (kept_down name clock true d)
       open_refused refusal is held boots =
@@ -73,7 +73,7 @@ module _ (name : List ℕ) (clock : ℕ) (has_parts : Bool) (d0 : DiskState) whe
           (boots (powered x.outturn d0.stops n) (awake_here log n h x)) m)
 
     -- the volume is there
-    pub open_up : (r : Up) → Goes d1 (disk_of r) → IsRaised name r.stored.volume → HasNoUnit r.stored.units → ((n : Node) → IsAwake name d1 n → (bootable n ≡ None) × IsRestarting r.stored.volume (acted Boots n)) → OpensUp (kept_down name clock has_parts d0) r
+    pub open_up : (r : Up) → DiskAdvances d1 (disk_of r) → IsRaised name r.stored.volume → HasNoUnit r.stored.units → ((n : Node) → IsAwake name d1 n → (bootable n ≡ None) × IsRestarting r.stored.volume (acted Boots n)) → OpensUp (kept_down name clock has_parts d0) r
     open_up r goes raised none boots = record {
       raised = raised;
       none = none;

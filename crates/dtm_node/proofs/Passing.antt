@@ -16,10 +16,10 @@ use Rattle.transcript_model.specs.Outside.{Rose}
 use Rattle.transcript_model.proofs.OutsideLemmas.{rose_earlier}
 use Rattle.transcript_model.specs.Lines.{Cause, Failed, Stopped}
 use Rattle.run_model.specs.Steps.{count_of}
-use Rattle.recovery_units.specs.Uses.{Goes, IsCounted}
+use Rattle.recovery_units.specs.Uses.{DiskAdvances, IsCounted}
 use Rattle.dtm_node.specs.Causes.{cause_of}
 use Rattle.node_standing.specs.Standing.{counts_of}
-use Rattle.node_standing.specs.Telling.{Passes}
+use Rattle.node_standing.specs.Telling.{DiskAdvancesOverCalls}
 
 up : (b : Bool) (n : ℕ) → n < 2 ^ 64 → (n ≤ counted b n) × (counted b n < 2 ^ 64)
 up true n h = (omega arith, omega arith)
@@ -31,10 +31,10 @@ risen n = elim (nat_lt n 18446744073709551615) as (λ t. nat_lt n 18446744073709
   | false ↦ λ t. let le : 18446744073709551615 ≤ n = ltb-false n 18446744073709551615 t in inr (omega arith)
 ] refl
 
-pub passes_same : (d : DiskState) → Passes d d
+pub passes_same : (d : DiskState) → DiskAdvancesOverCalls d d
 passes_same d = record { size = refl; faults = λ h. omega arith; stops = λ h. omega arith; counted = λ h. h; told = refl }
 
-pub passes_goes : (a b c : DiskState) → Passes a b → Goes b c → Passes a c
+pub passes_goes : (a b c : DiskState) → DiskAdvancesOverCalls a b → DiskAdvances b c → DiskAdvancesOverCalls a c
 passes_goes a b c f g = record {
   size = g.size ∙ f.size;
   faults = λ h. omega (arith, f.faults h, g.faults (f.counted h));
@@ -43,7 +43,7 @@ passes_goes a b c f g = record {
   told = g.told ∙ f.told;
 }
 
-pub passes_on : (a b c : DiskState) → Passes a b → Passes b c → Passes a c
+pub passes_on : (a b c : DiskState) → DiskAdvancesOverCalls a b → DiskAdvancesOverCalls b c → DiskAdvancesOverCalls a c
 passes_on a b c f g = record {
   size = g.size ∙ f.size;
   faults = λ h. omega (arith, f.faults h, g.faults (f.counted h));
@@ -52,7 +52,7 @@ passes_on a b c f g = record {
   told = g.told ∙ f.told;
 }
 
-pub passes_counts : (failed stopped : Bool) (old new : DiskState) → CountsOnce failed stopped old new → Passes old new
+pub passes_counts : (failed stopped : Bool) (old new : DiskState) → CountsOnce failed stopped old new → DiskAdvancesOverCalls old new
 passes_counts failed stopped old new c = record {
   size = c.size;
   faults = λ h. rw c.faults ((up failed old.faults h.0).0);
@@ -67,7 +67,7 @@ same_told (Some b) None ns h = absurd h
 same_told (Some b) (Some c) ns h = refl
 
 -- the disk runs again
-pub passes_power : (old new : DiskState) → IsPowered old new → Passes old new
+pub passes_power : (old new : DiskState) → IsPowered old new → DiskAdvancesOverCalls old new
 passes_power old new p = record {
   size = ap (λ (t : DiskState). t.size) p.state;
   faults = λ h. subst (λ n. old.faults ≤ n) (sym (ap (λ (t : DiskState). t.faults) p.state)) (omega arith);
@@ -87,7 +87,7 @@ pub rose_after : (cause : Cause) (old mid new : DiskState) → IsPowered old mid
 rose_after cause old mid new p r = subst (λ n. Rose n (count_of cause (counts_of new))) (power_count cause old mid p) r
 
 -- a failure that came behind calls that raised no count
-pub rose_behind : (cause : Cause) (a b d : DiskState) → IsCounted a → Passes a b → Rose (count_of cause (counts_of b)) (count_of cause (counts_of d)) → Rose (count_of cause (counts_of a)) (count_of cause (counts_of d))
+pub rose_behind : (cause : Cause) (a b d : DiskState) → IsCounted a → DiskAdvancesOverCalls a b → Rose (count_of cause (counts_of b)) (count_of cause (counts_of d)) → Rose (count_of cause (counts_of a)) (count_of cause (counts_of d))
 rose_behind Failed a b d h p r = rose_earlier _ _ _ (p.faults h) r
 rose_behind Stopped a b d h p r = rose_earlier _ _ _ (p.stops h) r
 
@@ -101,7 +101,7 @@ pub record Unpowers (e : DiskErr) (old new : DiskState) : Type 0 where
   pub pending : new.pending ≡ old.pending
   pub seen : new.seen ≡ old.seen
   pub calls : new.calls ≡ noted (disk_call.Power old.stops) old.calls
-  pub passes : Passes old new
+  pub passes : DiskAdvancesOverCalls old new
   pub rose : Rose (count_of Failed (counts_of old)) (count_of Failed (counts_of new))
 
 abbrev failure : DiskErr → Result (Unit {0}) DiskErr

@@ -15,21 +15,21 @@ use Rattle.run_model.specs.Answers.{Row, Service, Task, refused_before_reading, 
 use Rattle.run_model.specs.Operations.{first_of, refused_if}
 use Rattle.run_model.specs.Steps.{NodeStep, act_begun, count_of, lines_of_rows, node_after, node_after_rows, rows_if, shared_after_rows}
 use Rattle.volume_model.specs.Volumes.{HasDisk}
-use Rattle.recovery_units.specs.Uses.{Caused, Goes, IsCounted}
+use Rattle.recovery_units.specs.Uses.{Caused, DiskAdvances, IsCounted}
 use Rattle.run_shared.specs.Sharing.{IsShared, SharedState}
 use Rattle.node_table.specs.Serving.{WasCut, WasRefused, WasServed, rows_at_risk, service_at}
-use Rattle.node_table.specs.Standing.{StandsUp, Up}
+use Rattle.node_table.specs.Standing.{Up, UpRepresents}
 use Rattle.dtm_node.specs.Causes.{cause_of}
 use Rattle.node_standing.specs.Keeping.{Performs}
 use Rattle.node_requests.specs.Running.{name_of}
-use Rattle.node_standing.specs.Standing.{IsDown, IsRunning, Kept, StandsFor, counts_of, disk_of, noted_all}
+use Rattle.node_standing.specs.Standing.{IsDown, IsRunning, NodeState, RepresentsNode, counts_of, disk_of, noted_all}
 use Rattle.dtm_node.proofs.Stepping.{IsPlain, step_cut, step_done, step_early, step_lacking, step_late}
 
 -- what is kept of a node that is up, and of one that went down
-abbrev pub kept_up : List ℕ → ℕ → Up → Kept
+abbrev pub kept_up : List ℕ → ℕ → Up → NodeState
 kept_up name clock r = record { name = name; unmade = false; clock = clock; place = IsRunning r }
 
-abbrev pub kept_fallen : List ℕ → ℕ → DiskState → Kept
+abbrev pub kept_fallen : List ℕ → ℕ → DiskState → NodeState
 kept_fallen name clock d = record { name = name; unmade = false; clock = clock; place = IsDown true d }
 
 -- What acts leave of a node by which no volume is made, no disk armed and no clock set.
@@ -101,13 +101,13 @@ either_some : (x y : Option Line) (l : Line) → first_of x y ≡ Some l → (x 
 either_some None y l h = inr (refl, h)
 either_some (Some k) y l h = inl h
 
-module _ (log : CallLog) (s : Shared) (n : Node) (name : List ℕ) (clock : ℕ) (old : Up) (h : StandsFor log (kept_up name clock old) n) (named : name_of old ≡ name) (told : is_some (disk_of old).seen ≡ true) where
+module _ (log : CallLog) (s : Shared) (n : Node) (name : List ℕ) (clock : ℕ) (old : Up) (h : RepresentsNode log (kept_up name clock old) n) (named : name_of old ≡ name) (told : is_some (disk_of old).seen ≡ true) where
   -- a node that is up refuses nothing for being down
   pub before_here : (e : Service) → refused_before_reading s n e ≡ e.refused_before_reading s n
   before_here e = ap (λ (b : Bool). first_of (refused_if (not (b || e.while_down)) line.NodeDown) (e.refused_before_reading s n)) h.place.stands.up
 
-  module _ (t : Task) (goes_on : Bool) (p : IsPlain (task_service t) goes_on) (new : Up) (goes : Goes (disk_of old) (disk_of new)) (node_is : name_of new ≡ name_of old) (after : SharedState) where
-    pub stands_then : (m : Node) → StandsUp clock new m → Same m n → StandsFor log (kept_up name clock new) m
+  module _ (t : Task) (goes_on : Bool) (p : IsPlain (task_service t) goes_on) (new : Up) (goes : DiskAdvances (disk_of old) (disk_of new)) (node_is : name_of new ≡ name_of old) (after : SharedState) where
+    pub stands_then : (m : Node) → UpRepresents clock new m → Same m n → RepresentsNode log (kept_up name clock new) m
     stands_then m up same = record {
       name = up.stands.kept.name ∙ node_is ∙ named;
       blocks = up.stands.kept.blocks;
@@ -118,7 +118,7 @@ module _ (log : CallLog) (s : Shared) (n : Node) (name : List ℕ) (clock : ℕ)
       counts = goes.counted h.counts;
     }
 
-    pub fallen_then : (m : Node) (act : Option Act) → HasDisk (fallen act m) (disk_of new) → Same m n → StandsFor log (kept_fallen name clock (disk_of new)) (fallen act m)
+    pub fallen_then : (m : Node) (act : Option Act) → HasDisk (fallen act m) (disk_of new) → Same m n → RepresentsNode log (kept_fallen name clock (disk_of new)) (fallen act m)
     fallen_then m act has same = record {
       name = same.name ∙ h.name;
       blocks = same.blocks ∙ h.blocks ∙ sym goes.size;
@@ -136,7 +136,7 @@ module _ (log : CallLog) (s : Shared) (n : Node) (name : List ℕ) (clock : ℕ)
     stops = goes.stops h.counts
 
     -- it was refused
-    pub refused_performs : (a b : Shown) → WasRefused (service_at (task_service t) s n) a b (StandsUp clock new n × IsShared after s) → Performs log s n (counts_of (disk_of old)) t true true a b (kept_up name clock new) after
+    pub refused_performs : (a b : Shown) → WasRefused (service_at (task_service t) s n) a b (UpRepresents clock new n × IsShared after s) → Performs log s n (counts_of (disk_of old)) t true true a b (kept_up name clock new) after
     refused_performs a b w = record {
       lines = [];
       answer = w.refusal;
@@ -154,7 +154,7 @@ module _ (log : CallLog) (s : Shared) (n : Node) (name : List ℕ) (clock : ℕ)
         go (inr late) = step_late s n t (counts_of (disk_of old)) (counts_of (disk_of new)) faults stops goes_on p (before_here (task_service t) ∙ late.0) w.refusal late.1
 
     -- memory was lacking
-    pub lacking_performs : (a b : Shown) → (task_service t).refused_before_reading s n ≡ None → (task_service t).takes_memory n ≡ true → StandsUp clock new n → IsShared after s → Emits a (line.NoMemory ∷ []) b → Performs log s n (counts_of (disk_of old)) t true true a b (kept_up name clock new) after
+    pub lacking_performs : (a b : Shown) → (task_service t).refused_before_reading s n ≡ None → (task_service t).takes_memory n ≡ true → UpRepresents clock new n → IsShared after s → Emits a (line.NoMemory ∷ []) b → Performs log s n (counts_of (disk_of old)) t true true a b (kept_up name clock new) after
     lacking_performs a b early takes up alike shows = record {
       lines = [];
       answer = line.NoMemory;
@@ -168,7 +168,7 @@ module _ (log : CallLog) (s : Shared) (n : Node) (name : List ℕ) (clock : ℕ)
 
     module _ (rest : AllByRecursion LeavesRest ((task_service t).rows s n)) where
       -- it was done whole, and answered so
-      pub served_performs : (a b : Shown) → WasServed (service_at (task_service t) s n) s n a b (IsShared after) (StandsUp clock new) → Performs log s n (counts_of (disk_of old)) t true false a b (kept_up name clock new) after
+      pub served_performs : (a b : Shown) → WasServed (service_at (task_service t) s n) s n a b (IsShared after) (UpRepresents clock new) → Performs log s n (counts_of (disk_of old)) t true false a b (kept_up name clock new) after
       served_performs a b w =
           let none = both_none ((task_service t).refused_before_reading s n) ((task_service t).refused_after_reading s n) w.allowed in
           record {

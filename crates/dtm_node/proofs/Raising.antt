@@ -2,6 +2,7 @@
 use Rattle.std.proofs.Common.{◌≡◌, ⊎_elim, inl, inr, ℕ, zero, suc, ◌+◌, ◌-◌, ◌*◌, ◌<◌, ◌≤◌, ◌^◌, List, [], ◌∷◌, Bool, true, false, Option, Some, None, IfSome, if◌then◌else◌, length, take, replicate, slice_set, map, option_map, refl, sym, ap, subst, ◌∙◌, arith, nat_lt, max, min}
 use Rattle.std.specs.Prelude.{◌==◌, ◌&&◌, nat_le}
 use Rattle.std.proofs.lemmas.Bool.Decides.{nat_tests}
+use Rattle.vms_model.specs.Limits.{boot_limit, moment_limit, position_limit}
 use Rattle.journal_model.specs.Ring.{ring_size}
 use Rattle.std.proofs.Math.Seq.{take-length}
 use Rattle.block_disk.specs.Disk.{DiskState}
@@ -23,7 +24,7 @@ use Rattle.volume.specs.declared.catalog.Catalog.{Catalog}
 use Rattle.volume.specs.Catalogs.{IsSound, TellsCatalog}
 use Rattle.volume.specs.State.{VolumeState, Holds}
 use Rattle.run_model.specs.World.{Node, File, Carried, Boots, Volume, Sound, Faulty, Barred, Unknown, Bar, NoRing, NoIndex, AllBoots, LateMoment, FarPosition, Shared, acted, booted, fallen, prepared_left}
-use Rattle.run_model.specs.Answers.{Row, bar_line, bootable, boot_limit, images_end as files_end, last_position, left_active, moment_limit, position_limit, table_rows, unit_key}
+use Rattle.run_model.specs.Answers.{Row, bar_line, bootable, images_end as files_end, last_position, left_active, table_rows, unit_key}
 use Rattle.run_model.specs.Operations.{first_of, refused_if}
 use Rattle.commit_protocol.specs.World.{undo_all}
 use Rattle.file_base.specs.declared.head.Span.{Span}

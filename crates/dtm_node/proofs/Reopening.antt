@@ -21,7 +21,7 @@ use Rattle.recovery_units.specs.Uses.{Caused, Grows, ImagesGrow}
 use Rattle.recovery_units.specs.declared.settled.SettledUnit.{SettledUnit}
 use Rattle.node_table.specs.Growing.{groups_left}
 use Rattle.node_table.specs.Running.{IsBooted}
-use Rattle.node_table.specs.Standing.{IsUp, StandsUp, Stored}
+use Rattle.node_table.specs.Standing.{IsUp, Stored, UpRepresents}
 use Rattle.dtm_node.specs.Boots.{IsRaised}
 use Rattle.dtm_node.specs.Nodes.{last_lines_of, undone_line}
 use Rattle.dtm_node.specs.Opening.{Breaks, ReopensUp, prepared_told}
@@ -65,13 +65,13 @@ module _ (name : List ℕ) (clock : ℕ) (v w : VolumeState) (t : UnitsState) (t
   -- the node is up
   pub reopened_up : (doubt ids : List Id) (st : Stored) (tm : Tm) (drawn : ℕ) (rms : List Name) (boot : ℕ) (a b : Shown) → w.catalog.home.greatest_moment.0 + length t.begun ≤ max v.catalog.home.greatest_moment.0 clock + 64 → ImagesGrow v w → IsInOrder t w → AreOfBranches t.begun (branches_of (map log_record_of told.prepared)) → MayBegin told t.log → ReopensOk clock told v t w
       → st ≡ record { volume = w; units = t; in_doubt = ids } → drawn ≡ 0 → boot ≡ st.volume.catalog.home.boot → IsUp (record { stored = st; tm = tm; drawn = drawn; declared = rms })
-      → ((c : ℕ) (n : Node) → IsBooted c told (record { volume = w; units = t; in_doubt = doubt }) n → StandsUp c (record { stored = st; tm = tm; drawn = drawn; declared = rms }) n)
+      → ((c : ℕ) (n : Node) → IsBooted c told (record { volume = w; units = t; in_doubt = doubt }) n → UpRepresents c (record { stored = st; tm = tm; drawn = drawn; declared = rms }) n)
       → Emits a (last_lines_of v.catalog.home ++ (map undone_line told.settled ++ map prepared_told told.prepared)) b → ReopensUp clock v boot (record { stored = st; tm = tm; drawn = drawn; declared = rms }) a b
   reopened_up doubt ids st tm drawn rms boot a b room images order units begins done is none boot_is up stands shows =
-      subst (λ (x : Stored). boot ≡ x.volume.catalog.home.boot → IsUp (record { stored = x; tm = tm; drawn = drawn; declared = rms }) → ((c : ℕ) (n : Node) → IsBooted c told (record { volume = w; units = t; in_doubt = doubt }) n → StandsUp c (record { stored = x; tm = tm; drawn = drawn; declared = rms }) n)
+      subst (λ (x : Stored). boot ≡ x.volume.catalog.home.boot → IsUp (record { stored = x; tm = tm; drawn = drawn; declared = rms }) → ((c : ℕ) (n : Node) → IsBooted c told (record { volume = w; units = t; in_doubt = doubt }) n → UpRepresents c (record { stored = x; tm = tm; drawn = drawn; declared = rms }) n)
       → ReopensUp clock v boot (record { stored = x; tm = tm; drawn = drawn; declared = rms }) a b) (sym is) here boot_is up stands
     where
-      here : boot ≡ w.catalog.home.boot → IsUp (record { stored = record { volume = w; units = t; in_doubt = ids }; tm = tm; drawn = drawn; declared = rms }) → ((c : ℕ) (n : Node) → IsBooted c told (record { volume = w; units = t; in_doubt = doubt }) n → StandsUp c (record { stored = record { volume = w; units = t; in_doubt = ids }; tm = tm; drawn = drawn; declared = rms }) n)
+      here : boot ≡ w.catalog.home.boot → IsUp (record { stored = record { volume = w; units = t; in_doubt = ids }; tm = tm; drawn = drawn; declared = rms }) → ((c : ℕ) (n : Node) → IsBooted c told (record { volume = w; units = t; in_doubt = doubt }) n → UpRepresents c (record { stored = record { volume = w; units = t; in_doubt = ids }; tm = tm; drawn = drawn; declared = rms }) n)
           → ReopensUp clock v boot (record { stored = record { volume = w; units = t; in_doubt = ids }; tm = tm; drawn = drawn; declared = rms }) a b
       here counted up stands = record {
         told = told;

@@ -19,12 +19,12 @@ use Rattle.run_model.specs.Answers.{Restarts, Serves, service, touches}
 use Rattle.run_model.specs.Steps.{count_of}
 use Rattle.run_shared.specs.Sharing.{IsShared, SharedState}
 use Rattle.node_table.specs.Serving.{DoesService, service_at}
-use Rattle.node_table.specs.Standing.{StandsUp, Up}
+use Rattle.node_table.specs.Standing.{Up, UpRepresents}
 use Rattle.dtm_node.specs.Causes.{cause_of}
 use Rattle.node_standing.specs.Keeping.{Performs, PerformsRequest}
 use Rattle.node_requests.specs.Requests.{DoesRequest, IsForUp, LacksMemory, node_up, said_up}
 use Rattle.node_requests.specs.Running.{name_of}
-use Rattle.node_standing.specs.Standing.{IsDown, Kept, StandsFor, counts_of, disk_of}
+use Rattle.node_standing.specs.Standing.{IsDown, NodeState, RepresentsNode, counts_of, disk_of}
 use Rattle.node_standing.specs.Telling.{TellsTask, calls_after_task, said_alone, said_shared}
 use Rattle.dtm_node.proofs.Answered.{calm_answers, fell_answers, may_of, refused_answers, refused_unbroken, served_other, served_unbroken}
 use Rattle.dtm_node.proofs.Held.{holds_is}
@@ -161,12 +161,12 @@ module _ (request : Request) (asks : IsForUp request) (clock : ℕ) (old new : U
         held = λ down unused. (let f : ⊥ = cc in absurd f);
       }
 
-  module _ (told : (n : Node) → StandsUp clock old n → is_some (disk_of old).seen ≡ true) where
+  module _ (told : (n : Node) → UpRepresents clock old n → is_some (disk_of old).seen ≡ true) where
     -- each is a step of the node of the world.
     pub request_performs : DoesRequest {T = Unit {0}} (Ok tt) request clock old new before after a b → PerformsRequest request (kept_up (name_of old) clock old) before a b (kept_up (name_of old) clock new) after
     request_performs d = λ log n s h share kept promised. go log n s h (d.serves s n h.place share kept)
       where
-        go : (log : CallLog) (n : Node) (s : Shared) → StandsFor log (kept_up (name_of old) clock old) n → DoesService {T = Unit {0}} (Ok tt) (service_at (service request) s n) s n a b (StandsUp clock new n × IsShared after s) (IsShared after) (StandsUp clock new) (disk_of new)
+        go : (log : CallLog) (n : Node) (s : Shared) → RepresentsNode log (kept_up (name_of old) clock old) n → DoesService {T = Unit {0}} (Ok tt) (service_at (service request) s n) s n a b (UpRepresents clock new n × IsShared after s) (IsShared after) (UpRepresents clock new) (disk_of new)
             → (ends : Bool) × Performs log s n (counts_of (disk_of old)) (Serves request) true ends a b (kept_up (name_of old) clock new) after
         go log n s h (inl refused) = (true, refused_performs log s n (name_of old) clock old h refl (told n h.place) (Serves request) false (request_is request asks).plain new d.keeps.goes d.keeps.node after a b refused)
         go log n s h (inr served) = (false, served_performs log s n (name_of old) clock old h refl (told n h.place) (Serves request) false (request_is request asks).plain new d.keeps.goes d.keeps.node after (rows_rest request asks s n) a b served)
@@ -187,7 +187,7 @@ module _ (request : Request) (asks : IsForUp request) (clock : ℕ) (old new : U
 
 -- A node that is down answers with that.
 module _ (request : Request) (asks : IsForUp request) (name : List ℕ) (unmade : Bool) (clock : ℕ) (has_parts : Bool) (d : DiskState) (s : SharedState) (a b : Shown) (shows : Emits a (line.NodeDown ∷ []) b) where
-  abbrev kept : Kept
+  abbrev kept : NodeState
   kept = record { name = name; unmade = unmade; clock = clock; place = IsDown has_parts d }
 
   pub down_tells : TellsTask (Serves request) true true kept s a b kept s

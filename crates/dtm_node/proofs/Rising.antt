@@ -32,8 +32,8 @@ use Rattle.node_table.specs.Telling.{IsOfWork, wire_after}
 use Rattle.dtm_node.specs.Causes.{cause_of}
 use Rattle.dtm_node.specs.Nodes.{last_lines_of, undone_line}
 use Rattle.dtm_node.specs.Opening.{EndsBoot, OpensUp, RaisesTo, ReopensDown, ReopensUp, Rises, RisesHere, answer_up, kept_down, prepared_told, shown_up, used}
-use Rattle.node_standing.specs.Standing.{StandsFor, counts_of, disk_of}
-use Rattle.node_standing.specs.Telling.{Passes}
+use Rattle.node_standing.specs.Standing.{RepresentsNode, counts_of, disk_of}
+use Rattle.node_standing.specs.Telling.{DiskAdvancesOverCalls}
 use Rattle.node_requests.specs.TheLaws.{TheLaws}
 use Rattle.dtm_node.proofs.BootEnds.{each_boot, early_boot, early_restart, ends_boot, fallen_end, fallen_rose, shares_used}
 use Rattle.dtm_node.proofs.Booting.{boot_broke, boot_risen, risen_stands}
@@ -94,8 +94,8 @@ same_many (u ∷ us) (b ∷ bs) (c ∷ cs) h k = ap suc (same_many us bs cs h.1 
 regroup : (l u p s : List Line) → (l ++ u) ++ (p ++ s) ≡ (l ++ (u ++ p)) ++ s
 regroup l u p s = append_assoc l u (p ++ s) ∙ ap (λ (x : List Line). l ++ x) (sym (append_assoc u p s)) ∙ sym (append_assoc l (u ++ p) s)
 
-module _ (the_laws : TheLaws) (log : CallLog) (s : Shared) (n : Node) (name : List ℕ) (clock : ℕ) (has_parts : Bool) (d0 : DiskState) (h : StandsFor log (kept_down name clock has_parts d0) n) (v : VolumeState) (o : RaisesTo d0 v n) (boot : ℕ) (r : Up) (a b : Shown) (up : ReopensUp clock v boot r a b)
-    (passes : Passes d0 (disk_of r)) (calls : (disk_of r).calls ≡ noted (disk_call.Power d0.stops) d0.calls) where
+module _ (the_laws : TheLaws) (log : CallLog) (s : Shared) (n : Node) (name : List ℕ) (clock : ℕ) (has_parts : Bool) (d0 : DiskState) (h : RepresentsNode log (kept_down name clock has_parts d0) n) (v : VolumeState) (o : RaisesTo d0 v n) (boot : ℕ) (r : Up) (a b : Shown) (up : ReopensUp clock v boot r a b)
+    (passes : DiskAdvancesOverCalls d0 (disk_of r)) (calls : (disk_of r).calls ≡ noted (disk_call.Power d0.stops) d0.calls) where
   abbrev woken : Node
   woken = powered o.wakes.outturn d0.stops n
 

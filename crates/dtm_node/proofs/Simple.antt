@@ -17,7 +17,7 @@ use Rattle.run_shared.specs.Sharing.{SharedState}
 use Rattle.node_table.specs.Standing.{IsUp, Up}
 use Rattle.node_standing.specs.Keeping.{PerformsRequest, PerformsTask}
 use Rattle.node_requests.specs.Running.{name_of}
-use Rattle.node_standing.specs.Standing.{IsDown, IsRunning, Kept, Place, StandsFor, StandsIn, counts_of, disk_in, disk_of, is_up}
+use Rattle.node_standing.specs.Standing.{IsDown, IsRunning, NodeState, Place, PlaceRepresents, RepresentsNode, counts_of, disk_in, disk_of, is_up}
 use Rattle.node_standing.specs.Telling.{TellsTask, said_shared}
 use Rattle.said_steps.proofs.Falls.{falls_none}
 use Rattle.dtm_node.proofs.Answered.{refused_answers}
@@ -33,11 +33,11 @@ crash_plain : IsPlain (service Crash) false
 crash_plain = record { powers = refl; occupies = refl; closing = refl; closing_lines = λ n. refl; goes = refl }
 
 -- a node that is down does not crash
-down_node : (k : Kept) (p : Place) → k.place ≡ p → is_up p ≡ false → (log : CallLog) (n : Node) → StandsFor log k n → n.up ≡ false
-down_node k (IsDown has_parts d) is down log n h = let s : StandsIn k.clock (IsDown has_parts d) n = subst (λ x. StandsIn k.clock x n) is h.place in s.down
+down_node : (k : NodeState) (p : Place) → k.place ≡ p → is_up p ≡ false → (log : CallLog) (n : Node) → RepresentsNode log k n → n.up ≡ false
+down_node k (IsDown has_parts d) is down log n h = let s : PlaceRepresents k.clock (IsDown has_parts d) n = subst (λ x. PlaceRepresents k.clock x n) is h.place in s.down
 down_node k (IsRunning r) is down log n h = let f : ⊥ = cc in absurd f
 
-pub crash_down_tells : (k : Kept) (s : SharedState) (a b : Shown) → is_up k.place ≡ false → Emits a (line.NodeDown ∷ []) b → TellsTask (Serves Crash) true true k s a b k s
+pub crash_down_tells : (k : NodeState) (s : SharedState) (a b : Shown) → is_up k.place ≡ false → Emits a (line.NodeDown ∷ []) b → TellsTask (Serves Crash) true true k s a b k s
 crash_down_tells k s a b down shows =
     let said : refused_if (not (is_up k.place)) line.NodeDown ≡ Some line.NodeDown = ap (λ (x : Bool). refused_if (not x) line.NodeDown) down in
     record {
@@ -58,7 +58,7 @@ crash_down_tells k s a b down shows =
       held = λ d unused. (d, holds_is (disk_in k.place) (disk_in k.place) refl);
     }
 
-pub crash_down_performs : (k : Kept) (s : SharedState) (a b : Shown) → is_up k.place ≡ false → Emits a (line.NodeDown ∷ []) b → PerformsRequest Crash k s a b k s
+pub crash_down_performs : (k : NodeState) (s : SharedState) (a b : Shown) → is_up k.place ≡ false → Emits a (line.NodeDown ∷ []) b → PerformsRequest Crash k s a b k s
 crash_down_performs k s a b down shows = λ log n w h share kept promised. (
   true,
   down_performs (Serves Crash) false crash_plain k s a b
@@ -127,7 +127,7 @@ or_true : (b : Bool) → (b || true) ≡ true
 or_true true = refl
 or_true false = refl
 
-clock_stands : KeepsNodes → (clock now : ℕ) (p : Place) (n : Node) → StandsIn clock p n → StandsIn now p (acted (Clocks now) n)
+clock_stands : KeepsNodes → (clock now : ℕ) (p : Place) (n : Node) → PlaceRepresents clock p n → PlaceRepresents now p (acted (Clocks now) n)
 clock_stands law clock now (IsDown has_parts d) n s = record { down = s.down; reserved = s.reserved; told = s.told; disk = disk_clocked now n d s.disk }
 clock_stands law clock now (IsRunning r) n s =
     let k = s.stands in
@@ -147,7 +147,7 @@ clock_stands law clock now (IsRunning r) n s =
       preparation = s.preparation;
     }
 
-pub clock_performs : KeepsNodes → (now : ℕ) (k : Kept) (s : SharedState) (a : Shown) → PerformsTask (Serves (Clock now)) false false k s a a (record k { clock = now }) s
+pub clock_performs : KeepsNodes → (now : ℕ) (k : NodeState) (s : SharedState) (a : Shown) → PerformsTask (Serves (Clock now)) false false k s a a (record k { clock = now }) s
 clock_performs law now k s a = λ log n w h share kept promised. record {
   lines = [];
   answer = line.Normal;

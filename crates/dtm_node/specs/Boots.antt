@@ -1,6 +1,7 @@
 -- How a boot goes, from a disk that runs to the volume whose boot count was raised.
 use Rattle.std.specs.Prelude.{◌≡◌, ◌⊎◌, ℕ, ◌<◌, ◌≤◌, ◌^◌, ◌-◌, List, [], Bool, true, Option, Some, None}
 use Rattle.block_disk.specs.Disk.{DiskState, MayLeave}
+use Rattle.vms_model.specs.Limits.{moment_limit}
 use Rattle.careful_write.specs.Content.{content_of}
 use Rattle.careful_write.specs.Load.{fitting}
 use Rattle.careful_write.specs.State.{StoreState}
@@ -102,7 +103,7 @@ BootsTo state n (booted.Fell disk group pool down) = HasDisk (fallen None n) (st
 pub record IsRaised (name : List ℕ) (v : VolumeState) : Type 0 where
   pub named : v.catalog.home.node ≡ name
   pub order : (s : UnitsState) → HasNoUnit s → IsInOrder (record s { log = [] }) v
-  pub greatest : v.catalog.home.greatest_moment.0 ≤ 24000000000000
+  pub greatest : v.catalog.home.greatest_moment.0 ≤ moment_limit
   pub end : v.catalog.ru.end ≤ 2 ^ 61
   pub images : images_end v.catalog.heads ≤ 2 ^ 61
 

@@ -11,7 +11,7 @@ use Rattle.dtm_node.specs.declared.node.Formatted.{Formatted}
 use Rattle.dtm_node.specs.declared.node.Formatted.TheVariants as formatted
 use Rattle.dtm_node.specs.Causes.{cause_of}
 use Rattle.node_standing.specs.Keeping.{PerformsTask}
-use Rattle.node_standing.specs.Standing.{IsDown, IsRunning, Kept, Place}
+use Rattle.node_standing.specs.Standing.{IsDown, IsRunning, NodeState, Place}
 use Rattle.node_standing.specs.Telling.{TellsTask}
 
 -- what it shows and is answered
@@ -35,7 +35,7 @@ is_ended formatted.Made = false
 is_ended done = true
 
 -- what is kept of a node that is down
-abbrev pub kept_so : List ℕ → Bool → ℕ → Bool → DiskState → Kept
+abbrev pub kept_so : List ℕ → Bool → ℕ → Bool → DiskState → NodeState
 kept_so name unmade clock has_parts d = record { name = name; unmade = unmade; clock = clock; place = IsDown has_parts d }
 
 -- Where no node may have been in use, its lines tell it, and it is a step of the node, whose disk is this then.

@@ -3,6 +3,7 @@ use Rattle.std.specs.Prelude.{◌≡◌, ◌≤◌, ℕ, List, [], ◌∷◌, �
 use Rattle.std.specs.List.{AllByRecursion}
 use Rattle.block_disk.specs.Disk.{CallLog, DiskState, noted}
 use Rattle.block_disk.specs.declared.disk.DiskCall.TheVariants as disk_call
+use Rattle.block_disk.specs.Sizes.{greatest_disk_size, least_disk_size}
 use Rattle.careful_write.specs.declared.down.Down.{Down}
 use Rattle.change_set.specs.Files.{free_frames}
 use Rattle.commit_protocol.specs.Messages.{Message}
@@ -25,10 +26,10 @@ use Rattle.world_laws.specs.Nodes.{IsKeptNode}
 use Rattle.recovery_units.specs.Calls.{BreaksAfter, IsRestarting, ReopensTo}
 use Rattle.recovery_units.specs.State.{AreOfBranches, HasNoUnit}
 use Rattle.recovery_units.specs.Told.{ReopenedTold}
-use Rattle.recovery_units.specs.Uses.{Caused, Goes}
+use Rattle.recovery_units.specs.Uses.{Caused, DiskAdvances}
 use Rattle.run_shared.specs.Sharing.{IsShared, SharedState}
 use Rattle.node_table.specs.Running.{IsBooted}
-use Rattle.node_table.specs.Standing.{IsUp, StandsUp, Up}
+use Rattle.node_table.specs.Standing.{IsUp, Up, UpRepresents}
 use Rattle.node_table.specs.Telling.{IsOfWork, wire_after}
 use Rattle.dtm_node.specs.declared.node.Opened.{Opened}
 use Rattle.dtm_node.specs.declared.node.Opened.TheVariants as opened
@@ -37,8 +38,8 @@ use Rattle.dtm_node.specs.Causes.{cause_of}
 use Rattle.node_standing.specs.Keeping.{IsPromised, PerformsTask}
 use Rattle.dtm_node.specs.Nodes.{last_lines_of, undone_line}
 use Rattle.node_requests.specs.Running.{HasGrown}
-use Rattle.node_standing.specs.Standing.{IsDown, IsRunning, Kept, Place, StandsFor, counts_of, disk_in, disk_of, is_up}
-use Rattle.node_standing.specs.Telling.{Passes, TellsTask}
+use Rattle.node_standing.specs.Standing.{IsDown, IsRunning, NodeState, Place, RepresentsNode, counts_of, disk_in, disk_of, is_up}
+use Rattle.node_standing.specs.Telling.{DiskAdvancesOverCalls, TellsTask}
 
 -- whether a task boots a node
 abbrev pub boots_node : Task → Bool
@@ -47,7 +48,7 @@ boots_node Restarts = true
 boots_node task = false
 
 -- what is kept of a node that is down, and for which no INIT failed
-abbrev pub kept_down : List ℕ → ℕ → Bool → DiskState → Kept
+abbrev pub kept_down : List ℕ → ℕ → Bool → DiskState → NodeState
 kept_down name clock has_parts d = record { name = name; unmade = false; clock = clock; place = IsDown has_parts d }
 
 -- what nodes share once one of them may be in use
@@ -55,10 +56,10 @@ abbrev pub used : SharedState → SharedState
 used s = record s { in_use = true }
 
 -- A boot ended so at a node, whichever task it is of: the statement with it. A settling boots nodes only where one may be in use.
-abbrev pub EndsTask : Task → Kept → SharedState → (a b : Shown) → Kept → SharedState → Type 0
+abbrev pub EndsTask : Task → NodeState → SharedState → (a b : Shown) → NodeState → SharedState → Type 0
 EndsTask task k s a b l t = TellsTask task true true k s a b l t × PerformsTask task true true k s a b l t
 
-abbrev pub EndsBoot : Kept → List Line → Line → (uses : Bool) → Kept → Type 0
+abbrev pub EndsBoot : NodeState → List Line → Line → (uses : Bool) → NodeState → Type 0
 EndsBoot k lines answer uses l = (task : Task) → boots_node task ≡ true → (s : SharedState) → (task ≡ Restarts → s.in_use ≡ true) → (a b : Shown) → Emits a (lines ++ answer ∷ []) b → EndsTask task k s a b l (if uses then used s else s)
 
 -- The parts of a node that its disk does not have, once it runs again.
@@ -86,15 +87,15 @@ pub record RaisesTo (old : DiskState) (v : VolumeState) (n : Node) : Type 0 wher
   pub restarting : IsRestarting v (acted Boots (powered wakes.outturn old.stops n))
 
 -- A node that was down has its volume with a raised boot count, and no unit yet.
-pub record OpensUp (k : Kept) (r : Up) : Type 0 where
+pub record OpensUp (k : NodeState) (r : Up) : Type 0 where
   pub raised : IsRaised k.name r.stored.volume
   pub none : HasNoUnit r.stored.units
-  pub passes : Passes (disk_in k.place) (disk_of r)
+  pub passes : DiskAdvancesOverCalls (disk_in k.place) (disk_of r)
   pub calls : (disk_of r).calls ≡ noted (disk_call.Power (disk_in k.place).stops) (disk_in k.place).calls
-  pub world : (log : CallLog) (n : Node) (s : world.Shared) → StandsFor log k n → IsKeptNode s n → IsPromised Restarts n → RaisesTo (disk_in k.place) r.stored.volume n
+  pub world : (log : CallLog) (n : Node) (s : world.Shared) → RepresentsNode log k n → IsKeptNode s n → IsPromised Restarts n → RaisesTo (disk_in k.place) r.stored.volume n
 
 -- so, or the node is down still, and the boot ended
-abbrev pub Opens : Kept → Place → Opened → Type 0
+abbrev pub Opens : NodeState → Place → Opened → Type 0
 Opens k (IsRunning r) opened.Up = OpensUp k r
 Opens k (IsRunning r) answer = ⊥
 Opens k (IsDown has_parts d) opened.Up = ⊥
@@ -120,19 +121,19 @@ pub record ReopensUp (clock : ℕ) (v : VolumeState) (boot : ℕ) (r : Up) (a b 
   pub up : IsUp r
   pub grown : HasGrown 0 r
   pub drawn : r.drawn ≡ 0
-  pub goes : Goes v.store.disk (disk_of r)
+  pub goes : DiskAdvances v.store.disk (disk_of r)
   pub node : r.stored.volume.catalog.home.node ≡ v.catalog.home.node
   pub units : AreOfBranches r.stored.units.begun (branches_of (map log_record_of told.prepared))
   pub committed : map log_record_of told.committed ≡ committed_of (records_in r.stored.units.log)
   pub done : (n : Node) → IsRestarting v n → n.clock ≡ clock → ReopensTo told n r.stored.units r.stored.volume
-  pub stands : (n : Node) → IsBooted clock told r.stored n → StandsUp clock r n
+  pub stands : (n : Node) → IsBooted clock told r.stored n → UpRepresents clock r n
 
 -- or the disk went down so in it, behind so many that were undone and shown
 pub record Breaks (clock : ℕ) (v w : VolumeState) (down : Down) (a b : Shown) : Type 0 where
   pub told : ReopenedTold
   pub emits : Emits a (last_lines_of v.catalog.home ++ map undone_line told.settled) b
-  pub goes : Goes v.store.disk w.store.disk
-  pub falls : (4096 ≤ w.store.disk.size) × (w.store.disk.size ≤ 65536) × (32 ≤ free_frames w.store.pool)
+  pub goes : DiskAdvances v.store.disk w.store.disk
+  pub falls : (least_disk_size ≤ w.store.disk.size) × (w.store.disk.size ≤ greatest_disk_size) × (32 ≤ free_frames w.store.pool)
   pub cause : Caused (Some down) v.store.disk w.store.disk
   pub done : (n : Node) → IsRestarting v n → n.clock ≡ clock → BreaksAfter told n w.store.disk
 
@@ -141,7 +142,7 @@ pub record ReopensDown (name : List ℕ) (clock : ℕ) (v : VolumeState) (d : Di
   pub told : ReopenedTold
   pub down : Down
   pub emits : Emits a (last_lines_of v.catalog.home ++ (map undone_line told.settled ++ line.Down name (cause_of down) ∷ line.Broken (cause_of down) ∷ [])) b
-  pub goes : Goes v.store.disk d
+  pub goes : DiskAdvances v.store.disk d
   pub cause : Caused (Some down) v.store.disk d
   pub done : (n : Node) → IsRestarting v n → n.clock ≡ clock → BreaksAfter told n d
 
@@ -163,13 +164,13 @@ answer_up Restarts boot = line.Normal
 answer_up task boot = line.NormalCount boot
 
 -- At a node of the world the boot is a step to a node that is up, whichever task it is of.
-pub record RisesHere (log : CallLog) (w : world.Shared) (n : Node) (k : Kept) (lines : List Line) (boot : ℕ) (l : Kept) : Type 0 where
+pub record RisesHere (log : CallLog) (w : world.Shared) (n : Node) (k : NodeState) (lines : List Line) (boot : ℕ) (l : NodeState) : Type 0 where
   pub node : Node
   pub step : (task : Task) → boots_node task ≡ true → NodeStep w n (counts_of (disk_in k.place)) task (lines ++ shown_up task k.name boot) (answer_up task boot) false node (record w { in_use = true }) (counts_of (disk_in l.place))
-  pub stands : StandsFor log l node
+  pub stands : RepresentsNode log l node
 
 -- A node that was down came up, with these lines of its boot, before that is shown or answered.
-pub record Rises (k : Kept) (s : SharedState) (boot : ℕ) (a b : Shown) (l : Kept) (t : SharedState) : Type 0 where
+pub record Rises (k : NodeState) (s : SharedState) (boot : ℕ) (a b : Shown) (l : NodeState) (t : SharedState) : Type 0 where
   pub lines : List Line
   pub emits : Emits a lines b
   pub work : AllByRecursion IsOfWork lines
@@ -178,10 +179,10 @@ pub record Rises (k : Kept) (s : SharedState) (boot : ℕ) (a b : Shown) (l : Ke
   pub up : is_up l.place ≡ true
   pub shared : t ≡ used s
   pub calls : (disk_in l.place).calls ≡ noted (disk_call.Power (disk_in k.place).stops) (disk_in k.place).calls
-  pub passes : Passes (disk_in k.place) (disk_in l.place)
-  pub world : (log : CallLog) (n : Node) (w : world.Shared) → StandsFor log k n → IsShared s w → IsKeptNode w n → IsPromised Restarts n → RisesHere log w n k lines boot l
+  pub passes : DiskAdvancesOverCalls (disk_in k.place) (disk_in l.place)
+  pub world : (log : CallLog) (n : Node) (w : world.Shared) → RepresentsNode log k n → IsShared s w → IsKeptNode w n → IsPromised Restarts n → RisesHere log w n k lines boot l
 
 -- What a boot came to: the node is up with this boot count, or its task ended with it.
-abbrev pub ComesTo : Kept → SharedState → Option ℕ → (a b : Shown) → Kept → SharedState → Type 0
+abbrev pub ComesTo : NodeState → SharedState → Option ℕ → (a b : Shown) → NodeState → SharedState → Type 0
 ComesTo k s (Some boot) a b l t = Rises k s boot a b l t
 ComesTo k s None a b l t = (task : Task) → boots_node task ≡ true → (task ≡ Restarts → s.in_use ≡ true) → EndsTask task k s a b l t

@@ -1,5 +1,7 @@
 //! A boot: a disk that runs is brought to a volume whose boot count is raised.
 ghost use Rattle.std.specs.Prelude.{◌≡◌, ◌<◌, ◌≤◌, ◌^◌, [], true, false, max, option_map, nat_lt};
+ghost use Rattle.block_disk.specs.Sizes.{greatest_disk_size, least_disk_size};
+ghost use Rattle.vms_model.specs.Limits.{moment_limit};
 ghost use Rattle.careful_write.specs.State.{IsIdle};
 ghost use Rattle.change_set.specs.Files.{free_frames};
 ghost use Rattle.volume.specs.Catalogs.{IsSound};
@@ -11,7 +13,7 @@ ghost use Rattle.std.specs.Option.{IfSome, IfNone};
 ghost use Rattle.run_model.specs.Answers.{bar_line};
 ghost use Rattle.run_model.specs.World.{Node as NodeSaid};
 ghost use Rattle.dtm_node.specs.Boots.{BootsTo, IsBootRefusal, IsBooted, IsMounted, IsOpened, IsAwake, IsInRing, IsWide, disk_booted, pool_booted};
-ghost use Rattle.recovery_units.specs.Uses.{Goes};
+ghost use Rattle.recovery_units.specs.Uses.{DiskAdvances};
 
 use block_disk::Disk;
 use careful_write::{Down, Group, OpenErr, Store};
@@ -119,7 +121,7 @@ struct Lowest {
 fn lowest_odd<D: Disk>(volume: &Volume<D>) -> Lowest
     ensures ring { result.ring ≡ lowest_odd_ring volume.now.catalog.heads }
     ensures root { result.root ≡ lowest_odd_root volume.now.catalog.heads }
-    ensures most { (result.ring ≤ 65536) × (result.root ≤ 65536) }
+    ensures most { (result.ring ≤ greatest_disk_size) × (result.root ≤ greatest_disk_size) }
 {
     let mut ring = NO_BLOCK;
     let mut root = NO_BLOCK;
@@ -154,7 +156,7 @@ fn refusal<D: Disk>(volume: &Volume<D>) -> Option<Form<'static>>
     ensures ring { IfNone result (IsInRing volume.now.catalog.ru) }
     ensures rings { IfNone result (nat_lt (lowest_odd_ring volume.now.catalog.heads) no_block ≡ false) }
     ensures boots { IfNone result (volume.now.catalog.home.boot < 4294967295) }
-    ensures moments { IfNone result (volume.now.catalog.home.greatest_moment.0 ≤ 24000000000000) }
+    ensures moments { IfNone result (volume.now.catalog.home.greatest_moment.0 ≤ moment_limit) }
     ensures end { IfNone result (volume.now.catalog.ru.end ≤ 2 ^ 61) }
     ensures images { IfNone result (images_end volume.now.catalog.heads ≤ 2 ^ 61) }
 {
@@ -184,11 +186,11 @@ fn refusal<D: Disk>(volume: &Volume<D>) -> Option<Form<'static>>
 /// Finishes an open group on a disk that runs, mounts the volume of a node, and raises its boot count.
 pub(crate) fn open_disk<D: Disk>(disk: D, group: Group, pool: Pool, name: NodeName) -> Booted<D>
     requires settled { (D.state disk).pending ≡ [] }
-    requires least { 4096 ≤ (D.state disk).size }
-    requires most { (D.state disk).size ≤ 65536 }
+    requires least { least_disk_size ≤ (D.state disk).size }
+    requires most { (D.state disk).size ≤ greatest_disk_size }
     requires frames { 32 ≤ free_frames pool }
     ensures booted { IsBooted D.state name (D.state disk) result }
-    ensures goes { Goes (D.state disk) (disk_booted D.state result) }
+    ensures goes { DiskAdvances (D.state disk) (disk_booted D.state result) }
     ensures pool { pool_booted result ≡ pool }
     ensures boots { (n : NodeSaid) → IsAwake name (D.state disk) n → BootsTo D.state n result }
 {
@@ -208,11 +210,11 @@ pub(crate) fn open_disk<D: Disk>(disk: D, group: Group, pool: Pool, name: NodeNa
 // Mounts the volume of a store, and raises its boot count.
 fn mount_store<D: Disk>(store: Store<D>, name: NodeName) -> Booted<D>
     requires idle { store.fits ≡ true → IsIdle store }
-    requires least { 4096 ≤ store.disk.size }
-    requires most { store.disk.size ≤ 65536 }
+    requires least { least_disk_size ≤ store.disk.size }
+    requires most { store.disk.size ≤ greatest_disk_size }
     requires frames { 32 ≤ free_frames store.pool }
     ensures booted { IsBooted D.state name store.disk result }
-    ensures goes { Goes store.disk (disk_booted D.state result) }
+    ensures goes { DiskAdvances store.disk (disk_booted D.state result) }
     ensures pool { pool_booted result ≡ store.pool }
     ensures boots { (n : NodeSaid) → IsOpened name store n → BootsTo D.state n result }
 {
@@ -244,13 +246,13 @@ fn mount_store<D: Disk>(store: Store<D>, name: NodeName) -> Booted<D>
 // Raises the boot count of a volume, unless its node is not to be booted.
 fn raise_boot<D: Disk>(mut volume: Volume<D>) -> Booted<D>
     requires idle { IsIdle volume.store }
-    requires least { 4096 ≤ volume.store.disk.size }
-    requires most { volume.store.disk.size ≤ 65536 }
+    requires least { least_disk_size ≤ volume.store.disk.size }
+    requires most { volume.store.disk.size ≤ greatest_disk_size }
     requires frames { 32 ≤ free_frames volume.store.pool }
     requires sound { IsSound volume.catalog.home.node volume.store.disk.size volume.catalog }
     requires holds { Holds volume }
     ensures booted { IsBooted D.state volume.catalog.home.node volume.store.disk result }
-    ensures goes { Goes volume.store.disk (disk_booted D.state result) }
+    ensures goes { DiskAdvances volume.store.disk (disk_booted D.state result) }
     ensures pool { pool_booted result ≡ volume.store.pool }
     ensures boots { (n : NodeSaid) → IsMounted volume n → BootsTo D.state n result }
 {

@@ -1,6 +1,8 @@
 //! A node over its disk: each task is a step of it.
 ghost use Rattle.std.specs.Prelude.{◌≡◌, ◌<◌, ◌≤◌, ◌+◌, ◌∷◌, [], ℕ, Bool, true, false, IfErr, IfOk, List, OnErr, OnOk, length, map, max, slice_get};
 ghost use Rattle.std.specs.Option.{option_map};
+ghost use Rattle.block_disk.specs.Sizes.{greatest_disk_size, least_disk_size};
+ghost use Rattle.vms_model.specs.Limits.{branch_limit, moment_ceiling, moment_limit};
 ghost use Rattle.change_set.specs.Files.{free_frames};
 ghost use Rattle.commit_protocol.specs.Messages.{Inquire as InquireSaid};
 ghost use Rattle.vms_base.specs.Ids.{serial_of};
@@ -133,7 +135,7 @@ fn reserve_parts<U: RecoveryUnits>(alloc: Global) -> Result<Parts<U>, AllocError
 
 // Shows the last settlement on a disk, where there is one.
 fn show_last<E: Emit>(home: &Home, out: &mut E)
-    requires moment { home.now.greatest_moment.0 ≤ 24000000000000 }
+    requires moment { home.now.greatest_moment.0 ≤ moment_limit }
     ensures shown { ShowsOn E.shows E.place out.old out.new }
     ensures shows { Emits (E.shows out.old) (last_lines_of home.now) (E.shows out.new) }
 {
@@ -159,7 +161,7 @@ impl<D: Disk + Drop, U: RecoveryUnits> Node<D, U> {
     /// A node that was not booted yet.
     pub fn new(name: NodeName, disk: D) -> Node<D, U>
         ensures kept { kept_of D.state U.state result ≡ record { name = name; unmade = false; clock = 0; place = IsDown false (D.state disk) } }
-        ensures node { (s : SharedState) → 4096 ≤ (D.state disk).size → (D.state disk).size ≤ 65536 → IsNode D.state U.state 0 s result }
+        ensures node { (s : SharedState) → least_disk_size ≤ (D.state disk).size → (D.state disk).size ≤ greatest_disk_size → IsNode D.state U.state 0 s result }
     {
         Node {
             name,
@@ -261,7 +263,7 @@ impl<D: Disk + Drop, U: RecoveryUnits> Node<D, U> {
     fn go_down<E: Emit>(&mut self, down: Down, out: &mut E)
         requires falls { MayFall D.state U.state self.old.place }
         ensures kept { kept_of D.state U.state self.new ≡ record (kept_of D.state U.state self.old) { place = fallen_place (kept_of D.state U.state self.old).place } }
-        ensures node { (count : ℕ) (s : SharedState) → self.old.clock.0 ≤ 24000000000000 → IsNode D.state U.state count s self.new }
+        ensures node { (count : ℕ) (s : SharedState) → self.old.clock.0 ≤ moment_limit → IsNode D.state U.state count s self.new }
         ensures shown { ShowsOn E.shows E.place out.old out.new }
         ensures shows { Emits (E.shows out.old) (line.Down self.old.name (cause_said down) ∷ []) (E.shows out.new) }
     {
@@ -315,7 +317,7 @@ impl<D: Disk + Drop, U: RecoveryUnits> Node<D, U> {
 
     /// CLOCK: its clock is set.
     pub fn set_clock(&mut self, now: Moment)
-        requires limit { now.0 ≤ 24000000000000 }
+        requires limit { now.0 ≤ moment_limit }
         ensures kept { kept_of D.state U.state self.new ≡ record (kept_of D.state U.state self.old) { clock = now.0 } }
         ensures node { (count : ℕ) (s : SharedState) → IsNode D.state U.state count s self.old → IsNode D.state U.state count s self.new }
         ensures performs { (s : SharedState) (a : Shown) → PerformsTask (Serves (said.Clock now.0)) false false (kept_of D.state U.state self.old) s a a (kept_of D.state U.state self.new) s }
@@ -522,7 +524,7 @@ impl<D: Disk + Drop, U: RecoveryUnits> Node<D, U> {
     // Reopens the volume of a node that was opened, and tells its boot count; None where the disk goes down, which is answered.
     fn rise<E: Emit>(&mut self, out: &mut E) -> Option<u32>
         requires open { IsOpen self.old.name (kept_of D.state U.state self.old).place }
-        requires clock { self.old.clock.0 ≤ 24000000000000 }
+        requires clock { self.old.clock.0 ≤ moment_limit }
         ensures kept { kept_of D.state U.state self.new ≡ record (kept_of D.state U.state self.old) { place = (kept_of D.state U.state self.new).place } }
         ensures node { (count : ℕ) (s : SharedState) → s.in_use ≡ true → self.old.unmade ≡ false → IsNode D.state U.state count s self.new }
         ensures shown { ShowsOn E.shows E.place out.old out.new }
@@ -722,7 +724,7 @@ fn format_place<D: Disk, U: RecoveryUnits>(
 
 // Writes an empty volume to a disk.
 fn format<D: Disk>(mut disk: D, new: &NewVolume) -> (D, Formatted)
-    requires least { 4096 ≤ (D.state disk).size }
+    requires least { least_disk_size ≤ (D.state disk).size }
     ensures size { (D.state result.0).size ≡ (D.state disk).size }
     ensures formats { (has_parts : Bool) → FormatsDisk new.now.name new.now.slots new.now.blocks has_parts (D.state disk) result.1 (D.state result.0) }
 {
@@ -770,8 +772,8 @@ fn open_with<D: Disk, U: RecoveryUnits>(
     mut disk: D,
     parts: Parts<U>,
 ) -> (Place<D, U>, Opened)
-    requires least { 4096 ≤ (D.state disk).size }
-    requires most { (D.state disk).size ≤ 65536 }
+    requires least { least_disk_size ≤ (D.state disk).size }
+    requires most { (D.state disk).size ≤ greatest_disk_size }
     requires parts { IsParts U.state parts }
     ensures falls { MayFall D.state U.state result.0 }
     ensures opens { (clock : ℕ) (has_parts : Bool) → Opens (kept_down name clock has_parts (D.state disk)) (place_of D.state U.state result.0) result.1 }
@@ -839,7 +841,7 @@ fn reopen<D: Disk, U: RecoveryUnits, E: Emit>(
 ) -> Result<u32, Down>
     requires raised { (name : List ℕ) × IsRaised name running.old.stored.volume }
     requires none { HasNoUnit (U.state running.old.stored.units) }
-    requires clock { clock.0 ≤ 24000000000000 }
+    requires clock { clock.0 ≤ moment_limit }
     ensures shown { ShowsOn E.shows E.place out.old out.new }
     ensures up { IfOk result (λ boot. ReopensUp clock.0 running.old.stored.volume boot (up_of U.state running.new) (E.shows out.old) (E.shows out.new)) }
     ensures down { IfErr result (λ down. Breaks clock.0 running.old.stored.volume running.new.stored.volume down (E.shows out.old) (E.shows out.new)) }
@@ -866,15 +868,15 @@ fn reopen_units<D: Disk, U: RecoveryUnits>(
     requires empty { HasNoUnit (U.state stored.old.units) }
     requires order { IsInOrder (record (U.state stored.old.units) { log = [] }) stored.old.volume }
     requires early { IsEarly stored.old.volume }
-    requires moment { stored.old.volume.catalog.home.greatest_moment.0 + 64 ≤ 24000001000066 }
-    requires clock { clock.0 + 64 ≤ 24000001000066 }
+    requires moment { stored.old.volume.catalog.home.greatest_moment.0 + branch_limit ≤ moment_ceiling }
+    requires clock { clock.0 + branch_limit ≤ moment_ceiling }
     requires none { stored.old.room.told ≡ nothing_told }
     ensures units { OnOk result (AreOfBranches (U.state stored.new.units).begun (branches_of (map log_record_of stored.new.room.told.prepared))) }
     ensures begins { OnOk result (MayBegin stored.new.room.told (U.state stored.new.units).log) }
     ensures order { OnOk result (IsInOrder (U.state stored.new.units) stored.new.volume) }
-    ensures grows { Grows 64 (clock.0 + 64) stored.old.volume stored.new.volume }
+    ensures grows { Grows branch_limit (clock.0 + branch_limit) stored.old.volume stored.new.volume }
     ensures images { OnOk result (ImagesGrow stored.old.volume stored.new.volume) }
-    ensures room { OnOk result (stored.new.volume.catalog.home.greatest_moment.0 + length (U.state stored.new.units).begun ≤ max stored.old.volume.catalog.home.greatest_moment.0 clock.0 + 64) }
+    ensures room { OnOk result (stored.new.volume.catalog.home.greatest_moment.0 + length (U.state stored.new.units).begun ≤ max stored.old.volume.catalog.home.greatest_moment.0 clock.0 + branch_limit) }
     ensures moments { AllByRecursion (λ (u : SettledSaid). u.moment.0 ≤ stored.new.volume.catalog.home.greatest_moment.0) stored.new.room.told.settled }
     ensures cause { Caused (down_of result) stored.old.volume.store.disk stored.new.volume.store.disk }
     ensures done { OnOk result (ReopensOk clock.0 stored.new.room.told stored.old.volume (U.state stored.new.units) stored.new.volume) }

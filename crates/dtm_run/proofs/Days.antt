@@ -12,9 +12,9 @@ use Rattle.run_laws.specs.Laws.{AgreedPromisesAreKept, PromisesAreKept}
 use Rattle.manager_laws.specs.Promises.{ManagerPromisesHold}
 use Rattle.run_said.specs.Said.{Said, said_of}
 use Rattle.run_shared.specs.Sharing.{SharedState}
-use Rattle.node_standing.specs.Standing.{Kept, counts_of}
-use Rattle.node_standing.specs.Telling.{Passes}
-use Rattle.run_nodes.specs.Calls.{LineTellsAll}
+use Rattle.node_standing.specs.Standing.{NodeState, counts_of}
+use Rattle.node_standing.specs.Telling.{DiskAdvancesOverCalls}
+use Rattle.run_nodes.specs.Calls.{DisksFollowLine}
 use Rattle.run_nodes.specs.Names.{AreApart}
 use Rattle.run_nodes.proofs.Telling.{passes_same}
 use Rattle.day_model.specs.Command.{Asked}
@@ -26,7 +26,7 @@ use Rattle.day_tally.specs.declared.counts.Ended.TheVariants as ended
 use Rattle.day_run.specs.Serving.{AreLarge, DayServed, DayTells, EndsSo}
 use Rattle.day_run.specs.Tells.{EntriesTell}
 use Rattle.dtm_run.specs.Days.{DayRan, DayTold, EndsDay}
-use Rattle.dtm_run.specs.Headline.{AllGo, Leaves, StandOn}
+use Rattle.dtm_run.specs.Headline.{AllGo, DisksRepresent, Leaves}
 use Rattle.dtm_run.specs.Racks.{AreSized}
 use Rattle.dtm_run.specs.declared.top.Exit.{Exit}
 use Rattle.dtm_run.specs.declared.top.Exit.TheVariants as exit
@@ -65,10 +65,10 @@ puts_cut a b text p e f = adds_cut a.failed b.failed text p.added p.adds e f
 -- What a day promises over its nodes.
 
 abbrev pub DayOver : (names : List (List ℕ)) (before after : List DiskState) (count start : ℕ) (old new : Option (List ℕ)) → Exit → Type 0
-DayOver names before after count start old new x = (nodes : List Node) → AreOpening nodes → StandOn names before nodes → (x ≡ exit.Memory) ⊎ DayRan nodes before after count start old new x
+DayOver names before after count start old new x = (nodes : List Node) → AreOpening nodes → DisksRepresent names before nodes → (x ≡ exit.Memory) ⊎ DayRan nodes before after count start old new x
 
-pub day_ran : (names : List (List ℕ)) (nodes : List Node) (before after : List DiskState) (count start : ℕ) (t : Tally) (how : Ended) (counts : List ℕ) (ks : List Kept) (s : SharedState) (a b : Shown) (x : Exit) → PromisesAreKept × ManagerPromisesHold → AgreedPromisesAreKept → AreApart names → names ≡ codes "A" ∷ (codes "B" ∷ []) → AreOpening nodes →
-    StandOn names before nodes → (d : DayServed (logs_of before) (opened nodes (map counts_of before)) count start t how counts ks s) → Leaves before d.closing after → (p : Puts a (end_text count t how counts) b) → EndsDay x (end_text count t how counts) p.added →
+pub day_ran : (names : List (List ℕ)) (nodes : List Node) (before after : List DiskState) (count start : ℕ) (t : Tally) (how : Ended) (counts : List ℕ) (ks : List NodeState) (s : SharedState) (a b : Shown) (x : Exit) → PromisesAreKept × ManagerPromisesHold → AgreedPromisesAreKept → AreApart names → names ≡ codes "A" ∷ (codes "B" ∷ []) → AreOpening nodes →
+    DisksRepresent names before nodes → (d : DayServed (logs_of before) (opened nodes (map counts_of before)) count start t how counts ks s) → Leaves before d.closing after → (p : Puts a (end_text count t how counts) b) → EndsDay x (end_text count t how counts) p.added →
     DayRan nodes before after count start a.text b.text x
 day_ran names nodes before after count start t how counts ks s a b x law agreed apart a_and_b opening stand d leaves p ends = record {
   entries = d.entries;
@@ -134,15 +134,15 @@ told_for names before after d e old new old' new' x same f g r =
 
 -- Each disk is a later state of the one at its place.
 
-nothing_goes : (names : List (List ℕ)) (said : Said) (lines : List Line) (olds news : List DiskState) → LineTellsAll names said Blank lines olds news → AllGo olds news
+nothing_goes : (names : List (List ℕ)) (said : Said) (lines : List Line) (olds news : List DiskState) → DisksFollowLine names said Blank lines olds news → AllGo olds news
 nothing_goes [] said lines [] [] h = tt
 nothing_goes [] said lines [] (new ∷ news) h = absurd h
 nothing_goes [] said lines (old ∷ olds) news h = absurd h
 nothing_goes (name ∷ names) said lines [] news h = absurd h
 nothing_goes (name ∷ names) said lines (old ∷ olds) [] h = absurd h
-nothing_goes (name ∷ names) said lines (old ∷ olds) (new ∷ news) h = (subst (λ (d : DiskState). Passes old d) (sym h.0.1) (passes_same old), nothing_goes names said lines olds news h.1)
+nothing_goes (name ∷ names) said lines (old ∷ olds) (new ∷ news) h = (subst (λ (d : DiskState). DiskAdvancesOverCalls old d) (sym h.0.1) (passes_same old), nothing_goes names said lines olds news h.1)
 
-bad_goes : (names : List (List ℕ)) (said : Said) (column : ℕ) (lines : List Line) (olds news : List DiskState) → LineTellsAll names said (Bad column) lines olds news → AllGo olds news
+bad_goes : (names : List (List ℕ)) (said : Said) (column : ℕ) (lines : List Line) (olds news : List DiskState) → DisksFollowLine names said (Bad column) lines olds news → AllGo olds news
 bad_goes [] said column lines [] [] h = tt
 bad_goes [] said column lines [] (new ∷ news) h = absurd h
 bad_goes [] said column lines (old ∷ olds) news h = absurd h
@@ -150,7 +150,7 @@ bad_goes (name ∷ names) said column lines [] news h = absurd h
 bad_goes (name ∷ names) said column lines (old ∷ olds) [] h = absurd h
 bad_goes (name ∷ names) said column lines (old ∷ olds) (new ∷ news) h = absurd h.0
 
-line_goes : (names : List (List ℕ)) (said : Said) (r : Reading) (lines : List Line) (olds news : List DiskState) → LineTellsAll names said r lines olds news → AllGo olds news
+line_goes : (names : List (List ℕ)) (said : Said) (r : Reading) (lines : List Line) (olds news : List DiskState) → DisksFollowLine names said r lines olds news → AllGo olds news
 line_goes names said Blank lines olds news h = nothing_goes names said lines olds news h
 line_goes names said (Says s) lines olds news h = tells_go names said s lines olds news h
 line_goes names said (Bad column) lines olds news h = bad_goes names said column lines olds news h

@@ -18,17 +18,17 @@ use Rattle.run_said.specs.Said.{nothing_said}
 use Rattle.run_shared.specs.Sharing.{SharedState}
 use Rattle.recovery_units.specs.State.{UnitsState}
 use Rattle.node_table.specs.Code.{up_of}
-use Rattle.node_table.specs.Standing.{IsUp, StandsUp, Up}
+use Rattle.node_table.specs.Standing.{IsUp, Up, UpRepresents}
 use Rattle.dtm_node.specs.declared.node.Node as node
 use Rattle.dtm_node.specs.declared.node.Place as place
 use Rattle.dtm_node.specs.declared.node.Place.TheVariants as at
 use Rattle.dtm_node.specs.Nodes.{IsPlaceOf, place_of}
-use Rattle.node_standing.specs.Standing.{Kept, StandsIn, disk_in, noted_all}
+use Rattle.node_standing.specs.Standing.{NodeState, PlaceRepresents, disk_in, noted_all}
 use Rattle.run_nodes.specs.Held.{AreNodesIn}
 use Rattle.run_nodes.specs.Together.{StandAll, StandsTogether, disks_of, said_together}
 use Rattle.run_nodes.specs.Told.{kept_names}
 use Rattle.run_nodes.proofs.Entries.{kept_in}
-use Rattle.dtm_run.specs.Headline.{IsVolumeOf, Leaves, LeavesNode, LeaveNodes, StandOn, exit_of}
+use Rattle.dtm_run.specs.Headline.{IsVolumeOf, Leaves, LeavesNode, LeaveNodes, DisksRepresent, exit_of}
 use Rattle.dtm_run.specs.Leading.{Beginning, RunsFrom}
 use Rattle.dtm_run.specs.Taking.{AreAtZero}
 use Rattle.dtm_run.specs.declared.top.Exit.{Exit}
@@ -39,7 +39,7 @@ use Rattle.dtm_run.proofs.Leading.{Next, Way, logs_of, not_both, runs_from, way_
 
 -- What the nodes stand for is what the run leaves.
 
-volume_up : (clock : ℕ) (u : Up) (n : Node) (s : StandsUp clock u n) → IsUp u → n.name ≡ u.tm.node → n.blocks ≡ u.stored.volume.store.disk.size → IsVolumeOf s.stands.kept.content n
+volume_up : (clock : ℕ) (u : Up) (n : Node) (s : UpRepresents clock u n) → IsUp u → n.name ≡ u.tm.node → n.blocks ≡ u.stored.volume.store.disk.size → IsVolumeOf s.stands.kept.content n
 volume_up clock u n s up named sized = record {
   catalog = u.stored.volume.catalog;
   tells = subst (λ o. IfSome o (TellsCatalog u.stored.volume.catalog)) s.stands.kept.told up.follows.order.holds;
@@ -47,7 +47,7 @@ volume_up clock u n s up named sized = record {
   has = s.stands.kept.has;
 }
 
-place_leaves : {D U : Type 0} (state : D → DiskState) (units : U → UnitsState) (count : ℕ) (s : SharedState) (m : node.Node D U) (clock : ℕ) (p : place.Place D U) (n : Node) (before : DiskState) → IsPlaceOf state units count s m p → StandsIn clock (place_of state units p) n → n.name ≡ m.name → n.blocks ≡ (disk_in (place_of state units p)).size →
+place_leaves : {D U : Type 0} (state : D → DiskState) (units : U → UnitsState) (count : ℕ) (s : SharedState) (m : node.Node D U) (clock : ℕ) (p : place.Place D U) (n : Node) (before : DiskState) → IsPlaceOf state units count s m p → PlaceRepresents clock (place_of state units p) n → n.name ≡ m.name → n.blocks ≡ (disk_in (place_of state units p)).size →
     (disk_in (place_of state units p)).calls ≡ noted_all n.calls before.calls → LeavesNode before n (disk_in (place_of state units p))
 place_leaves state units count shared m clock (at.Down disk parts) n before kept s named sized calls = record { down = λ e. s.disk; up = λ e. absurd (not_both n.up e s.down); blocks = sized; calls = calls }
 place_leaves state units count shared m clock (at.Up r) n before kept s named sized calls = record {
@@ -71,12 +71,12 @@ pub stands_leaves : {D U : Type 0} (state : D → DiskState) (units : U → Unit
 stands_leaves state units count s es h ds w stand = record { counts = stand.disks; nodes = nodes_leave state units count s es ds w.nodes h stand.nodes }
 
 -- Between two lines: these entries were read and shown, and lead so far.
-pub record Going (names : List (List ℕ)) (first : Beginning) (script ahead : Option (List ScriptLine)) (old now : Option (List ℕ)) (number taken : ℕ) (ks : List Kept) (s : SharedState) : Type 0 where
+pub record Going (names : List (List ℕ)) (first : Beginning) (script ahead : Option (List ScriptLine)) (old now : Option (List ℕ)) (number taken : ℕ) (ks : List NodeState) (s : SharedState) : Type 0 where
   pub entries : List Entry
   pub read : AreRead entries script ahead old now number taken
   pub way : Way names first entries ks s
 
-pub going_first : (names : List (List ℕ)) (ks : List Kept) (s : SharedState) (script : Option (List ScriptLine)) (old : Option (List ℕ)) (taken : ℕ) → taken ≡ 0 → said_together ks s ≡ nothing_said names → names ≡ kept_names ks → AreAtZero ks → (nodes : List Node) → AreOpening nodes → StandOn names (disks_of ks) nodes →
+pub going_first : (names : List (List ℕ)) (ks : List NodeState) (s : SharedState) (script : Option (List ScriptLine)) (old : Option (List ℕ)) (taken : ℕ) → taken ≡ 0 → said_together ks s ≡ nothing_said names → names ≡ kept_names ks → AreAtZero ks → (nodes : List Node) → AreOpening nodes → DisksRepresent names (disks_of ks) nodes →
     Going names (record { nodes = nodes; disks = disks_of ks }) script script old old 1 taken ks s
 going_first names ks s script old taken e unsaid named at_zero nodes o stand =
     subst (λ n. Going names (record { nodes = nodes; disks = disks_of ks }) script script old old 1 n ks s) (sym e) (record { entries = []; read = read_first script old; way = way_first names ks s unsaid named at_zero nodes o stand })
@@ -86,10 +86,10 @@ exit_if true ended = refl
 exit_if false ended = refl
 
 -- what is left of every world for which these stand
-abbrev pub Leaving : List Kept → SharedState → Type 0
+abbrev pub Leaving : List NodeState → SharedState → Type 0
 Leaving ks s = (ds : List DiskState) (w : World) → StandsTogether (logs_of ds) ks s w → Leaves ds w (disks_of ks)
 
-module _ (names : List (List ℕ)) (first : Beginning) (script ahead : Option (List ScriptLine)) (old now : Option (List ℕ)) (number taken : ℕ) (ks : List Kept) (h : SharedState) (fine : Leaving ks h) (g : Going names first script ahead old now number taken ks h) where
+module _ (names : List (List ℕ)) (first : Beginning) (script ahead : Option (List ScriptLine)) (old now : Option (List ℕ)) (number taken : ℕ) (ks : List NodeState) (h : SharedState) (fine : Leaving ks h) (g : Going names first script ahead old now number taken ks h) where
   ended : (new : Option (List ℕ)) (x : Exit) → EndsWith g.entries script old new (exit_of x) → RunsFrom names first script old new x (disks_of ks)
   ended new x e = runs_from names first g.entries ks h script old new x g.way e fine
 
@@ -118,7 +118,7 @@ module _ (names : List (List ℕ)) (first : Beginning) (script ahead : Option (L
             (subst (λ x. EndsWith g.entries script old b.text x) (exit_if b.failed exit.BadLine)
             (ends_bad g.entries script ahead old now number taken g.read a b column t n e m (next_bad g.entries script ahead old now number taken g.read source later next within few column bad)))
 
-        module _ (new : List Kept) (shared : SharedState) (v : Next names first source g.entries a b new shared) where
+        module _ (new : List NodeState) (shared : SharedState) (v : Next names first source g.entries a b new shared) where
           pub going_served : (i j : ℕ) → i ≡ number + 1 → j ≡ taken + size_of source → b.failed ≡ false → Going names first script later old b.text i j new shared
           going_served i j ei ej f = subst (λ i. Going names first script later old b.text i j new shared) (sym ei) (subst (λ j. Going names first script later old b.text (number + 1) j new shared) (sym ej)
               record { entries = record { source = source; lines = v.lines } ∷ g.entries; read = read_shown g.entries script ahead old now number taken g.read source later next within few a b v.lines t n e f v.emits; way = v.way })

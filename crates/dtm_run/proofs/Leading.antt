@@ -20,12 +20,12 @@ use Rattle.run_model.proofs.NodeLists.{some_is}
 use Rattle.run_said.specs.Said.{Said, SaidLabel, answer_said, line_said, lines_said, nothing_said, request_said, said_here}
 use Rattle.run_shared.specs.Sharing.{SharedState}
 use Rattle.world_laws.specs.Nodes.{NodesAreKept}
-use Rattle.node_standing.specs.Standing.{Kept, Place, IsDown, IsRunning, StandsIn, counts_of, disk_in, is_up, noted_all}
+use Rattle.node_standing.specs.Standing.{NodeState, Place, IsDown, IsRunning, PlaceRepresents, counts_of, disk_in, is_up, noted_all}
 use Rattle.node_standing.specs.Telling.{said_label, said_node}
 use Rattle.statement_steps.specs.Doing.{AllKept}
 use Rattle.statement_steps.proofs.Keeping.{all_kept}
 use Rattle.statement_steps.proofs.Places.{find_at}
-use Rattle.run_nodes.specs.Calls.{LineFollows, LineTellsAll}
+use Rattle.run_nodes.specs.Calls.{DisksFollowLine, LineFollows}
 use Rattle.run_nodes.specs.Held.{clocks_of}
 use Rattle.run_nodes.specs.Names.{AreApart}
 use Rattle.run_nodes.specs.Together.{AnswersTogether, ServesTogether, StandAll, StandsTogether, disks_of, said_together}
@@ -33,7 +33,7 @@ use Rattle.run_nodes.specs.Told.{kept_names}
 use Rattle.run_nodes.specs.Untold.{BootsUnknown, IsUntold}
 use Rattle.run_nodes.proofs.Places.{world_apart}
 use Rattle.run_nodes.proofs.Telling.{passes_on, passes_same}
-use Rattle.dtm_run.specs.Headline.{AllGo, Leaves, StandOn, StandsOn, exit_of, is_known}
+use Rattle.dtm_run.specs.Headline.{AllGo, DiskRepresents, DisksRepresent, Leaves, exit_of, is_known}
 use Rattle.dtm_run.specs.Leading.{Beginning, Begins, IsUnknown, KeepKnown, Leads, LeadsNowhere, LeavesOver, RunsFrom, are_resting, are_unset, is_unused, is_unused_behind, said_node_of, said_world, world_at}
 use Rattle.dtm_run.specs.Taking.{AreAtZero}
 use Rattle.dtm_run.specs.declared.top.Exit.{Exit}
@@ -137,7 +137,7 @@ go_on (x ∷ xs) [] zs g h = absurd g
 go_on (x ∷ xs) (y ∷ ys) [] g h = absurd h
 go_on (x ∷ xs) (y ∷ ys) (z ∷ zs) g h = (passes_on x y z g.0 h.0, go_on xs ys zs g.1 h.1)
 
-pub tells_go : (names : List (List ℕ)) (said : Said) (s : Statement) (lines : List Line) (olds news : List DiskState) → LineTellsAll names said (Says s) lines olds news → AllGo olds news
+pub tells_go : (names : List (List ℕ)) (said : Said) (s : Statement) (lines : List Line) (olds news : List DiskState) → DisksFollowLine names said (Says s) lines olds news → AllGo olds news
 tells_go [] said s lines [] [] h = tt
 tells_go [] said s lines [] (new ∷ news) h = absurd h
 tells_go [] said s lines (old ∷ olds) news h = absurd h
@@ -147,7 +147,7 @@ tells_go (name ∷ names) said s lines (old ∷ olds) (new ∷ news) h = (h.0.pa
 
 -- What stands is what was said.
 
-stand_said : (logs : List CallLog) (ks : List Kept) (ns : List Node) → StandAll logs ks ns → map said_node ks ≡ map said_node_of ns
+stand_said : (logs : List CallLog) (ks : List NodeState) (ns : List Node) → StandAll logs ks ns → map said_node ks ≡ map said_node_of ns
 stand_said [] [] [] h = refl
 stand_said [] [] (n ∷ ns) h = absurd h
 stand_said [] (k ∷ ks) ns h = absurd h
@@ -157,11 +157,11 @@ stand_said (log ∷ logs) (k ∷ ks) (n ∷ ns) h =
     let up = by k.place h.0.place in
     λ i. record { name = sym h.0.name i; up = up i; unmade = sym h.0.unmade i } ∷ stand_said logs ks ns h.1 i
   where
-    by : (p : Place) → StandsIn k.clock p n → is_up p ≡ n.up
+    by : (p : Place) → PlaceRepresents k.clock p n → is_up p ≡ n.up
     by (IsDown has_parts d) s = sym s.down
     by (IsRunning r) s = sym s.stands.up
 
-pub together_said : (logs : List CallLog) (ks : List Kept) (s : SharedState) (w : World) → StandsTogether logs ks s w → said_together ks s ≡ said_world w
+pub together_said : (logs : List CallLog) (ks : List NodeState) (s : SharedState) (w : World) → StandsTogether logs ks s w → said_together ks s ≡ said_world w
 together_said logs ks s w h = λ i. record {
   nodes = stand_said logs ks w.nodes h.nodes i;
   shared = record { labels = map said_label (sym h.shared.labels i); in_use = sym h.shared.in_use i; wire = sym h.shared.wire i };
@@ -182,13 +182,13 @@ no_labels [] e = refl
 no_labels (l ∷ ls) e = let none : ⊥ = cc in absurd none
 
 -- nothing is shared, and each node is down, with no INIT that failed
-pub record IsFresh (ks : List Kept) (s : SharedState) : Type 0 where
+pub record IsFresh (ks : List NodeState) (s : SharedState) : Type 0 where
   pub labels : s.labels ≡ []
   pub wire : s.wire ≡ []
   pub in_use : s.in_use ≡ false
   pub resting : are_resting (map said_node ks) ≡ true
 
-pub fresh : (ks : List Kept) (s : SharedState) → is_unused (said_together ks s) ≡ true → IsFresh ks s
+pub fresh : (ks : List NodeState) (s : SharedState) → is_unused (said_together ks s) ≡ true → IsFresh ks s
 fresh ks s e = go (map said_label s.labels) refl s.wire refl e
   where
     go : (ls : List SaidLabel) → map said_label s.labels ≡ ls → (ms : List Message) → s.wire ≡ ms →
@@ -197,7 +197,7 @@ fresh ks s e = go (map said_label s.labels) refl s.wire refl e
     go [] el (m ∷ ms) em f = let none : ⊥ = cc in absurd none
     go (l ∷ ls) el ms em f = let none : ⊥ = cc in absurd none
 
-unset_zero : (logs : List CallLog) (ks : List Kept) (ns : List Node) → StandAll logs ks ns → are_unset ns ≡ true → AreAtZero ks
+unset_zero : (logs : List CallLog) (ks : List NodeState) (ns : List Node) → StandAll logs ks ns → are_unset ns ≡ true → AreAtZero ks
 unset_zero [] [] [] h e = tt
 unset_zero [] [] (n ∷ ns) h e = absurd h
 unset_zero [] (k ∷ ks) ns h e = absurd h
@@ -207,12 +207,12 @@ unset_zero (log ∷ logs) (k ∷ ks) (n ∷ ns) h e =
     let f = both (n.clock == 0) (are_unset ns) e in
     (sym h.0.clock ∙ eqb-true n.clock 0 f.0, unset_zero logs ks ns h.1 f.1)
 
-zero_as : (ks ls : List Kept) → clocks_of ls ≡ clocks_of ks → AreAtZero ks → AreAtZero ls
+zero_as : (ks ls : List NodeState) → clocks_of ls ≡ clocks_of ks → AreAtZero ks → AreAtZero ls
 zero_as ks [] e h = tt
 zero_as [] (l ∷ ls) e h = let none : ⊥ = cc in absurd none
 zero_as (k ∷ ks) (l ∷ ls) e h = (ap (λ (xs : List ℕ). elim xs [ [] ↦ 0 | x ∷ more ↦ x ]) e ∙ h.0, zero_as ks ls (ap (λ (xs : List ℕ). elim xs [ [] ↦ [] | x ∷ more ↦ more ]) e) h.1)
 
-stand_told : (names : List (List ℕ)) (ds : List DiskState) (ns : List Node) → StandOn names ds ns → AreTold ds
+stand_told : (names : List (List ℕ)) (ds : List DiskState) (ns : List Node) → DisksRepresent names ds ns → AreTold ds
 stand_told [] [] [] h = tt
 stand_told [] [] (n ∷ ns) h = absurd h
 stand_told [] (d ∷ ds) ns h = absurd h
@@ -228,14 +228,14 @@ told_on (old ∷ olds) (new ∷ news) g h = (g.0.told ∙ h.0, g.0.counted h.1, 
 
 -- A node that was not booted, over its disk.
 
-place_first : (name : List ℕ) (clock : ℕ) (p : Place) (n : Node) → is_up p ≡ false → StandsOn name (disk_in p) n → AreOpening (n ∷ []) → StandsIn clock p n
+place_first : (name : List ℕ) (clock : ℕ) (p : Place) (n : Node) → is_up p ≡ false → DiskRepresents name (disk_in p) n → AreOpening (n ∷ []) → PlaceRepresents clock p n
 place_first name clock (IsDown has_parts d) n down s o = record { down = o.0.down; reserved = λ was. absurd (not_both n.was_up was o.0.was_down); told = s.told; disk = s.has }
 place_first name clock (IsRunning r) n down s o = let none : ⊥ = cc in absurd none
 
 abbrev pub logs_of : List DiskState → List CallLog
 logs_of ds = map (λ (d : DiskState). d.calls) ds
 
-stand_first : (ks : List Kept) (ns : List Node) → AreAtZero ks → are_resting (map said_node ks) ≡ true → AreOpening ns → StandOn (kept_names ks) (disks_of ks) ns → StandAll (logs_of (disks_of ks)) ks ns
+stand_first : (ks : List NodeState) (ns : List Node) → AreAtZero ks → are_resting (map said_node ks) ≡ true → AreOpening ns → DisksRepresent (kept_names ks) (disks_of ks) ns → StandAll (logs_of (disks_of ks)) ks ns
 stand_first [] [] at_zero rest o h = tt
 stand_first [] (n ∷ ns) at_zero rest o h = absurd h
 stand_first (k ∷ ks) [] at_zero rest o h = absurd h
@@ -254,10 +254,10 @@ stand_first (k ∷ ks) (n ∷ ns) at_zero rest o h =
       stand_first ks ns at_zero.1 g.1 o.1 h.1,
     )
 
-pub stands_first : (names : List (List ℕ)) (ks : List Kept) (s : SharedState) (ns : List Node) → names ≡ kept_names ks → AreAtZero ks → IsFresh ks s → AreOpening ns → StandOn names (disks_of ks) ns →
+pub stands_first : (names : List (List ℕ)) (ks : List NodeState) (s : SharedState) (ns : List Node) → names ≡ kept_names ks → AreAtZero ks → IsFresh ks s → AreOpening ns → DisksRepresent names (disks_of ks) ns →
     StandsTogether (logs_of (disks_of ks)) ks s (opened ns (map counts_of (disks_of ks)))
 stands_first names ks s ns named at_zero f o h = record {
-  nodes = stand_first ks ns at_zero f.resting o (subst (λ xs. StandOn xs (disks_of ks) ns) named h);
+  nodes = stand_first ks ns at_zero f.resting o (subst (λ xs. DisksRepresent xs (disks_of ks) ns) named h);
   disks = refl;
   shared = record { labels = sym f.labels; in_use = sym f.in_use; wire = sym f.wire };
 }
@@ -303,12 +303,12 @@ each_of P (n ∷ ns) h = (h zero n refl, each_of P ns (λ place m e. h (suc plac
 -- Between two lines.
 
 -- the kept nodes stand for the world since the last beginning, or the entries lead nowhere
-abbrev pub Stays : Beginning → World → List Entry → List Kept → SharedState → Type 0
+abbrev pub Stays : Beginning → World → List Entry → List NodeState → SharedState → Type 0
 Stays last w [] ks s = AllGo last.disks (disks_of ks) × StandsTogether (logs_of last.disks) ks s w
 Stays last w (e ∷ es) ks s = LeadsNowhere w (e ∷ es)
 
 -- these entries were served
-pub record Way (names : List (List ℕ)) (first : Beginning) (es : List Entry) (ks : List Kept) (s : SharedState) : Type 0 where
+pub record Way (names : List (List ℕ)) (first : Beginning) (es : List Entry) (ks : List NodeState) (s : SharedState) : Type 0 where
   pub led : List Entry
   pub left_over : List Entry
   pub parts : es ≡ left_over ++ led
@@ -320,12 +320,12 @@ pub record Way (names : List (List ℕ)) (first : Beginning) (es : List Entry) (
   pub stays : Stays last closing left_over ks s
 
 -- and one more, for which these lines were shown
-pub record Next (names : List (List ℕ)) (first : Beginning) (source : ScriptLine) (es : List Entry) (a b : Shown) (ks : List Kept) (s : SharedState) : Type 0 where
+pub record Next (names : List (List ℕ)) (first : Beginning) (source : ScriptLine) (es : List Entry) (a b : Shown) (ks : List NodeState) (s : SharedState) : Type 0 where
   pub lines : List Line
   pub emits : Emits a lines b
   pub way : Way names first (record { source = source; lines = lines } ∷ es) ks s
 
-pub way_first : (names : List (List ℕ)) (ks : List Kept) (s : SharedState) → said_together ks s ≡ nothing_said names → names ≡ kept_names ks → AreAtZero ks → (nodes : List Node) → AreOpening nodes → StandOn names (disks_of ks) nodes →
+pub way_first : (names : List (List ℕ)) (ks : List NodeState) (s : SharedState) → said_together ks s ≡ nothing_said names → names ≡ kept_names ks → AreAtZero ks → (nodes : List Node) → AreOpening nodes → DisksRepresent names (disks_of ks) nodes →
     Way names (record { nodes = nodes; disks = disks_of ks }) [] ks s
 way_first names ks s unsaid named at_zero nodes o stand = record {
   led = [];
@@ -339,7 +339,7 @@ way_first names ks s unsaid named at_zero nodes o stand = record {
   stays = (all_stay (disks_of ks), stands_first names ks s nodes named at_zero (fresh ks s (ap is_unused unsaid ∙ nothing_unused names)) o stand);
 }
 
-pub way_blank : (names : List (List ℕ)) (first : Beginning) (source : ScriptLine) (es : List Entry) (ks : List Kept) (s : SharedState) → reading source.text ≡ Blank → Way names first es ks s → Way names first (record { source = source; lines = [] } ∷ es) ks s
+pub way_blank : (names : List (List ℕ)) (first : Beginning) (source : ScriptLine) (es : List Entry) (ks : List NodeState) (s : SharedState) → reading source.text ≡ Blank → Way names first es ks s → Way names first (record { source = source; lines = [] } ∷ es) ks s
 way_blank names first source es ks s blank g = go g.left_over g.parts g.stays
   where
     go : (left : List Entry) → es ≡ left ++ g.led → Stays g.last g.closing left ks s → Way names first (record { source = source; lines = [] } ∷ es) ks s
@@ -379,7 +379,7 @@ last_begins names first last (e ∷ es) [] w o h = h.4.begins.opening
 last_begins names first last (e ∷ es) (latest ∷ since) w o h = last_begins names first last es since h.1 o h.2
 
 -- A statement was served.
-module _ (law : NodesAreKept) (names : List (List ℕ)) (apart : AreApart names) (first : Beginning) (source : ScriptLine) (es : List Entry) (ks ls : List Kept) (s after : SharedState) (same : names ≡ kept_names ks) (named : names ≡ kept_names ls) (g : Way names first es ks s) (statement : Statement)
+module _ (law : NodesAreKept) (names : List (List ℕ)) (apart : AreApart names) (first : Beginning) (source : ScriptLine) (es : List Entry) (ks ls : List NodeState) (s after : SharedState) (same : names ≡ kept_names ks) (named : names ≡ kept_names ls) (g : Way names first es ks s) (statement : Statement)
     (says : reading source.text ≡ Says statement) (a b : Shown) (serves : (logs : List CallLog) (w : World) → StandsTogether logs ks s w → AllKept w.shared w.nodes → (BootsUnknown w statement → ⊥) → ServesTogether logs w statement a b ls after)
     (answers : AnswersTogether names statement a b ks s ls after) (fine : (ds : List DiskState) (w : World) → StandsTogether (logs_of ds) ks s w → Leaves ds w (disks_of ks)) (clocks : (node : List ℕ) → statement ≡ At node Boot → clocks_of ls ≡ clocks_of ks) where
   abbrev answered : Entry
@@ -448,8 +448,8 @@ module _ (law : NodesAreKept) (names : List (List ℕ)) (apart : AreApart names)
     gone : AllGo g.last.disks (disks_of ls)
     gone = go_on g.last.disks (disks_of ks) (disks_of ls) stays.0 goes
 
-    tells_said : LineTellsAll names (said_world g.closing) (Says statement) answers.lines (disks_of ks) (disks_of ls)
-    tells_said = subst (λ (x : Said). LineTellsAll names x (Says statement) answers.lines (disks_of ks) (disks_of ls)) said_is answers.tells
+    tells_said : DisksFollowLine names (said_world g.closing) (Says statement) answers.lines (disks_of ks) (disks_of ls)
+    tells_said = subst (λ (x : Said). DisksFollowLine names x (Says statement) answers.lines (disks_of ks) (disks_of ls)) said_is answers.tells
 
     -- a node of whose disk something is known is not booted
     known_other : (node : List ℕ) → statement ≡ At node Boot → (place : ℕ) (n : Node) → slice_get g.closing.nodes place ≡ Some n → is_known n.durable.volume ≡ true → bytes_eq n.name node ≡ false
@@ -482,16 +482,16 @@ module _ (law : NodesAreKept) (names : List (List ℕ)) (apart : AreApart names)
       each_fresh : (place : ℕ) (n : Node) → slice_get g.closing.nodes place ≡ Some n → free.IsFresh n
       each_fresh place n at = unused_fresh g.last.nodes (map counts_of g.last.disks) g.since g.closing g.begins.opening (since_legal names first g.last g.led g.since g.closing g.leads) off n.name n (find_at g.closing.nodes place n (differ stays) at)
 
-      again_stand : StandOn (kept_names ls) (disks_of ls) (renewed g.closing.nodes ls) × KeepKnown g.closing.nodes (renewed g.closing.nodes ls)
+      again_stand : DisksRepresent (kept_names ls) (disks_of ls) (renewed g.closing.nodes ls) × KeepKnown g.closing.nodes (renewed g.closing.nodes ls)
       again_stand = renewed_stand node (said_world g.closing) answers.lines (logs_of g.last.disks) ks ls g.closing.nodes stays.1.nodes
-          (subst (λ (x : Statement). LineTellsAll (kept_names ks) (said_world g.closing) (Says x) answers.lines (disks_of ks) (disks_of ls)) boot (subst (λ xs. LineTellsAll xs (said_world g.closing) (Says statement) answers.lines (disks_of ks) (disks_of ls)) same tells_said))
+          (subst (λ (x : Statement). DisksFollowLine (kept_names ks) (said_world g.closing) (Says x) answers.lines (disks_of ks) (disks_of ls)) boot (subst (λ xs. DisksFollowLine xs (said_world g.closing) (Says statement) answers.lines (disks_of ks) (disks_of ls)) same tells_said))
           (sym named ∙ same) (each_of free.IsFresh g.closing.nodes each_fresh) (each_of (λ (n : Node). is_known n.durable.volume ≡ true → bytes_eq n.name node ≡ false) g.closing.nodes (known_other node boot))
           (told_on g.last.disks (disks_of ls) gone (stand_told names g.last.disks g.last.nodes g.begins.stand))
 
       begins_again : Begins names again
       begins_again = record {
         opening = renewed_opening g.closing.nodes ls (each_of free.IsFresh g.closing.nodes each_fresh);
-        stand = subst (λ xs. StandOn xs (disks_of ls) (renewed g.closing.nodes ls)) (sym named) again_stand.0;
+        stand = subst (λ xs. DisksRepresent xs (disks_of ls) (renewed g.closing.nodes ls)) (sym named) again_stand.0;
       }
 
       step_anew : Next names first source es a b ls after
@@ -546,7 +546,7 @@ module _ (law : NodesAreKept) (names : List (List ℕ)) (apart : AreApart names)
       }
 
 -- A run that ended.
-pub runs_from : (names : List (List ℕ)) (first : Beginning) (es : List Entry) (ks : List Kept) (s : SharedState) (script : Option (List ScriptLine)) (old new : Option (List ℕ)) (ended : Exit) → Way names first es ks s → EndsWith es script old new (exit_of ended) →
+pub runs_from : (names : List (List ℕ)) (first : Beginning) (es : List Entry) (ks : List NodeState) (s : SharedState) (script : Option (List ScriptLine)) (old new : Option (List ℕ)) (ended : Exit) → Way names first es ks s → EndsWith es script old new (exit_of ended) →
     ((ds : List DiskState) (w : World) → StandsTogether (logs_of ds) ks s w → Leaves ds w (disks_of ks)) → RunsFrom names first script old new ended (disks_of ks)
 runs_from names first es ks s script old new ended g e leaves = record {
   led = g.led;

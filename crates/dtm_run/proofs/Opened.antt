@@ -9,7 +9,7 @@ use Rattle.run_model.specs.World.{Durable, Node, IsOpening, Volume, Unknown, not
 use Rattle.recovery_units.specs.Uses.{IsCounted}
 use Rattle.dtm_node.specs.Boots.{AllHave}
 use Rattle.dtm_node.proofs.DiskLemmas.{as_it_was}
-use Rattle.dtm_run.specs.Headline.{StandsOn}
+use Rattle.dtm_run.specs.Headline.{DiskRepresents}
 
 -- each image of a disk on which nothing is pending is what it reads as
 pub all_have : (d : DiskState) (image : List (List ℕ)) → d.seen ≡ Some image → d.pending ≡ [] → AllHave (fitting image) (content_of image) d
@@ -68,5 +68,5 @@ nothing_opening name blocks v = record {
 abbrev pub unknown_node : List ℕ → ℕ → Node
 unknown_node name blocks = resting_node name blocks (nothing_durable Unknown)
 
-pub unknown_stands : (name : List ℕ) (d : DiskState) → is_some d.seen ≡ true → IsCounted d → StandsOn name d (unknown_node name d.size)
+pub unknown_stands : (name : List ℕ) (d : DiskState) → is_some d.seen ≡ true → IsCounted d → DiskRepresents name d (unknown_node name d.size)
 unknown_stands name d told counted = record { name_is = refl; blocks = refl; told = told; counted = counted; has = tt }

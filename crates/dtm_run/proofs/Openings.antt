@@ -24,7 +24,7 @@ use Rattle.volume_model.specs.Homes.{last_of}
 use Rattle.volume_model.specs.Volumes.{IsLeftBy}
 use Rattle.volume_laws.specs.Falls.{VolumeFalls}
 use Rattle.dtm_node.proofs.DiskLemmas.{have_disk}
-use Rattle.dtm_run.specs.Headline.{StandOn, StandsOn, is_known}
+use Rattle.dtm_run.specs.Headline.{DiskRepresents, DisksRepresent, is_known}
 use Rattle.dtm_run.specs.Leading.{AreKnown}
 use Rattle.dtm_run.specs.Openings.{AreMade, AreTelling, AreTold, IsLeftByOne, IsLeftWhole, IsMade, IsMadeWhole, IsTold, OpeningsExist, Rests, RestsWhole, TellsMoments}
 use Rattle.run_chains.specs.Reopenings.{rebased_file, reopened}
@@ -42,12 +42,12 @@ volume_of v = elim v [ Sound ↦ true | Faulty condition block ↦ false | Barre
 -- a node over a sound volume, or over a finding
 module _ (reads : ReadsFiles) (contents : SoundOrFinding) (falls : VolumeFalls) (name : List ℕ) (d : DiskState) (m : IsMade name d) where
   abbrev Opens : Type 0
-  Opens = (n : Node) × IsOpening n × StandsOn name d n × (is_known n.durable.volume ≡ true) × IsLastApart n × (has_volume n ≡ false → IsNew n)
+  Opens = (n : Node) × IsOpening n × DiskRepresents name d n × (is_known n.durable.volume ≡ true) × IsLastApart n × (has_volume n ≡ false → IsNew n)
 
   -- what is so of that node
   record Fits (n : Node) : Type 0 where
     opening : IsOpening n
-    stands : StandsOn name d n
+    stands : DiskRepresents name d n
     known : is_known n.durable.volume ≡ true
     apart : IsLastApart n
     new : has_volume n ≡ false → IsNew n
@@ -174,7 +174,7 @@ left_tells waits n tells = λ file f found.
 
 module _ (reads : ReadsFiles) (contents : SoundOrFinding) (falls : VolumeFalls) (waits : Id → Bool) (name : List ℕ) (d : DiskState) (m : IsMadeWhole waits name d) where
   abbrev OpensWhole : Type 0
-  OpensWhole = (n : Node) × IsOpening n × StandsOn name d n × (is_known n.durable.volume ≡ true) × IsLastApart n × AreTelling waits n
+  OpensWhole = (n : Node) × IsOpening n × DiskRepresents name d n × (is_known n.durable.volume ≡ true) × IsLastApart n × AreTelling waits n
 
   whole_sound : HasSound name (fitting m.made.image) (content_of m.made.image) → OpensWhole
   whole_sound v = ⊎_elim
@@ -193,7 +193,7 @@ module _ (reads : ReadsFiles) (contents : SoundOrFinding) (falls : VolumeFalls) 
   pub opens_whole : OpensWhole
   opens_whole = ⊎_elim whole_sound whole_faulty (contents name (fitting m.made.image) (content_of m.made.image) (content_is d.size m.made.image m.made.least m.made.whole m.made.bytes))
 
-all_open : (reads : ReadsFiles) (contents : SoundOrFinding) (falls : VolumeFalls) (names : List (List ℕ)) (ds : List DiskState) → AreMade names ds → (nodes : List Node) × AreOpening nodes × StandOn names ds nodes × AreKnown nodes × AreLastApart nodes
+all_open : (reads : ReadsFiles) (contents : SoundOrFinding) (falls : VolumeFalls) (names : List (List ℕ)) (ds : List DiskState) → AreMade names ds → (nodes : List Node) × AreOpening nodes × DisksRepresent names ds nodes × AreKnown nodes × AreLastApart nodes
 all_open reads contents falls [] [] h = ([], tt, tt, tt, tt)
 all_open reads contents falls [] (d ∷ ds) h = absurd h
 all_open reads contents falls (name ∷ names) [] h = absurd h
@@ -204,10 +204,10 @@ all_open reads contents falls (name ∷ names) (d ∷ ds) h =
 
 -- Of any disk that tells its content nothing may be known.
 
-unknown_opens : (name : List ℕ) (d : DiskState) → IsTold d → (n : Node) × IsOpening n × StandsOn name d n
+unknown_opens : (name : List ℕ) (d : DiskState) → IsTold d → (n : Node) × IsOpening n × DiskRepresents name d n
 unknown_opens name d t = (unknown_node name d.size, nothing_opening name d.size Unknown, unknown_stands name d t.told t.counted)
 
-unknown_open : (names : List (List ℕ)) (ds : List DiskState) → AreTold names ds → (nodes : List Node) × AreOpening nodes × StandOn names ds nodes
+unknown_open : (names : List (List ℕ)) (ds : List DiskState) → AreTold names ds → (nodes : List Node) × AreOpening nodes × DisksRepresent names ds nodes
 unknown_open [] [] h = ([], tt, tt)
 unknown_open [] (d ∷ ds) h = absurd h
 unknown_open (name ∷ names) [] h = absurd h

@@ -14,11 +14,11 @@ use Rattle.run_said.specs.Said.{Said}
 use Rattle.volume_model.specs.Volumes.{HasDisk, IsEitherOf, IsLeftBy, LeavesVolume}
 use Rattle.recovery_units.specs.Uses.{IsCounted}
 use Rattle.dtm_node.proofs.DiskLemmas.{DiskBy}
-use Rattle.node_standing.specs.Standing.{IsDown, IsRunning, Kept, Place, StandsIn, disk_in}
-use Rattle.run_nodes.specs.Calls.{LineTellsAll}
+use Rattle.node_standing.specs.Standing.{IsDown, IsRunning, NodeState, Place, PlaceRepresents, disk_in}
+use Rattle.run_nodes.specs.Calls.{DisksFollowLine}
 use Rattle.run_nodes.specs.Together.{StandAll, disks_of}
 use Rattle.run_nodes.specs.Told.{kept_names}
-use Rattle.dtm_run.specs.Headline.{StandOn, StandsOn, is_known}
+use Rattle.dtm_run.specs.Headline.{DiskRepresents, DisksRepresent, is_known}
 use Rattle.dtm_run.specs.Leading.{KeepKnown, as_first}
 use Rattle.dtm_run.proofs.Opened.{nothing_opening, unknown_node, unknown_stands}
 use Rattle.dtm_run.proofs.Unused.{IsFresh}
@@ -55,14 +55,14 @@ first_disk n d quiet h = go n.durable.volume h
     go (Barred bar) k = (k.0, refl)
     go Unknown k = tt
 
-place_disk : (clock : ℕ) (p : Place) (n : Node) → n.up ≡ false → StandsIn clock p n → HasDisk n (disk_in p)
+place_disk : (clock : ℕ) (p : Place) (n : Node) → n.up ≡ false → PlaceRepresents clock p n → HasDisk n (disk_in p)
 place_disk clock (IsDown has_parts d) n down s = s.disk
 place_disk clock (IsRunning r) n down s = let no : true ≡ false = sym s.stands.up ∙ down in let none : ⊥ = cc in absurd none
 
 -- Nodes behind a BOOT that was refused.
 
 -- a node of the disk of what is kept, of which nothing is known
-abbrev pub unknown_of : Kept → Node
+abbrev pub unknown_of : NodeState → Node
 unknown_of k = unknown_node k.name (disk_in k.place).size
 
 -- each of these disks tells its content, and was counted
@@ -71,15 +71,15 @@ AreTold [] = Unit {0}
 AreTold (d ∷ ds) = (is_some d.seen ≡ true) × IsCounted d × AreTold ds
 
 -- a node that is kept, or of whose disk nothing is known
-abbrev renewed_one : Node → Kept → Node
+abbrev renewed_one : Node → NodeState → Node
 renewed_one n l = if is_known n.durable.volume then as_first n else unknown_of l
 
-abbrev pub renewed : List Node → List Kept → List Node
+abbrev pub renewed : List Node → List NodeState → List Node
 renewed [] ls = []
 renewed (n ∷ ns) [] = []
 renewed (n ∷ ns) (l ∷ ls) = renewed_one n l ∷ renewed ns ls
 
-pub renewed_opening : (ns : List Node) (ls : List Kept) → AllByRecursion IsFresh ns → AreOpening (renewed ns ls)
+pub renewed_opening : (ns : List Node) (ls : List NodeState) → AllByRecursion IsFresh ns → AreOpening (renewed ns ls)
 renewed_opening [] ls h = tt
 renewed_opening (n ∷ ns) [] h = tt
 renewed_opening (n ∷ ns) (l ∷ ls) h = (one (is_known n.durable.volume), renewed_opening ns ls h.1)
@@ -93,8 +93,8 @@ abbrev pub AreOthers : List ℕ → List Node → Type 0
 AreOthers node ns = AllByRecursion (λ (n : Node). is_known n.durable.volume ≡ true → bytes_eq n.name node ≡ false) ns
 
 module _ (node : List ℕ) (said : Said) (lines : List Line) where
-  pub renewed_stand : (logs : List CallLog) (ks ls : List Kept) (ns : List Node) → StandAll logs ks ns → LineTellsAll (kept_names ks) said (Says (At node Boot)) lines (disks_of ks) (disks_of ls) → kept_names ls ≡ kept_names ks → AllByRecursion IsFresh ns → AreOthers node ns → AreTold (disks_of ls) →
-      StandOn (kept_names ls) (disks_of ls) (renewed ns ls) × KeepKnown ns (renewed ns ls)
+  pub renewed_stand : (logs : List CallLog) (ks ls : List NodeState) (ns : List Node) → StandAll logs ks ns → DisksFollowLine (kept_names ks) said (Says (At node Boot)) lines (disks_of ks) (disks_of ls) → kept_names ls ≡ kept_names ks → AllByRecursion IsFresh ns → AreOthers node ns → AreTold (disks_of ls) →
+      DisksRepresent (kept_names ls) (disks_of ls) (renewed ns ls) × KeepKnown ns (renewed ns ls)
   renewed_stand [] [] [] [] stand tells named fresh others told = (tt, tt)
   renewed_stand [] [] (l ∷ ls) [] stand tells named fresh others told = absurd tells
   renewed_stand [] [] ls (n ∷ ns) stand tells named fresh others told = absurd stand
@@ -109,7 +109,7 @@ module _ (node : List ℕ) (said : Said) (lines : List Line) where
       same_name : l.name ≡ k.name
       same_name = ap (λ (xs : List (List ℕ)). elim xs [ [] ↦ [] | x ∷ rest ↦ x ]) named
 
-      one : (b : Bool) → is_known n.durable.volume ≡ b → StandsOn l.name (disk_in l.place) (if b then as_first n else unknown_of l)
+      one : (b : Bool) → is_known n.durable.volume ≡ b → DiskRepresents l.name (disk_in l.place) (if b then as_first n else unknown_of l)
       one false is = unknown_stands l.name (disk_in l.place) told.0 told.1
       one true is =
           let away : bytes_eq k.name node ≡ false = ap (λ (x : List ℕ). bytes_eq x node) (sym stand.0.name) ∙ others.0 is in

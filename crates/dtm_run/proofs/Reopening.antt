@@ -31,7 +31,7 @@ use Rattle.directory_model.specs.Restoring.{AreLeft, IsLayoutOf, IsLeft, IsPlace
 use Rattle.volume_model.specs.Volumes.{IsLeftBy, LeavesVolume}
 use Rattle.recovery_units.specs.Uses.{IsCounted}
 use Rattle.dtm_node.proofs.DiskLemmas.{ContentBy, have_disk}
-use Rattle.dtm_run.specs.Headline.{StandsOn}
+use Rattle.dtm_run.specs.Headline.{DiskRepresents}
 use Rattle.run_chains.specs.Reopenings.{rebased_file, rebased_files, reopened}
 use Rattle.dtm_run.proofs.Opened.{all_have, is_told}
 
@@ -360,7 +360,7 @@ pub left_by_again : (content : List (List ℕ)) (n : Node) → IsLeftBy content 
 left_by_again content n l = record { catalog = l.catalog; tells = l.tells; sound = l.sound; leaves = λ whole. leaves_again content l.catalog n (l.leaves whole) }
 
 -- on a disk that has one image of such a content it stands as before the first line
-pub stands_again : (name : List ℕ) (d : DiskState) (n : Node) (image : List (List ℕ)) → n.name ≡ name → n.blocks ≡ d.size → d.seen ≡ Some image → d.pending ≡ [] → IsCounted d → EachWhole (content_of image) → fitting image ≡ true → IsLeftBy (content_of image) n → StandsOn name d (reopened n)
+pub stands_again : (name : List ℕ) (d : DiskState) (n : Node) (image : List (List ℕ)) → n.name ≡ name → n.blocks ≡ d.size → d.seen ≡ Some image → d.pending ≡ [] → IsCounted d → EachWhole (content_of image) → fitting image ≡ true → IsLeftBy (content_of image) n → DiskRepresents name d (reopened n)
 stands_again name d n image named sized told settled counted whole fits left =
     let again = left_by_again (content_of image) n left in
     let sound = (left.leaves whole).home.volume in

@@ -21,7 +21,7 @@ use Rattle.volume_model.specs.Volumes.{HasBarred, IsLeftBy, half_done}
 use Rattle.volume_laws.specs.Falls.{VolumeFalls}
 use Rattle.node_standing.specs.Standing.{counts_of}
 use Rattle.dtm_node.proofs.DiskLemmas.{DiskBy, have_disk}
-use Rattle.dtm_run.specs.Headline.{IsVolumeOf, LeaveNodes, LeavesNode, StandOn, StandsOn}
+use Rattle.dtm_run.specs.Headline.{DiskRepresents, DisksRepresent, IsVolumeOf, LeaveNodes, LeavesNode}
 use Rattle.run_chains.specs.Chains.{AreNext, IsNext}
 use Rattle.run_chains.specs.Reopenings.{IsReopened, reopened}
 use Rattle.run_chains.proofs.Names.{found_behind, found_first, legal_names, names_of, same_apart}
@@ -65,7 +65,7 @@ acted_kept n s act k way = let w = k.way act way in kept_as (on (durable_after a
 -- On such a disk.
 module _ (name : List ℕ) (n : Node) (shared : Shared) (named : n.name ≡ name) (kept : IsKeptNode shared n) (lasts : Kept once once_keeps tt n) (before left next : DiskState) (l : LeavesNode before n left) (t : IsTakenUp left next) where
   abbrev Opens : Type 0
-  Opens = (m : Node) × IsOpening m × StandsOn name next m × IsNext n m
+  Opens = (m : Node) × IsOpening m × DiskRepresents name next m × IsNext n m
 
   content : List (List ℕ)
   content = content_of t.image
@@ -76,7 +76,7 @@ module _ (name : List ℕ) (n : Node) (shared : Shared) (named : n.name ≡ name
   sized : n.blocks ≡ next.size
   sized = l.blocks ∙ sym t.size
 
-  stands : (m : Node) → m.name ≡ name → m.blocks ≡ next.size → fitting t.image ≡ true → IsLeftBy (content_of t.image) m → StandsOn name next (reopened m)
+  stands : (m : Node) → m.name ≡ name → m.blocks ≡ next.size → fitting t.image ≡ true → IsLeftBy (content_of t.image) m → DiskRepresents name next (reopened m)
   stands m is_name is_sized fits has = stands_again name next m t.image is_name is_sized t.told t.settled t.counted whole fits has
 
   -- a node that has a volume
@@ -189,9 +189,9 @@ left_nodes_open law falls nodes disks es closing opening legal name n found befo
 -- So of a rack.
 
 abbrev EachOpens : List Node → Type 0
-EachOpens ns = (name : List ℕ) (n : Node) → find_node name ns ≡ Some n → (before left next : DiskState) → LeavesNode before n left → IsTakenUp left next → (m : Node) × IsOpening m × StandsOn name next m × IsNext n m
+EachOpens ns = (name : List ℕ) (n : Node) → find_node name ns ≡ Some n → (before left next : DiskState) → LeavesNode before n left → IsTakenUp left next → (m : Node) × IsOpening m × DiskRepresents name next m × IsNext n m
 
-each_opens : (ns : List Node) → NamesApart ns → EachOpens ns → (before left next : List DiskState) → LeaveNodes before ns left → AreTakenUp left next → (ms : List Node) × AreOpening ms × StandOn (names_of ns) next ms × AreNext ns ms
+each_opens : (ns : List Node) → NamesApart ns → EachOpens ns → (before left next : List DiskState) → LeaveNodes before ns left → AreTakenUp left next → (ms : List Node) × AreOpening ms × DisksRepresent (names_of ns) next ms × AreNext ns ms
 each_opens [] apart each [] [] [] l t = ([], tt, tt, tt)
 each_opens [] apart each [] [] (x ∷ nexts) l t = absurd t
 each_opens [] apart each [] (x ∷ lefts) nexts l t = absurd l
@@ -212,4 +212,4 @@ pub left_racks_open : LeftNodesOpen → LeftRacksOpen
 left_racks_open law names nodes before left next es closing opening apart stand legal l t =
     let same : names_of closing.nodes ≡ names = legal_names (opened nodes (map counts_of before)) closing es legal ∙ sym (stand_names names before nodes stand) in
     let now = each_opens closing.nodes (same_apart nodes closing.nodes (legal_names (opened nodes (map counts_of before)) closing es legal) apart) (λ name n found b x y. law nodes (map counts_of before) es closing opening legal name n found b x y) before left next l t in
-    (now.0, now.1, subst (λ xs. StandOn xs next now.0) same now.2, now.3)
+    (now.0, now.1, subst (λ xs. DisksRepresent xs next now.0) same now.2, now.3)

@@ -8,7 +8,7 @@ use Rattle.run_said.specs.Said.{nothing_said}
 use Rattle.run_shared.specs.Sharing.{SharedState}
 use Rattle.run_model.proofs.NodeLists.{some_is}
 use Rattle.dtm_node.specs.Nodes.{IsNode, kept_of}
-use Rattle.node_standing.specs.Standing.{Kept, disk_in}
+use Rattle.node_standing.specs.Standing.{NodeState, disk_in}
 use Rattle.node_standing.specs.Telling.{said_node}
 use Rattle.dtm_node.specs.declared.node.Node.{Node}
 use Rattle.run_nodes.specs.Held.{AreNodesIn}
@@ -149,10 +149,10 @@ module _ {D U : Type 0} (state : D → DiskState) (units : U → UnitsState) whe
   new_zero [] [] h = tt
   new_zero [] (e ∷ es) h = absurd h
   new_zero (p ∷ ps) [] h = absurd h
-  new_zero (p ∷ ps) (e ∷ es) h = (ap (λ (k : Kept). k.clock) h.1, new_zero ps es h.3)
+  new_zero (p ∷ ps) (e ∷ es) h = (ap (λ (k : NodeState). k.clock) h.1, new_zero ps es h.3)
 
   pub new_nodes : (ps : List (List ℕ × D)) (es : List (List ℕ × Node D U)) (s : SharedState) → AreNew state units ps es → AreNodesIn state units 0 s es
   new_nodes [] [] s h = tt
   new_nodes [] (e ∷ es) s h = absurd h
   new_nodes (p ∷ ps) [] s h = absurd h
-  new_nodes (p ∷ ps) (e ∷ es) s h = (ap (λ (k : Kept). k.name) h.1 ∙ sym h.0, h.2 s, new_nodes ps es s h.3)
+  new_nodes (p ∷ ps) (e ∷ es) s h = (ap (λ (k : NodeState). k.name) h.1 ∙ sym h.0, h.2 s, new_nodes ps es s h.3)

@@ -16,7 +16,7 @@ use Rattle.node_standing.specs.Standing.{counts_of, noted_all}
 use Rattle.run_nodes.specs.Names.{AreApart}
 use Rattle.run_nodes.proofs.Places.{apart_nodes}
 use Rattle.dtm_run.specs.Racks.{names_in, states_in, AreSized, IsRack}
-use Rattle.dtm_run.specs.Headline.{AllGo, LeaveNodes, StandOn}
+use Rattle.dtm_run.specs.Headline.{AllGo, DisksRepresent, LeaveNodes}
 use Rattle.dtm_run.specs.Leading.{Beginning, Leads, RunsFrom, RunOver, world_at}
 use Rattle.dtm_run.specs.declared.rack.Rack.{Rack}
 use Rattle.dtm_run.specs.declared.top.Exit.{Exit}
@@ -24,7 +24,7 @@ use Rattle.dtm_run.specs.declared.top.Exit.TheVariants as exit
 use Rattle.dtm_run.proofs.Entries.{ends_memory}
 use Rattle.dtm_run.proofs.Leading.{all_stay, last_begins, not_both, since_legal}
 
-first_leave : (names : List (List ℕ)) (ds : List DiskState) (ns : List Node) → StandOn names ds ns → AreOpening ns → LeaveNodes ds ns ds
+first_leave : (names : List (List ℕ)) (ds : List DiskState) (ns : List Node) → DisksRepresent names ds ns → AreOpening ns → LeaveNodes ds ns ds
 first_leave [] [] [] s o = tt
 first_leave [] [] (n ∷ ns) s o = absurd s
 first_leave [] (d ∷ ds) ns s o = absurd s
@@ -34,7 +34,7 @@ first_leave (name ∷ names) (d ∷ ds) (n ∷ ns) s o =
     (record { down = λ e. s.0.has; up = λ e. absurd (not_both n.up e o.0.down); blocks = s.0.blocks; calls = ap (λ cs. noted_all cs d.calls) (sym o.0.calls) }, first_leave names ds ns s.1 o.1)
 
 -- Where memory is missing nothing was done.
-pub memory_runs : (names : List (List ℕ)) (ds : List DiskState) (script : Option (List ScriptLine)) (old : Option (List ℕ)) (nodes : List Node) → AreOpening nodes → StandOn names ds nodes → RunsFrom names (record { nodes = nodes; disks = ds }) script old old exit.Memory ds
+pub memory_runs : (names : List (List ℕ)) (ds : List DiskState) (script : Option (List ScriptLine)) (old : Option (List ℕ)) (nodes : List Node) → AreOpening nodes → DisksRepresent names ds nodes → RunsFrom names (record { nodes = nodes; disks = ds }) script old old exit.Memory ds
 memory_runs names ds script old nodes o s =
     let first : Beginning = record { nodes = nodes; disks = ds } in
     let ends = ends_memory script old in
@@ -53,7 +53,7 @@ memory_runs names ds script old nodes o s =
     }
 
 -- so where the nodes were only given room
-pub memory_runs_on : {D : Type 0} (state : D → DiskState) (ps qs : List (List ℕ × D)) (script : Option (List ScriptLine)) (old : Option (List ℕ)) → qs ≡ ps → (nodes : List Node) → AreOpening nodes → StandOn (map (λ p. p.0) ps) (map (λ p. state p.1) ps) nodes →
+pub memory_runs_on : {D : Type 0} (state : D → DiskState) (ps qs : List (List ℕ × D)) (script : Option (List ScriptLine)) (old : Option (List ℕ)) → qs ≡ ps → (nodes : List Node) → AreOpening nodes → DisksRepresent (map (λ p. p.0) ps) (map (λ p. state p.1) ps) nodes →
     RunsFrom (map (λ p. p.0) ps) (record { nodes = nodes; disks = map (λ p. state p.1) ps }) script old old exit.Memory (map (λ p. state p.1) qs)
 memory_runs_on {D = D} state ps qs script old same nodes o s =
     subst (λ (l : List (List ℕ × D)). RunsFrom (map (λ p. p.0) ps) (record { nodes = nodes; disks = map (λ p. state p.1) ps }) script old old exit.Memory (map (λ p. state p.1) l)) (sym same) (memory_runs (map (λ p. p.0) ps) (map (λ p. state p.1) ps) script old nodes o s)
@@ -63,7 +63,7 @@ all_stay_on {D = D} state ps qs same = subst (λ (l : List (List ℕ × D)). All
 
 -- what a run of these nodes on these disks comes to, under the names and with the disks of a rack
 abbrev pub RunsOver : List (List ℕ) → List DiskState → Option (List ScriptLine) → Option (List ℕ) → Option (List ℕ) → Exit → List DiskState → Type 0
-RunsOver names before script old new x after = (nodes : List Node) → AreOpening nodes → StandOn names before nodes → RunsFrom names (record { nodes = nodes; disks = before }) script old new x after
+RunsOver names before script old new x after = (nodes : List Node) → AreOpening nodes → DisksRepresent names before nodes → RunsFrom names (record { nodes = nodes; disks = before }) script old new x after
 
 pub runs_in : (names names' : List (List ℕ)) (before before' : List DiskState) (script script' : Option (List ScriptLine)) (old new : Option (List ℕ)) (x : Exit) (after after' : List DiskState) → names ≡ names' → before ≡ before' → script ≡ script' → after' ≡ after → RunsOver names before script old new x after →
     RunsOver names' before' script' old new x after'
@@ -72,12 +72,12 @@ runs_in names names' before before' script script' old new x after after' e f h 
     (subst (λ ds. RunsOver names ds script' old new x after') f (subst (λ l. RunsOver names before l old new x after') h (subst (λ ds. RunsOver names before script old new x ds) (sym k) r)))
 
 -- The nodes of the last beginning stand on their disks.
-last_stand : (names : List (List ℕ)) (first last : Beginning) (es since : List Entry) (w : World) → StandOn names first.disks first.nodes → Leads names first es last since w → StandOn names last.disks last.nodes
-last_stand names first last [] since w s h = subst (λ (x : Beginning). StandOn names x.disks x.nodes) (sym h.0) s
+last_stand : (names : List (List ℕ)) (first last : Beginning) (es since : List Entry) (w : World) → DisksRepresent names first.disks first.nodes → Leads names first es last since w → DisksRepresent names last.disks last.nodes
+last_stand names first last [] since w s h = subst (λ (x : Beginning). DisksRepresent names x.disks x.nodes) (sym h.0) s
 last_stand names first last (e ∷ es) [] w s h = h.4.begins.stand
 last_stand names first last (e ∷ es) (latest ∷ since) w s h = last_stand names first last es since h.1 s h.2
 
-pub stand_names : (names : List (List ℕ)) (ds : List DiskState) (ns : List Node) → StandOn names ds ns → names ≡ map (λ (n : Node). n.name) ns
+pub stand_names : (names : List (List ℕ)) (ds : List DiskState) (ns : List Node) → DisksRepresent names ds ns → names ≡ map (λ (n : Node). n.name) ns
 stand_names [] [] [] h = refl
 stand_names [] [] (n ∷ ns) h = absurd h
 stand_names [] (d ∷ ds) ns h = absurd h
@@ -85,11 +85,11 @@ stand_names (name ∷ names) [] ns h = absurd h
 stand_names (name ∷ names) (d ∷ ds) [] h = absurd h
 stand_names (name ∷ names) (d ∷ ds) (n ∷ ns) h = λ i. sym h.0.name_is i ∷ stand_names names ds ns h.1 i
 
-pub stand_apart : (names : List (List ℕ)) (ds : List DiskState) (ns : List Node) → AreApart names → StandOn names ds ns → NamesApart ns
+pub stand_apart : (names : List (List ℕ)) (ds : List DiskState) (ns : List Node) → AreApart names → DisksRepresent names ds ns → NamesApart ns
 stand_apart names ds ns apart h = apart_nodes ns (subst AreApart (stand_names names ds ns h) apart)
 
 -- The whole run keeps its promises.
-pub run_over : (names : List (List ℕ)) (nodes : List Node) (before after : List DiskState) (script old new old' new' : Option (List ℕ)) (x : Exit) → PromisesAreKept × ManagerPromisesHold × RecoveryPromisesHold → AgreedPromisesAreKept → AreApart names → AreOpening nodes → StandOn names before nodes → old' ≡ old → new' ≡ new →
+pub run_over : (names : List (List ℕ)) (nodes : List Node) (before after : List DiskState) (script old new old' new' : Option (List ℕ)) (x : Exit) → PromisesAreKept × ManagerPromisesHold × RecoveryPromisesHold → AgreedPromisesAreKept → AreApart names → AreOpening nodes → DisksRepresent names before nodes → old' ≡ old → new' ≡ new →
     RunsFrom names (record { nodes = nodes; disks = before }) (option_map lines_of script) old new x after → RunOver names nodes before after script old' new' x
 run_over names nodes before after script old new old' new' x law agreed apart opening stand e f r =
     let first : Beginning = record { nodes = nodes; disks = before } in

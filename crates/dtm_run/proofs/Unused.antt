@@ -2,6 +2,7 @@
 use Rattle.std.specs.Prelude.{◌||◌, ◌&&◌, ◌+◌, not, nat_le, nat_lt, replicate, slice_index_or}
 use Rattle.std.proofs.Common.{◌≡◌, ◌≤◌, ℕ, zero, suc, Bool, true, false, List, [], ◌∷◌, Option, Some, None, ◌⊎◌, inl, inr, length, take, refl, ap, sym, subst, ◌∙◌, arith}
 use Rattle.std.proofs.lemmas.Bool.{both_ways, leb-true}
+use Rattle.vms_model.specs.Limits.{lock_limit}
 use Rattle.transcript_model.specs.Lines as line
 use Rattle.transcript_model.specs.Lines.{Line, Cause}
 use Rattle.script_model.specs.Statements as said
@@ -15,7 +16,7 @@ use Rattle.run_model.specs.World as world
 use Rattle.run_model.specs.World.{DiskCounts, Durable, File, IsOpening, LastIsReached, Node, Outturn, Settlement, Shared, Unknown, World, find_node, made_volume, opened, powered, prepared_left, relocked, relocked_by, with_node}
 use Rattle.run_model.specs.Operations.{first_of, refused_if}
 use Rattle.run_model.specs.Answers as answers
-use Rattle.run_model.specs.Answers.{Hears, LosesLink, Restarts, RunsDown, Serves, Service, Takes, Task, Ticks, lock_limit, occupies, refused_before_reading, task_service}
+use Rattle.run_model.specs.Answers.{Hears, LosesLink, Restarts, RunsDown, Serves, Service, Takes, Task, Ticks, occupies, refused_before_reading, task_service}
 use Rattle.run_model.specs.Steps as steps
 use Rattle.run_model.specs.Steps.{Choice, Cut, ServiceAllowed, TaskAllowed, TaskEffect, Unpowered, Whole, WithoutMemory, ready_node, service_effect, shared_after_rows, shared_then, task_effect}
 use Rattle.run_model.specs.Statements.{Allowed, Begins, Part, PartEffect, Phases, Step, begun_with, ended_by, no_node, nothing_done, part_effect, phases_of, put_into, refused_at_once, stops_at, RoseAt}
@@ -190,20 +191,20 @@ module _ (n : Node) (s : Shared) (stops : ℕ) (rises : Cause → Type 0) (h : I
       leb-true slots 512 (parts_true (nat_le 64 slots) (nat_le slots 512) within.0).1
 
   -- the disk runs again for an INIT
-  spoilt_fresh : (o : Outturn) → IsFresh (steps.spoilt true (powered o stops n))
-  spoilt_fresh o = subst (λ (z : Node). IsFresh (steps.spoilt true z)) (sym (quiet_powered o stops n h.quiet)) (record { down = h.down; quiet = refl; first = unknown_first n h.first })
+  spoilt_fresh : (o : Outturn) → IsFresh (steps.with_unknown_volume true (powered o stops n))
+  spoilt_fresh o = subst (λ (z : Node). IsFresh (steps.with_unknown_volume true z)) (sym (quiet_powered o stops n h.quiet)) (record { down = h.down; quiet = refl; first = unknown_first n h.first })
 
   init_stays : (slots journal : ℕ) (c : Choice) → ServiceAllowed s stops n (answers.service (Init slots journal)) rises c → Stays (service_effect s stops n (answers.service (Init slots journal)) c)
   init_stays slots journal (Whole o) may = by (refused_before_reading s n (answers.service (Init slots journal))) refl
     where
-      by : (l : Option Line) → refused_before_reading s n (answers.service (Init slots journal)) ≡ l → Stays (steps.whole s n (steps.spoilt true (powered o stops n)) (answers.service (Init slots journal)) l)
+      by : (l : Option Line) → refused_before_reading s n (answers.service (Init slots journal)) ≡ l → Stays (steps.whole s n (steps.with_unknown_volume true (powered o stops n)) (answers.service (Init slots journal)) l)
       by (Some l) e = inr h
-      by None e = let y = spoilt_fresh o in inr (record { down = y.down; quiet = y.quiet; first = made_first (steps.spoilt true (powered o stops n)) slots journal (few_slots slots journal e) })
+      by None e = let y = spoilt_fresh o in inr (record { down = y.down; quiet = y.quiet; first = made_first (steps.with_unknown_volume true (powered o stops n)) slots journal (few_slots slots journal e) })
   init_stays slots journal WithoutMemory may = inr h
   init_stays slots journal Unpowered may = inr (record { down = refl; quiet = h.quiet; first = unknown_first n h.first })
   init_stays slots journal (Cut o done begun cause) may =
       let y = spoilt_fresh o in
-      inr (subst IsFresh (sym (nothing_cut done begun (steps.spoilt true (powered o stops n)))) (record { down = refl; quiet = refl; first = y.first }))
+      inr (subst IsFresh (sym (nothing_cut done begun (steps.with_unknown_volume true (powered o stops n)))) (record { down = refl; quiet = refl; first = y.first }))
 
 abbrev TaskStays : Task → Type 1
 TaskStays t = (n : Node) (s : Shared) (stops : ℕ) (rises : Cause → Type 0) → IsFresh n → (c : Choice) → TaskAllowed s stops n t rises c → Stays (task_effect s stops n t c)

@@ -10,7 +10,7 @@ use Rattle.dtm_run.specs.declared.top.Exit.{Exit}
 
 -- A run over these disks: its lines, and what was shown for each up to the exit, tell of the disks' calls and failures from the first state to the last, and
 -- follow each other.
-pub record TellsOver (names : List (List ℕ)) (before after : List DiskState) (script : Option (List ScriptLine)) (old new : Option (List ℕ)) (ended : Exit) : Type 0 where
+pub record DisksFollowRun (names : List (List ℕ)) (before after : List DiskState) (script : Option (List ScriptLine)) (old new : Option (List ℕ)) (ended : Exit) : Type 0 where
   pub entries : List Entry
   pub tell : EntriesTell names before entries after
   pub in_limits : AreInLimits entries

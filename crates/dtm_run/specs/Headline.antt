@@ -17,7 +17,7 @@ use Rattle.run_laws.specs.Laws.{AgreedPromises}
 use Rattle.run_laws.specs.Promises.{KeptPromises}
 use Rattle.manager_laws.specs.Promises.{ManagerPromises}
 use Rattle.recovery_runs.specs.Promises.{RecoveryPromises}
-use Rattle.node_standing.specs.Telling.{Passes}
+use Rattle.node_standing.specs.Telling.{DiskAdvancesOverCalls}
 use Rattle.volume.specs.declared.catalog.Catalog.{Catalog}
 use Rattle.volume.specs.Catalogs.{IsSound, TellsCatalog}
 use Rattle.volume_model.specs.Volumes.{HasDisk, HasVolume}
@@ -48,7 +48,7 @@ is_known Unknown = false
 
 -- A node of the world stands on a disk that tells its content: it has this name and as many blocks, and the disk has what the node's disk has. Where nothing is
 -- known of that, any disk has it.
-pub record StandsOn (name : List ℕ) (d : DiskState) (n : Node) : Type 0 where
+pub record DiskRepresents (name : List ℕ) (d : DiskState) (n : Node) : Type 0 where
   pub name_is : n.name ≡ name
   pub blocks : n.blocks ≡ d.size
   pub told : is_some d.seen ≡ true
@@ -56,20 +56,20 @@ pub record StandsOn (name : List ℕ) (d : DiskState) (n : Node) : Type 0 where
   pub has : HasDisk n d
 
 -- so do the nodes of a rack, each on its own
-abbrev pub StandOn : List (List ℕ) → List DiskState → List Node → Type 0
-StandOn [] [] [] = Unit {0}
-StandOn (name ∷ names) (d ∷ ds) (n ∷ ns) = StandsOn name d n × StandOn names ds ns
-StandOn (name ∷ names) (d ∷ ds) [] = ⊥
-StandOn (name ∷ names) [] ns = ⊥
-StandOn [] (d ∷ ds) ns = ⊥
-StandOn [] [] (n ∷ ns) = ⊥
+abbrev pub DisksRepresent : List (List ℕ) → List DiskState → List Node → Type 0
+DisksRepresent [] [] [] = Unit {0}
+DisksRepresent (name ∷ names) (d ∷ ds) (n ∷ ns) = DiskRepresents name d n × DisksRepresent names ds ns
+DisksRepresent (name ∷ names) (d ∷ ds) [] = ⊥
+DisksRepresent (name ∷ names) [] ns = ⊥
+DisksRepresent [] (d ∷ ds) ns = ⊥
+DisksRepresent [] [] (n ∷ ns) = ⊥
 
 -- each disk is a later state of the one at its place: it has the same blocks, its counts did not fall, and what it has is told as before
 abbrev pub AllGo : List DiskState → List DiskState → Type 0
 AllGo [] [] = Unit {0}
 AllGo [] (new ∷ news) = ⊥
 AllGo (old ∷ olds) [] = ⊥
-AllGo (old ∷ olds) (new ∷ news) = Passes old new × AllGo olds news
+AllGo (old ∷ olds) (new ∷ news) = DiskAdvancesOverCalls old new × AllGo olds news
 
 -- a content is the volume of a node that is up
 pub record IsVolumeOf (content : List (List ℕ)) (n : Node) : Type 0 where

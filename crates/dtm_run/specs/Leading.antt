@@ -17,9 +17,9 @@ use Rattle.recovery_runs.specs.Promises.{RecoveryPromises}
 use Rattle.run_said.specs.Said.{Said, SaidNode, is_settling, said_here}
 use Rattle.node_standing.specs.Standing.{counts_of}
 use Rattle.node_standing.specs.Telling.{said_label}
-use Rattle.run_nodes.specs.Calls.{LineFollows, LineTellsAll}
+use Rattle.run_nodes.specs.Calls.{DisksFollowLine, LineFollows}
 use Rattle.run_nodes.specs.Untold.{BootsUnknown}
-use Rattle.dtm_run.specs.Headline.{AllGo, KeepsAgreed, Leaves, StandOn, WholeRun, exit_of, is_known}
+use Rattle.dtm_run.specs.Headline.{AllGo, DisksRepresent, KeepsAgreed, Leaves, WholeRun, exit_of, is_known}
 use Rattle.dtm_run.specs.declared.top.Exit.{Exit}
 
 -- nodes as before a first line, and their disks
@@ -30,7 +30,7 @@ pub record Beginning : Type 0 where
 -- the nodes of these names are down, and each stands on its disk, whether or not something is known of that
 pub record Begins (names : List (List ℕ)) (b : Beginning) : Type 0 where
   pub opening : AreOpening b.nodes
-  pub stand : StandOn names b.disks b.nodes
+  pub stand : DisksRepresent names b.disks b.nodes
 
 -- the world before that line
 abbrev pub world_at : Beginning → World
@@ -89,7 +89,7 @@ pub record BeginsAnew (names : List (List ℕ)) (former : Beginning) (w : World)
   pub unknown : IsUnknown w e true
   pub disks : List DiskState
   pub leaves : Leaves former.disks w disks
-  pub tells : LineTellsAll names (said_world w) (Says unknown.statement) e.lines disks last.disks
+  pub tells : DisksFollowLine names (said_world w) (Says unknown.statement) e.lines disks last.disks
   pub goes : AllGo former.disks last.disks
   pub begins : Begins names last
   pub keeps : KeepKnown w.nodes last.nodes

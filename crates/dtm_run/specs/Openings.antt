@@ -3,6 +3,8 @@ use Rattle.std.specs.Prelude.{◌≡◌, ◌⊎◌, ◌<◌, ◌≤◌, ◌^◌,
 use Rattle.std.specs.List.{All}
 use Rattle.block_disk.specs.Blocks.{IsWhole, block_at}
 use Rattle.block_disk.specs.Disk.{DiskState}
+use Rattle.block_disk.specs.Sizes.{least_disk_size}
+use Rattle.vms_model.specs.Limits.{file_limit, slot_limit}
 use Rattle.careful_write.specs.Content.{content_of}
 use Rattle.file_base.specs.declared.head.FileHead.{FileHead}
 use Rattle.record_files.specs.Any.{IsFile, IsLaidOut}
@@ -25,7 +27,7 @@ use Rattle.run_laws.specs.Promises.{AreLastApart, IsLastApart}
 use Rattle.run_chains.specs.Chains.{IsNew}
 use Rattle.run_chains.specs.Reopenings.{rebased_file}
 use Rattle.recovery_runs.specs.Runs.{HasNoGaps}
-use Rattle.dtm_run.specs.Headline.{StandOn, StandsOn, is_known}
+use Rattle.dtm_run.specs.Headline.{DiskRepresents, DisksRepresent, is_known}
 use Rattle.dtm_run.specs.Leading.{AreKnown}
 
 -- What the head of this number carries for its file's recovery, on a disk of this node, boot count and greatest moment: its rings and the save's blocks have journals and
@@ -49,7 +51,7 @@ AreLaidOut content node boot greatest heads = (f : ℕ) (h : FileHead) → head_
 pub record HasNoRecord (content : List (List ℕ)) (v : Catalog) : Type 0 where
   pub slots : Slots
   pub count : length slots ≡ v.home.slots
-  pub few : length slots ≤ 512
+  pub few : length slots ≤ slot_limit
   pub none : records_in slots ≡ []
   pub keeps : Keeps slots content
   pub whole : IsWholeLog slots content
@@ -77,7 +79,7 @@ pub record IsLeftByOne (name : List ℕ) (size : ℕ) (content : List (List ℕ)
 
 -- One of these is so of the volume that a content tells of the node of this name on a disk of this size, where it tells a sound one.
 abbrev pub HasKnownVolume : List ℕ → ℕ → List (List ℕ) → Type 0
-HasKnownVolume name size content = (catalog : Catalog) → TellsCatalog catalog content → length catalog.heads ≡ 64 → IsSound name size catalog → Rests content catalog ⊎ IsLeftByOne name size content catalog
+HasKnownVolume name size content = (catalog : Catalog) → TellsCatalog catalog content → length catalog.heads ≡ file_limit → IsSound name size catalog → Rests content catalog ⊎ IsLeftByOne name size content catalog
 
 -- What the journals of images and the save of a file tell of earlier moments.
 
@@ -98,7 +100,7 @@ pub record IsLeftWhole (waits : Id → Bool) (name : List ℕ) (size : ℕ) (con
   pub tells : AllFound (λ file f. IsTellingOpening waits left.node.durable.greatest (as_found left.node.durable.greatest (state_of f)) × HasNoGaps (rebased_file left.node.durable.greatest f)) left.node.durable.directory
 
 abbrev pub HasWholeVolume : (waits : Id → Bool) → List ℕ → ℕ → List (List ℕ) → Type 0
-HasWholeVolume waits name size content = (catalog : Catalog) → TellsCatalog catalog content → length catalog.heads ≡ 64 → IsSound name size catalog → RestsWhole content catalog ⊎ IsLeftWhole waits name size content catalog
+HasWholeVolume waits name size content = (catalog : Catalog) → TellsCatalog catalog content → length catalog.heads ≡ file_limit → IsSound name size catalog → RestsWhole content catalog ⊎ IsLeftWhole waits name size content catalog
 
 -- the files of a node that a run finds agree so with their journals and saves, and have no gaps
 abbrev pub AreTelling : (waits : Id → Bool) → Node → Type 0
@@ -111,7 +113,7 @@ pub record IsMade (name : List ℕ) (d : DiskState) : Type 0 where
   pub told : d.seen ≡ Some image
   pub settled : d.pending ≡ []
   pub counted : IsCounted d
-  pub least : 4096 ≤ d.size
+  pub least : least_disk_size ≤ d.size
   pub whole : IsWhole d.size image
   pub bytes : (n : ℕ) → n < d.size → All (λ b. b < 256) (block_at image n)
   pub volume : HasKnownVolume name d.size (content_of image)
@@ -142,8 +144,8 @@ AreTold names ds = ⊥
 -- it has no volume nothing ever happened on it. Where the volume's files agree with their journals and saves, and have no gaps, so it is of the node's, and what a run
 -- promises of recoveries can be met. And so for all disks of a rack.
 pub record OpeningsExist : Type 0 where
-  pub one : (name : List ℕ) (d : DiskState) → IsTold d → (n : Node) × IsOpening n × StandsOn name d n
-  pub all : (names : List (List ℕ)) (ds : List DiskState) → AreTold names ds → (nodes : List Node) × AreOpening nodes × StandOn names ds nodes
-  pub one_known : (name : List ℕ) (d : DiskState) → IsMade name d → (n : Node) × IsOpening n × StandsOn name d n × (is_known n.durable.volume ≡ true) × IsLastApart n × (has_volume n ≡ false → IsNew n)
-  pub all_known : (names : List (List ℕ)) (ds : List DiskState) → AreMade names ds → (nodes : List Node) × AreOpening nodes × StandOn names ds nodes × AreKnown nodes × AreLastApart nodes
-  pub one_whole : (waits : Id → Bool) (name : List ℕ) (d : DiskState) → IsMadeWhole waits name d → (n : Node) × IsOpening n × StandsOn name d n × (is_known n.durable.volume ≡ true) × IsLastApart n × AreTelling waits n
+  pub one : (name : List ℕ) (d : DiskState) → IsTold d → (n : Node) × IsOpening n × DiskRepresents name d n
+  pub all : (names : List (List ℕ)) (ds : List DiskState) → AreTold names ds → (nodes : List Node) × AreOpening nodes × DisksRepresent names ds nodes
+  pub one_known : (name : List ℕ) (d : DiskState) → IsMade name d → (n : Node) × IsOpening n × DiskRepresents name d n × (is_known n.durable.volume ≡ true) × IsLastApart n × (has_volume n ≡ false → IsNew n)
+  pub all_known : (names : List (List ℕ)) (ds : List DiskState) → AreMade names ds → (nodes : List Node) × AreOpening nodes × DisksRepresent names ds nodes × AreKnown nodes × AreLastApart nodes
+  pub one_whole : (waits : Id → Bool) (name : List ℕ) (d : DiskState) → IsMadeWhole waits name d → (n : Node) × IsOpening n × DiskRepresents name d n × (is_known n.durable.volume ≡ true) × IsLastApart n × AreTelling waits n

@@ -4,11 +4,11 @@ use Rattle.block_disk.specs.Disk.{DiskState}
 use Rattle.recovery_units.specs.State.{UnitsState}
 use Rattle.run_shared.specs.Sharing.{SharedState}
 use Rattle.dtm_node.specs.Nodes.{IsNode, kept_of}
-use Rattle.node_standing.specs.Standing.{IsDown, Kept}
+use Rattle.node_standing.specs.Standing.{IsDown, NodeState}
 use Rattle.dtm_node.specs.declared.node.Node.{Node}
 
 -- what is kept of a node that was not booted yet
-abbrev pub new_kept : List ℕ → DiskState → Kept
+abbrev pub new_kept : List ℕ → DiskState → NodeState
 new_kept name d = record { name = name; unmade = false; clock = 0; place = IsDown false d }
 
 -- such nodes, each of the name and over the disk at its place
@@ -18,6 +18,6 @@ AreNew state units (p ∷ ps) (e ∷ es) = (e.0 ≡ p.0) × (kept_of state units
 AreNew state units ps es = ⊥
 
 -- each clock is at zero
-abbrev pub AreAtZero : List Kept → Type 0
+abbrev pub AreAtZero : List NodeState → Type 0
 AreAtZero [] = Unit {0}
 AreAtZero (k ∷ ks) = (k.clock ≡ 0) × AreAtZero ks

@@ -15,8 +15,8 @@ ghost use Rattle.dtm_run.specs.Racks.{names_in, disks_in, states_in, IsRack};
 ghost use Rattle.run_nodes.specs.Held.{AreNodes, kept_all, names_of};
 ghost use Rattle.run_nodes.specs.Names.{AreApart, is_among};
 ghost use Rattle.run_nodes.specs.Together.{disks_of, said_together};
-ghost use Rattle.dtm_run.specs.Calls.{TellsOver};
-ghost use Rattle.dtm_run.specs.Headline.{is_command as is_command_of, StandOn, AllGo, Unread};
+ghost use Rattle.dtm_run.specs.Calls.{DisksFollowRun};
+ghost use Rattle.dtm_run.specs.Headline.{is_command as is_command_of, DisksRepresent, AllGo, Unread};
 ghost use Rattle.dtm_run.specs.Days.{DayRan, DayTold};
 ghost use Rattle.day_model.specs.Command.{Asked, day_asked as day_asked_of};
 ghost use Rattle.script_model.specs.Command.{is_run_form as is_run_form_of};
@@ -76,17 +76,17 @@ pub fn run<S: Source, K: Sink, D: Disk + Drop, U: RecoveryUnits>(
     // those of recoveries,
     // and the disks have what its nodes have. Where nothing is known of a disk, this is so up to a statement that may bring its node up, and anew
     // behind a BOOT that was refused while nothing else had come of the nodes, of which those of whose disks something is known are kept.
-    ensures runs { is_run_form_of (names_in rack.old) (map string_bytes words.now) ≡ true → (nodes : List NodeSaid) → AreOpening nodes → StandOn (names_in rack.old) (states_in D.state rack.old) nodes →
+    ensures runs { is_run_form_of (names_in rack.old) (map string_bytes words.now) ≡ true → (nodes : List NodeSaid) → AreOpening nodes → DisksRepresent (names_in rack.old) (states_in D.state rack.old) nodes →
         RunOver (names_in rack.old) nodes (states_in D.state rack.old) (states_in D.state rack.new) (S.left source.old) (K.shown sink.old) (K.shown sink.new) result }
     // Whether or not the disks tell their content: what was shown for each line tells which calls armed or powered them, and each failure that is shown raised
     // its count. A statement is refused with NOSUCHNODE, NODEDOWN, NODEUP, VOLINUSE, NOINIT, NOSUCHMSG or LABEL just where the lines before it say so, and
     // leaves the disks then. Each statement is answered by its last line, FAULT and STOPPED just behind a line DOWN for that failure. What the disk of a node
     // holds that is down is not lost, but by an INIT of it, or a boot that is not refused.
     ensures calls { is_run_form_of (names_in rack.old) (map string_bytes words.now) ≡ true →
-        TellsOver (names_in rack.old) (states_in D.state rack.old) (states_in D.state rack.new) (option_map lines_of (S.left source.old)) (K.shown sink.old) (K.shown sink.new) result }
+        DisksFollowRun (names_in rack.old) (states_in D.state rack.old) (states_in D.state rack.new) (option_map lines_of (S.left source.old)) (K.shown sink.old) (K.shown sink.new) result }
     // Where they ask for a day: from all nodes that stand on the disks before it, whatever is known of these, its transcript is legal and keeps its promises, its
     // summary was written, or the answer at which it ended, and the disks have what its nodes have.
-    ensures makes { (asked : Asked) → day_asked_of (names_in rack.old) (map string_bytes words.now) ≡ Some asked → (nodes : List NodeSaid) → AreOpening nodes → StandOn (names_in rack.old) (states_in D.state rack.old) nodes →
+    ensures makes { (asked : Asked) → day_asked_of (names_in rack.old) (map string_bytes words.now) ≡ Some asked → (nodes : List NodeSaid) → AreOpening nodes → DisksRepresent (names_in rack.old) (states_in D.state rack.old) nodes →
         (result ≡ Exit.Memory) ⊎ DayRan nodes (states_in D.state rack.old) (states_in D.state rack.new) asked.count asked.start (K.shown sink.old) (K.shown sink.new) result }
     // Whether or not the disks tell their content: the entries of the day tell which calls armed or powered them.
     ensures made { (asked : Asked) → day_asked_of (names_in rack.old) (map string_bytes words.now) ≡ Some asked →
@@ -152,9 +152,9 @@ fn run_script<S: Source, K: Sink, D: Disk + Drop, U: RecoveryUnits>(
     requires failed { out.old.failed ≡ false }
     requires rack { IsRack D.state rack.old }
     ensures same_sink { out.new.sink.ghost_name ≡ out.old.sink.ghost_name }
-    ensures runs { (nodes : List NodeSaid) → AreOpening nodes → StandOn (names_in rack.old) (states_in D.state rack.old) nodes →
+    ensures runs { (nodes : List NodeSaid) → AreOpening nodes → DisksRepresent (names_in rack.old) (states_in D.state rack.old) nodes →
         RunsFrom (names_in rack.old) (record { nodes = nodes; disks = states_in D.state rack.old }) (option_map lines_of (S.left source.old)) (K.shown out.old.sink.now) (K.shown out.new.sink.now) result (states_in D.state rack.new) }
-    ensures calls { TellsOver (names_in rack.old) (states_in D.state rack.old) (states_in D.state rack.new) (option_map lines_of (S.left source.old)) (K.shown out.old.sink.now) (K.shown out.new.sink.now) result }
+    ensures calls { DisksFollowRun (names_in rack.old) (states_in D.state rack.old) (states_in D.state rack.new) (option_map lines_of (S.left source.old)) (K.shown out.old.sink.now) (K.shown out.new.sink.now) result }
     ensures commanded { result ≡ Exit.Usage → ⊥ }
     ensures read_fault { result ≡ Exit.ReadFault → Rose (S.faults source.old) (S.faults source.new) }
     ensures write_fault { result ≡ Exit.WriteFault → Rose (K.faults out.old.sink.now) (K.faults out.new.sink.now) }
@@ -204,7 +204,7 @@ fn run_day<K: Sink, D: Disk + Drop, U: RecoveryUnits>(
     requires rack { IsRack D.state rack.old }
     requires names { names_in rack.old ≡ codes "A" ∷ (codes "B" ∷ []) }
     ensures same_sink { out.new.sink.ghost_name ≡ out.old.sink.ghost_name }
-    ensures makes { (nodes : List NodeSaid) → AreOpening nodes → StandOn (names_in rack.old) (states_in D.state rack.old) nodes →
+    ensures makes { (nodes : List NodeSaid) → AreOpening nodes → DisksRepresent (names_in rack.old) (states_in D.state rack.old) nodes →
         (result ≡ Exit.Memory) ⊎ DayRan nodes (states_in D.state rack.old) (states_in D.state rack.new) asked.count asked.start (K.shown out.old.sink.now) (K.shown out.new.sink.now) result }
     ensures calls { (result ≡ Exit.Memory) ⊎ DayTold (names_in rack.old) (states_in D.state rack.old) (states_in D.state rack.new) asked.count asked.start (K.shown out.old.sink.now) (K.shown out.new.sink.now) result }
     ensures ends { (result ≡ Exit.Usage → ⊥) × (result ≡ Exit.ReadFault → ⊥) }
@@ -313,9 +313,9 @@ fn drive<S: Source, K: Sink, D: Disk + Drop, U: RecoveryUnits>(
     requires zero { AreAtZero (kept_all D.state U.state nodes.old) }
     requires unsaid { said_together (kept_all D.state U.state nodes.old) shared.old ≡ nothing_said (names_of nodes.old) }
     ensures same_sink { out.new.sink.ghost_name ≡ out.old.sink.ghost_name }
-    ensures runs { (said : List NodeSaid) → AreOpening said → StandOn (names_of nodes.old) (disks_of (kept_all D.state U.state nodes.old)) said →
+    ensures runs { (said : List NodeSaid) → AreOpening said → DisksRepresent (names_of nodes.old) (disks_of (kept_all D.state U.state nodes.old)) said →
         RunsFrom (names_of nodes.old) (record { nodes = said; disks = disks_of (kept_all D.state U.state nodes.old) }) (lines_ahead reader.old (S.left source.old)) (K.shown out.old.sink.now) (K.shown out.new.sink.now) result (disks_of (kept_all D.state U.state nodes.new)) }
-    ensures calls { TellsOver (names_of nodes.old) (disks_of (kept_all D.state U.state nodes.old)) (disks_of (kept_all D.state U.state nodes.new)) (lines_ahead reader.old (S.left source.old)) (K.shown out.old.sink.now) (K.shown out.new.sink.now) result }
+    ensures calls { DisksFollowRun (names_of nodes.old) (disks_of (kept_all D.state U.state nodes.old)) (disks_of (kept_all D.state U.state nodes.new)) (lines_ahead reader.old (S.left source.old)) (K.shown out.old.sink.now) (K.shown out.new.sink.now) result }
     ensures commanded { result ≡ Exit.Usage → ⊥ }
     ensures begun { result ≡ Exit.Memory → ⊥ }
     ensures read_fault { result ≡ Exit.ReadFault → Rose (S.faults source.old) (S.faults source.new) }

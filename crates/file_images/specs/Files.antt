@@ -2,6 +2,7 @@
 use Rattle.std.specs.Prelude.{◌≡◌, ◌≤◌, ◌<◌, ◌+◌, ◌-◌, ℕ, Bool, true, false, List, [], Option, Some, None, length}
 use Rattle.std.specs.FinMap.{get}
 use Rattle.block_disk.specs.Blocks.{block_at}
+use Rattle.block_disk.specs.Sizes.{content_start}
 use Rattle.file_base.specs.declared.head.FileHead.{FileHead}
 use Rattle.file_base.specs.declared.head.Span.{Span}
 use Rattle.vms_model.specs.Keys.{Key}
@@ -60,4 +61,4 @@ HasSave content false h (Some v) = ⊥
 pub record SameRing (s : Span) (a b : List (List ℕ)) : Type 0 where
   pub size : length b ≡ length a
   pub whole : (k : ℕ) → k < length b → length (block_at b k) ≡ 512
-  pub blocks : (k : ℕ) → s.start - 518 ≤ k → k < s.start - 518 + s.blocks → block_at b k ≡ block_at a k
+  pub blocks : (k : ℕ) → s.start - content_start ≤ k → k < s.start - content_start + s.blocks → block_at b k ≡ block_at a k

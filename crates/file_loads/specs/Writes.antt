@@ -1,5 +1,6 @@
 -- Buckets that are written into an extent, while all else stays as it was.
 use Rattle.std.specs.Prelude.{◌≡◌, ◌≤◌, ◌+◌, ℕ, List, length, Option, IfSome, option_map}
+use Rattle.block_disk.specs.Sizes.{content_start}
 use Rattle.careful_write.specs.State.{StoreState, IsReady, content}
 use Rattle.file_base.specs.declared.head.FileHead.{FileHead}
 use Rattle.change_set.specs.Buckets.{with_bucket}
@@ -11,7 +12,7 @@ pub record StagesBucket (h : FileHead) (n : ℕ) (bytes : List ℕ) (old new : S
   pub rest : new ≡ record old { current = new.current; touched = new.touched }
   pub current : new.current ≡ option_map (λ blocks. with_bucket bytes blocks (bucket_first h n) h.bucket) old.current
   pub touched : length new.touched ≤ length old.touched + h.bucket
-  pub whole : IfSome old.current (λ blocks. length blocks + 518 ≡ old.disk.size)
+  pub whole : IfSome old.current (λ blocks. length blocks + content_start ≡ old.disk.size)
 
 -- outside of the extent both what reads give and the content are as they were told
 pub record IsApart (h : FileHead) (told : Option (List (List ℕ))) (s : StoreState) : Type 0 where

@@ -1,5 +1,6 @@
 //! The data buckets of a file whose records stand in their order, each bucket filled before the next.
 ghost use Rattle.std.specs.Prelude.{◌≡◌, ◌≤◌, ◌<◌, ◌+◌, ◌-◌, ◌*◌, ◌∷◌, [], ℕ, List, length, take, drop, map, OnOk, OnErr, IfOk, IfSome, nat_lt};
+ghost use Rattle.block_disk.specs.Sizes.{greatest_disk_size};
 ghost use Rattle.careful_write.specs.Down.{Counts};
 ghost use Rattle.careful_write.specs.State.{IsReady};
 ghost use Rattle.bucket_page.specs.Pages.{Packs, no_next};
@@ -19,7 +20,7 @@ use load_pages::{KeyedRecord, fill_bucket};
 
 // The bucket behind bucket n, of which some records are left for it or none; only buckets of indexed files lead to it.
 fn next_bucket(kind: PageKind, left: bool, n: u32) -> u32
-    requires { n < 65536 }
+    requires { n < greatest_disk_size }
     ensures { result ≡ next_for kind left n }
 {
     match kind {

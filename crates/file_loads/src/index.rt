@@ -1,6 +1,8 @@
 //! The index over the leaves of a file that is loaded.
 ghost use Rattle.std.specs.Prelude.{◌≡◌, ◌≤◌, ◌<◌, ◌+◌, ◌-◌, ◌*◌, ◌∷◌, [], ℕ, List, length, take, drop, map, OnOk, OnErr, IfOk, IfSome};
 ghost use Rattle.std.specs.List.{All};
+ghost use Rattle.block_disk.specs.Sizes.{greatest_disk_size};
+ghost use Rattle.vms_model.specs.Limits.{key_limit};
 ghost use Rattle.careful_write.specs.Down.{Counts};
 ghost use Rattle.careful_write.specs.State.{IsReady};
 ghost use Rattle.change_set.specs.Files.{IsPlaced, free_frames};
@@ -33,10 +35,10 @@ fn write_node<D: Disk>(
     requires ready { IsReady store.old }
     requires counted { length store.old.touched ≤ staged.old }
     requires room { staged.old ≤ 496 }
-    requires key { head.now.key_size ≤ 64 }
+    requires key { head.now.key_size ≤ key_limit }
     requires sized { AllKeys head.now.key_size keys.now }
     requires few { length keys.now ≤ (sizes_of head.now).fan_out }
-    requires numbers { first + length keys.now ≤ 65536 }
+    requires numbers { first + length keys.now ≤ greatest_disk_size }
     ensures adds { OnOk result (Adds head.now n (entry_pages (entries_by first keys.now ∷ [])) store.old.current store.new.current) }
     ensures ok { OnOk result (HasWritten head.now staged.new store.old store.new) }
     ensures down { OnErr result (LeavesApart head.now store.old store.new) }
@@ -61,7 +63,7 @@ fn write_level<D: Disk>(
     requires ready { IsReady store.old }
     requires counted { length store.old.touched ≤ staged.old }
     requires room { staged.old ≤ 496 }
-    requires key { head.now.key_size ≤ 64 }
+    requires key { head.now.key_size ≤ key_limit }
     requires sized { AllKeys head.now.key_size keys.now }
     requires there { first + length keys.now + length (level_over (sizes_of head.now).fan_out first keys.now) ≤ head.now.alloc }
     ensures adds { OnOk result (Adds head.now (first + length keys.now) (entry_pages (level_over (sizes_of head.now).fan_out first keys.now)) store.old.current store.new.current) }
@@ -96,7 +98,7 @@ pub(crate) fn write_index<D: Disk>(
     requires ready { IsReady store.old }
     requires counted { length store.old.touched ≤ staged.old }
     requires room { staged.old ≤ 496 }
-    requires key { head.now.key_size ≤ 64 }
+    requires key { head.now.key_size ≤ key_limit }
     requires sized { AllKeys head.now.key_size keys.old.items }
     requires there { first + length keys.old.items + length (index_pages head.now first keys.old.items) ≤ head.now.alloc }
     ensures adds { OnOk result (Adds head.now (first + length keys.old.items) (index_pages head.now first keys.old.items) store.old.current store.new.current) }

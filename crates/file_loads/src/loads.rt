@@ -1,5 +1,6 @@
 //! Records that are loaded into a file of any organization.
 ghost use Rattle.std.specs.Prelude.{◌≡◌, ◌≤◌, ◌<◌, ◌+◌, ◌-◌, ◌*◌, ◌++◌, [], ℕ, List, length, map, OnOk, OnErr, IfOk, IfErr, IfSome};
+ghost use Rattle.vms_model.specs.Limits.{record_limit};
 ghost use Rattle.careful_write.specs.Down.{Counts};
 ghost use Rattle.careful_write.specs.State.{IsIdle, IsReady};
 ghost use Rattle.careful_write.specs.Steps.{Quiet};
@@ -130,7 +131,7 @@ fn keys_for(
     requires loadable { AreLoadable head.now (map keyed records.now) }
     requires blocks { head.now.bucket ≤ 16 }
     requires one { 1 ≤ head.now.bucket }
-    requires most { head.now.mrs ≤ 8160 }
+    requires most { head.now.mrs ≤ record_limit }
     requires fit { head.now.mrs + 32 ≤ 512 * head.now.bucket }
     ensures { IfOk result (λ keys. HasKeysFor head.now (map keyed records.now) keys.items) }
 {

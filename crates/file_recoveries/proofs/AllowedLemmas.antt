@@ -23,7 +23,7 @@ pub record IsOn (h : FileHead) : Type 0 where
   pub saved : h.marks.save ≡ true
   pub behind : h.ai.first ≤ h.save.position
 
-on_by : (h : FileHead) (until : Option Moment) (a b : Bool) → h.marks.ai ≡ a → h.marks.save ≡ b → (if not a then Some err.NotMarked else (if not b then Some err.NoSave else first_cause (said.in_use None) (said.save_cause h until))) ≡ None → IsOn h
+on_by : (h : FileHead) (until : Option Moment) (a b : Bool) → h.marks.ai ≡ a → h.marks.save ≡ b → (if not a then Some err.NoJournal else (if not b then Some err.NoSave else first_cause (said.in_use None) (said.save_cause h until))) ≡ None → IsOn h
 on_by h until false b marked saved none = let no : ⊥ = cc in absurd no
 on_by h until true false marked saved none = let no : ⊥ = cc in absurd no
 on_by h until true true marked saved none = record { marked = marked; saved = saved; behind = reaches (said.early_cause h until) h.save.position h.ai.first (nat_lt h.save.position h.ai.first) refl none }
@@ -31,7 +31,7 @@ on_by h until true true marked saved none = record { marked = marked; saved = sa
 pub on_allowed : (h : FileHead) (until : Option Moment) → forward_cause h until None ≡ None → IsOn h
 on_allowed h until none = on_by h until h.marks.ai h.marks.save refl refl none
 
-off_by : (h : FileHead) (until : Moment) (a : Bool) → h.marks.bi ≡ a → (if not a then Some err.NotMarked else first_cause (said.in_use None) (said.since_cause h until)) ≡ None → h.marks.bi ≡ true
+off_by : (h : FileHead) (until : Moment) (a : Bool) → h.marks.bi ≡ a → (if not a then Some err.NoJournal else first_cause (said.in_use None) (said.since_cause h until)) ≡ None → h.marks.bi ≡ true
 off_by h until false marked none = let no : ⊥ = cc in absurd no
 off_by h until true marked none = marked
 
@@ -40,12 +40,12 @@ off_allowed h until none = off_by h until h.marks.bi refl none
 
 -- where nothing is refused, there is no user
 
-used_on : (a b : Bool) (u : Serial) (rest : Option RecoverErr) → (if not a then Some err.NotMarked else (if not b then Some err.NoSave else first_cause (said.in_use (Some u)) rest)) ≡ None → ⊥
+used_on : (a b : Bool) (u : Serial) (rest : Option RecoverErr) → (if not a then Some err.NoJournal else (if not b then Some err.NoSave else first_cause (said.in_use (Some u)) rest)) ≡ None → ⊥
 used_on false b u rest none = cc
 used_on true false u rest none = cc
 used_on true true u rest none = cc
 
-used_off : (a : Bool) (u : Serial) (rest : Option RecoverErr) → (if not a then Some err.NotMarked else first_cause (said.in_use (Some u)) rest) ≡ None → ⊥
+used_off : (a : Bool) (u : Serial) (rest : Option RecoverErr) → (if not a then Some err.NoJournal else first_cause (said.in_use (Some u)) rest) ≡ None → ⊥
 used_off false u rest none = cc
 used_off true u rest none = cc
 

@@ -44,7 +44,7 @@ used_on h until (Some user) rest same = refl
 
 forward_so : (h : FileHead) (until : Option Moment) (user : Option Serial) (s : FileState) (c : List (List ℕ)) (a b : Bool) → s.ai.on ≡ a → HasSave c b h s.save → h.ai.first ≡ s.ai.first →
     refusal (model.Forward (option_map (λ (m : Moment). m.0) until)) (option_map serial_of user) s ≡
-    refusal_by (Forward until) (if not a then Some err.NotMarked else (if not b then Some err.NoSave else first_cause (said.in_use user) (said.save_cause h until)))
+    refusal_by (Forward until) (if not a then Some err.NoJournal else (if not b then Some err.NoSave else first_cause (said.in_use user) (said.save_cause h until)))
 forward_so h until user s c false b on save first =
     ap (λ (x : Bool). first_of (refused_if (not x) model.NoJournal) (first_of (no_save s.save) (first_of (in_use (option_map serial_of user)) (first_of (too_early (option_map (λ (m : Moment). m.0) until) s.save) (positions_missing s.ai s.save))))) on
 forward_so h until user s c true b on save first =
@@ -69,7 +69,7 @@ used_off h until None rest same = same
 used_off h until (Some user) rest same = refl
 
 backward_so : (h : FileHead) (until : Moment) (user : Option Serial) (s : FileState) (a : Bool) → s.bi.on ≡ a → h.bi_since.0 ≡ s.bi_since →
-    refusal (model.Backward until.0) (option_map serial_of user) s ≡ refusal_by (Backward until) (if not a then Some err.NotMarked else first_cause (said.in_use user) (said.since_cause h until))
+    refusal (model.Backward until.0) (option_map serial_of user) s ≡ refusal_by (Backward until) (if not a then Some err.NoJournal else first_cause (said.in_use user) (said.since_cause h until))
 backward_so h until user s false on since =
     ap (λ (x : Bool). first_of (refused_if (not x) model.NoJournal) (first_of (in_use (option_map serial_of user)) (refused_if (nat_lt until.0 s.bi_since) (model.MomentsMissing until.0 s.bi_since)))) on
 backward_so h until user s true on since =

@@ -28,13 +28,13 @@ in_use None = None
 in_use (Some serial) = Some (err.InUse serial)
 
 abbrev pub forward_cause : FileHead → Option Moment → (user : Option Serial) → Option RecoverErr
-forward_cause h until user = if not h.marks.ai then Some err.NotMarked else (if not h.marks.save then Some err.NoSave else first_cause (in_use user) (save_cause h until))
+forward_cause h until user = if not h.marks.ai then Some err.NoJournal else (if not h.marks.save then Some err.NoSave else first_cause (in_use user) (save_cause h until))
 
 abbrev pub since_cause : FileHead → Moment → Option RecoverErr
 since_cause h until = if nat_lt until.0 h.bi_since.0 then Some (err.Span until.0 h.bi_since.0) else None
 
 abbrev pub backward_cause : FileHead → Moment → (user : Option Serial) → Option RecoverErr
-backward_cause h until user = if not h.marks.bi then Some err.NotMarked else first_cause (in_use user) (since_cause h until)
+backward_cause h until user = if not h.marks.bi then Some err.NoJournal else first_cause (in_use user) (since_cause h until)
 
 -- the first cause, in their order
 abbrev pub cause_of : FileHead → Way → (user : Option Serial) → Option RecoverErr
@@ -51,7 +51,7 @@ abbrev pub refusal_of : Way → RecoverErr → Option model.Refusal
 refusal_of (Forward until) (err.Span needed first) = Some (model.PositionsMissing needed first)
 refusal_of (Backward until) (err.Span needed first) = Some (model.MomentsMissing needed first)
 refusal_of way (err.InUse serial) = Some (model.InUse (serial_of serial))
-refusal_of way err.NotMarked = Some model.NoJournal
+refusal_of way err.NoJournal = Some model.NoJournal
 refusal_of way (err.Early until save) = Some (model.TooEarly until.0 save.0)
 refusal_of way err.NoSave = Some model.NoSave
 refusal_of way err.Memory = None

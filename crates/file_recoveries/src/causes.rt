@@ -51,7 +51,7 @@ fn forward_cause(head: &FileHead, until: Option<Moment>, user: Option<Serial>) -
     ensures { result ≡ said.forward_cause head.now until user }
 {
     if !head.marks.ai {
-        return Some(RecoverErr::NotMarked);
+        return Some(RecoverErr::NoJournal);
     }
     if !head.marks.save {
         return Some(RecoverErr::NoSave);
@@ -79,7 +79,7 @@ fn backward_cause(head: &FileHead, until: Moment, user: Option<Serial>) -> Optio
     ensures { result ≡ said.backward_cause head.now until user }
 {
     if !head.marks.bi {
-        return Some(RecoverErr::NotMarked);
+        return Some(RecoverErr::NoJournal);
     }
     match user {
         Some(serial) => Some(RecoverErr::InUse(serial)),

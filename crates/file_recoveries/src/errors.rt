@@ -15,7 +15,7 @@ pub enum RecoverErr {
     InUse(Serial),
     /// The file has no journal of that direction.
     #[error("the file has no such journal")]
-    NotMarked,
+    NoJournal,
     /// The file was saved later than at the moment that is wanted.
     #[error("the save is later")]
     Early { until: Moment, save: Moment },

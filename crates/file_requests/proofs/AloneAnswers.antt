@@ -18,7 +18,7 @@ use Rattle.record_operations.specs.declared.ops.ReadOp.{ReadOp}
 use Rattle.record_operations.specs.declared.ops.ReadOp.TheVariants as read
 use Rattle.volume.specs.State.{SameVolume}
 use Rattle.volume_model.specs.Volumes.{HasDisk}
-use Rattle.recovery_units.specs.Calls.{IsAskedAlone, IsDone, IsNotDone, IsSeen, KeepsUp, alone_early, alone_late, change_said, direct_act, read_said, refusal_of}
+use Rattle.recovery_units.specs.Calls.{IsAskedAlone, IsDone, IsNotDone, IsSeen, KeepsUp, alone_refused_after_reading, alone_refused_before_reading, change_said, direct_act, read_said, refusal_of}
 use Rattle.recovery_units.specs.State.{IsInOrder, IsKept, UnitsState}
 use Rattle.recovery_units.specs.Uses.{Caused, Grows, ImagesGrow}
 use Rattle.node_table.specs.Standing.{Stored}
@@ -46,8 +46,8 @@ read_reads (read.Next file after) = refl
 
 -- what the units answered to a change, at each node of the world that is asked so and is up behind its act too
 abbrev pub ForAlone : (id : Id) (clock f : ℕ) (op : Operation) (u : Stored) → ((n : Node) (early late : Option Line) (act : Act) (file : File) → Type 0) → Type 0
-ForAlone id clock f op u P = (n : Node) (name : List ℕ) (file : File) → IsAskedAlone f u.units u.volume n name file → next_id n ≡ id → n.clock ≡ clock → KeepsUp (alone_early n name file op) (alone_late n name file op) (direct_act n name file op) n →
-    P n (alone_early n name file op) (alone_late n name file op) (direct_act n name file op) file
+ForAlone id clock f op u P = (n : Node) (name : List ℕ) (file : File) → IsAskedAlone f u.units u.volume n name file → next_id n ≡ id → n.clock ≡ clock → KeepsUp (alone_refused_before_reading n name file op) (alone_refused_after_reading n name file op) (direct_act n name file op) n →
+    P n (alone_refused_before_reading n name file op) (alone_refused_after_reading n name file op) (direct_act n name file op) file
 
 module _ (id : Id) (clock f : ℕ) (op : Operation) (u new : Stored) (o : IsInOrder u.units u.volume) (changes : is_change op ≡ true) (units : new.units ≡ u.units) (doubts : new.in_doubt ≡ u.in_doubt) (grows : Grows 1 clock u.volume new.volume) where
   -- it was done under this id
@@ -94,20 +94,20 @@ IsNotSeen e early late n d = elim (refusal_of e) [ Some l ↦ first_of early lat
 
 module _ (f : ℕ) (op : Operation) (u new : Stored) (o : IsInOrder u.units u.volume) (reads : is_change op ≡ false) (units : new.units ≡ u.units) (doubts : new.in_doubt ≡ u.in_doubt) (grows : Grows 0 0 u.volume new.volume) where
   pub looked_done : (told : Line) (a b : Shown) → SameStored u new → IsPlain told → Emits a (told ∷ []) b →
-      ((n : Node) (name : List ℕ) (file : File) → IsAskedAlone f u.units u.volume n name file → IsSeen (alone_early n name file op) (alone_late n name file op) (operation_answer file op) told) → LooksAlone {T = Unit {0}} (Ok tt) f op u new a b
+      ((n : Node) (name : List ℕ) (file : File) → IsAskedAlone f u.units u.volume n name file → IsSeen (alone_refused_before_reading n name file op) (alone_refused_after_reading n name file op) (operation_answer file op) told) → LooksAlone {T = Unit {0}} (Ok tt) f op u new a b
   looked_done told a b same plain m seen = record {
     keeps = keeps_same tt u new a b told o same plain m;
     same = same;
     units = units;
     acts = λ s n name file q.
         let x = seen n name file q in
-        let none = both_none (alone_early n name file op) (alone_late n name file op) x.allowed in
+        let none = both_none (alone_refused_before_reading n name file op) (alone_refused_after_reading n name file op) x.allowed in
         listed (alone_service n name file op) s n a b (SameStored u new) (IsKept new.units new.volume) (disk_of new) [] (operation_answer file op) none.0 none.1 (looks_row n name file op reads) refl (kept_still u new same n q.kept)
         (a, emits_nothing a, subst (λ (l : Line). Emits a (l ∷ []) b) (sym x.answers) m);
   }
 
   pub looked_err : (e : RecErr) (r : Result (Unit {0}) Down) (a b : Shown) → (down_in e ≡ None → SameVolume u.volume new.volume) → Caused (down_in e) (disk_of u) (disk_of new) → RepliesIf r a b → ShowsCause e r a b →
-      ((n : Node) (name : List ℕ) (file : File) → IsAskedAlone f u.units u.volume n name file → IsNotSeen e (alone_early n name file op) (alone_late n name file op) n (disk_of new)) → LooksAlone r f op u new a b
+      ((n : Node) (name : List ℕ) (file : File) → IsAskedAlone f u.units u.volume n name file → IsNotSeen e (alone_refused_before_reading n name file op) (alone_refused_after_reading n name file op) n (disk_of new)) → LooksAlone r f op u new a b
   looked_err e (Ok tt) a b same caused replies shows not_seen =
       let still = same (no_down e shows.0 shows.1) in
       let is = stored_of_volume u new still units doubts in
@@ -118,7 +118,7 @@ module _ (f : ℕ) (op : Operation) (u new : Stored) (o : IsInOrder u.units u.vo
         acts = λ s n name file q. refused (alone_service n name file op) s n a b (SameStored u new) (IsKept new.units new.volume) (disk_of new) (Unit {0}) tt shows.0 (refusal n name file q) is shows.2;
       }
     where
-      refusal : (n : Node) (name : List ℕ) (file : File) → IsAskedAlone f u.units u.volume n name file → first_of (alone_early n name file op) (alone_late n name file op) ≡ Some shows.0
+      refusal : (n : Node) (name : List ℕ) (file : File) → IsAskedAlone f u.units u.volume n name file → first_of (alone_refused_before_reading n name file op) (alone_refused_after_reading n name file op) ≡ Some shows.0
       refusal n name file q = let k = not_seen n name file q in let is = shows.1 in rw (is, IsNotSeen) at k
   looked_err e (Err down) a b same caused replies shows not_seen = record {
     keeps = record { order = tt; in_doubt = doubts; grows = grows; images = tt; cause = subst (λ o. Caused o (disk_of u) (disk_of new)) shows.1 caused; since = since_emits a b _ shows.2; replies = replies };
@@ -127,5 +127,5 @@ module _ (f : ℕ) (op : Operation) (u new : Stored) (o : IsInOrder u.units u.vo
     acts = λ s n name file q. cut_first (alone_service n name file op) s n a b (SameStored u new) (IsKept new.units new.volume) (disk_of new) (Unit {0}) down (broken n name file q).0 (broken n name file q).1 shows.2;
   }
     where
-      broken : (n : Node) (name : List ℕ) (file : File) → IsAskedAlone f u.units u.volume n name file → (alone_early n name file op ≡ None) × HasDisk (fallen None n) (disk_of new)
+      broken : (n : Node) (name : List ℕ) (file : File) → IsAskedAlone f u.units u.volume n name file → (alone_refused_before_reading n name file op ≡ None) × HasDisk (fallen None n) (disk_of new)
       broken n name file q = let k = not_seen n name file q in let is = shows.0 in rw (is, IsNotSeen) at k

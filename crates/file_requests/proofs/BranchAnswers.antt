@@ -9,7 +9,7 @@ use Rattle.commit_protocol.specs.Table.{Branch}
 use Rattle.run_model.specs.World.{Act, File, Node}
 use Rattle.run_model.specs.Operations.{changes_of, keys_held, operation_answer}
 use Rattle.record_operations.specs.Causes.{down_in}
-use Rattle.recovery_units.specs.Calls.{IsAsked, IsDone, IsNotDone, KeepsUp, refusal_of, unit_act, unit_early, unit_late}
+use Rattle.recovery_units.specs.Calls.{IsAsked, IsDone, IsNotDone, KeepsUp, refusal_of, unit_act, unit_refused_after_reading, unit_refused_before_reading}
 use Rattle.recovery_units.specs.State.{IsInOrder, IsKept, WorksFor}
 use Rattle.recovery_units.specs.Uses.{Caused, Grows, ImagesGrow}
 use Rattle.record_operations.specs.declared.errors.RecErr.{RecErr}
@@ -32,7 +32,7 @@ no_down err.BadParameter l h = refl
 no_down err.BadOperation l h = refl
 no_down err.BadRecordNumber l h = refl
 no_down err.BadRecordSize l h = refl
-no_down err.NotMarked l h = refl
+no_down err.NotForUnits l h = refl
 no_down err.NeedsUnit l h = refl
 no_down (err.Locked by) l h = refl
 no_down err.RecordExists l h = refl
@@ -49,8 +49,8 @@ no_down (err.BeforeImagesFull free need) l h = refl
 
 -- what the units answered, at each node of the world that is asked so and is up behind the act too
 abbrev pub ForAsked : (serial : Id) (f : ℕ) (op : Operation) (u : Stored) → ((n : Node) (early late : Option Line) (act : Act) (file : File) → Type 0) → Type 0
-ForAsked serial f op u P = (n : Node) (name : List ℕ) (file : File) (branch : Branch) → IsAsked serial f u.units u.volume n name file branch → KeepsUp (unit_early n branch name file op) (unit_late n branch name file op) (unit_act branch name file op) n →
-    P n (unit_early n branch name file op) (unit_late n branch name file op) (unit_act branch name file op) file
+ForAsked serial f op u P = (n : Node) (name : List ℕ) (file : File) (branch : Branch) → IsAsked serial f u.units u.volume n name file branch → KeepsUp (unit_refused_before_reading n branch name file op) (unit_refused_after_reading n branch name file op) (unit_act branch name file op) n →
+    P n (unit_refused_before_reading n branch name file op) (unit_refused_after_reading n branch name file op) (unit_act branch name file op) file
 
 module _ (serial : Id) (f : ℕ) (op : Operation) (u new : Stored) (o : IsInOrder u.units u.volume) (doubts : new.in_doubt ≡ u.in_doubt) (works : WorksFor serial u.units new.units) (grows : Grows 0 0 u.volume new.volume) where
   -- it was done, and this was shown

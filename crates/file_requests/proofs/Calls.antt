@@ -13,7 +13,7 @@ use Rattle.transcript_model.specs.Outside.{Rose}
 use Rattle.transcript_model.proofs.OutsideLemmas.{rose_earlier}
 use Rattle.volume.specs.declared.catalog.Catalog.{Catalog}
 use Rattle.volume.specs.State.{SameVolume, VolumeState}
-use Rattle.recovery_units.specs.Uses.{Caused, Goes, Grows, ImagesGrow, down_of}
+use Rattle.recovery_units.specs.Uses.{Caused, DiskAdvances, Grows, ImagesGrow, down_of}
 
 up : (b : Bool) (n : ℕ) → n < 2 ^ 64 → (n ≤ counted b n) × (counted b n < 2 ^ 64)
 up true n h = (omega arith, omega arith)
@@ -26,7 +26,7 @@ raised n = elim (nat_lt n 18446744073709551615) as (λ t. nat_lt n 1844674407370
 ] refl
 
 -- a call that was counted
-pub goes_counts : {T : Type 0} (r : Result T Down) (old new : DiskState) → Counts r old new → Goes old new
+pub goes_counts : {T : Type 0} (r : Result T Down) (old new : DiskState) → Counts r old new → DiskAdvances old new
 goes_counts r old new c = record {
   size = c.size;
   calls = c.calls;
@@ -42,7 +42,7 @@ caused_counts (Err down.Failed) old new c = λ h. rw c.faults (raised old.faults
 caused_counts (Err down.Stopped) old new c = λ h. rw c.stops (raised old.stops)
 
 -- one read
-pub goes_read : {T : Type 0} (r : Result T Down) (old new : DiskState) → new ≡ answered r old → Goes old new
+pub goes_read : {T : Type 0} (r : Result T Down) (old new : DiskState) → new ≡ answered r old → DiskAdvances old new
 goes_read r old new is = rw is (record {
   size = refl;
   calls = refl;
@@ -58,10 +58,10 @@ caused_read (Err down.Failed) old new is = λ h. rw is (raised old.faults)
 caused_read (Err down.Stopped) old new is = λ h. rw is (raised old.stops)
 
 -- no call
-pub goes_nowhere : (d : DiskState) → Goes d d
+pub goes_nowhere : (d : DiskState) → DiskAdvances d d
 goes_nowhere d = record { size = refl; calls = refl; faults = λ h. omega arith; stops = λ h. omega arith; counted = λ h. h; told = refl }
 
-pub goes_on : (a b c : DiskState) → Goes a b → Goes b c → Goes a c
+pub goes_on : (a b c : DiskState) → DiskAdvances a b → DiskAdvances b c → DiskAdvances a c
 goes_on a b c f g = record {
   size = g.size ∙ f.size;
   calls = g.calls ∙ f.calls;
@@ -72,7 +72,7 @@ goes_on a b c f g = record {
 }
 
 -- a failure that comes later
-pub caused_on : (o : Option Down) (a b c : DiskState) → Goes a b → Caused o b c → Caused o a c
+pub caused_on : (o : Option Down) (a b c : DiskState) → DiskAdvances a b → Caused o b c → Caused o a c
 caused_on None a b c g k = tt
 caused_on (Some down.Failed) a b c g k = λ h. rose_earlier _ _ _ (g.faults h) (k (g.counted h))
 caused_on (Some down.Stopped) a b c g k = λ h. rose_earlier _ _ _ (g.stops h) (k (g.counted h))
@@ -92,7 +92,7 @@ on_ok_any (Ok x) a = a
 on_ok_any (Err e) a = tt
 
 -- its numbers that only grow are as they were
-pub grows_still : (v w : VolumeState) → w.catalog.home ≡ v.catalog.home → w.catalog.ru ≡ v.catalog.ru → w.store.pool ≡ v.store.pool → Goes v.store.disk w.store.disk → Grows 0 0 v w
+pub grows_still : (v w : VolumeState) → w.catalog.home ≡ v.catalog.home → w.catalog.ru ≡ v.catalog.ru → w.store.pool ≡ v.store.pool → DiskAdvances v.store.disk w.store.disk → Grows 0 0 v w
 grows_still v w home ru pool g = record {
   goes = g;
   pool = pool;

@@ -51,7 +51,7 @@ used_times w None o used h = h
 used_times w (Some serial) o used h = used serial
 
 forward_times : (until : Option Moment) (marked saved : Bool) (o : Option RecoverErr) → (saved ≡ true → Times (way.Forward until) o)
-    → Times (way.Forward until) (if not marked then Some err.NotMarked else (if not saved then Some err.NoSave else o))
+    → Times (way.Forward until) (if not marked then Some err.NoJournal else (if not saved then Some err.NoSave else o))
 forward_times until false saved o h = tt
 forward_times until true false o h = tt
 forward_times until true true o h = h refl
@@ -62,7 +62,7 @@ since_times : (until since : Moment) (t : Bool) → CanBeWritten until.0 → Can
 since_times until since true told written = (told, written)
 since_times until since false told written = tt
 
-backward_times : (until : Moment) (marked : Bool) (o : Option RecoverErr) → Times (way.Backward until) o → Times (way.Backward until) (if not marked then Some err.NotMarked else o)
+backward_times : (until : Moment) (marked : Bool) (o : Option RecoverErr) → Times (way.Backward until) o → Times (way.Backward until) (if not marked then Some err.NoJournal else o)
 backward_times until false o h = tt
 backward_times until true o h = h
 
@@ -105,7 +105,7 @@ module _ (s : UnitsState) (v : VolumeState) (o : IsInOrder s v) (f : ℕ) (h : F
     by_head e is = subst (Times w) is (cause_times w r user said told)
 
     pub has_times : (e : RecoverErr) → NotRecovered f w user h e before after → HasTimes w e
-    has_times err.NotMarked it = by_head err.NotMarked it.1
+    has_times err.NoJournal it = by_head err.NoJournal it.1
     has_times err.NoSave it = by_head err.NoSave it.1
     has_times (err.InUse serial) it = by_head (err.InUse serial) it.1
     has_times (err.Early until save) it = by_head (err.Early until save) it.1

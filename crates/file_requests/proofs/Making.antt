@@ -34,7 +34,7 @@ use Rattle.node_files.proofs.NewHead.{new_head_is}
 use Rattle.recovery_units.specs.State.{IsInOrder, IsKept, UnitsState}
 use Rattle.file_requests.specs.Making.{BecomesFile, IsFresh, MakesFile, making}
 use Rattle.world_laws.specs.Nodes.{IsUp}
-use Rattle.recovery_units.specs.Uses.{Caused, Goes, Grows}
+use Rattle.recovery_units.specs.Uses.{Caused, DiskAdvances, Grows}
 use Rattle.node_table.specs.Standing.{Stored}
 use Rattle.file_requests.specs.Serving.{SameStored, disk_of, name_of}
 use Rattle.file_requests.specs.TheLaws.{TheLaws}
@@ -184,7 +184,7 @@ module _ (f : ℕ) (h : FileHead) (u : Stored) (o : IsInOrder u.units u.volume) 
       file_mid file becomes = becomes out_mid.0 (subst (λ o. IfSome o (λ c. map_of h c ≡ empty_map)) out_mid.1 m.map_is) (subst (λ o. IfSome o (IsLaidOut h)) out_mid.1 m.laid) (subst (λ o. IfSome o (λ c. layout_of h c ≡ first_layout_of h)) out_mid.1 m.layout)
 
     -- and then the head was to be written
-    module _ {T : Type 0} (r : Result T Down) (new : Stored) (bytes : List ℕ) (same : new.units ≡ u.units) (doubts : new.in_doubt ≡ u.in_doubt) (wr : WritesHead r f h bytes mid new.volume) (goes : Goes (disk_of u) (disk_of new)) where
+    module _ {T : Type 0} (r : Result T Down) (new : Stored) (bytes : List ℕ) (same : new.units ≡ u.units) (doubts : new.in_doubt ≡ u.in_doubt) (wr : WritesHead r f h bytes mid new.volume) (goes : DiskAdvances (disk_of u) (disk_of new)) where
       made_grows : Grows 0 0 u.volume new.volume
       made_grows = grows_still u.volume new.volume (ap (λ (k : Catalog). k.home) (wr.catalog ∙ ap (catalog_with f h) m.catalog)) (ap (λ (k : Catalog). k.ru) (wr.catalog ∙ ap (catalog_with f h) m.catalog)) (wr.pool ∙ m.pool) goes
 
@@ -226,7 +226,7 @@ module _ (f : ℕ) (h : FileHead) (u : Stored) (o : IsInOrder u.units u.volume) 
 
   -- The buckets were not all made: the disk went down.
   module _ (new : Stored) (same : new.units ≡ u.units) (doubts : new.in_doubt ≡ u.in_doubt) (catalog : new.volume.catalog ≡ here) (pool : new.volume.store.pool ≡ u.volume.store.pool) (leaves : LeavesOut (in_extent h) u.volume.store.current (disk_of new)) where
-    pub made_first : (e : Down) (a : Shown) → Goes (disk_of u) (disk_of new) → Caused (Some e) (disk_of u) (disk_of new) → MakesFile {T = Unit {0}} (Err e) f h u new a a
+    pub made_first : (e : Down) (a : Shown) → DiskAdvances (disk_of u) (disk_of new) → Caused (Some e) (disk_of u) (disk_of new) → MakesFile {T = Unit {0}} (Err e) f h u new a a
     made_first e a goes caused = record {
       keeps = record { order = tt; in_doubt = doubts; grows = grows_still u.volume new.volume (ap (λ (k : Catalog). k.home) catalog) (ap (λ (k : Catalog). k.ru) catalog) pool goes; images = tt; cause = caused; since = since_same a; replies = quiet_none a a (emits_nothing a) };
       units = same;

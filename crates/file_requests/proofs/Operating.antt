@@ -12,7 +12,7 @@ use Rattle.run_model.specs.World.{Directs, File, Node, Shared, next_id, next_mom
 use Rattle.run_model.specs.Operations.{changes_of, count_of, data_refused, first_of, in_order, is_change, refused_if, removed}
 use Rattle.run_model.specs.Answers.{commit_settlement, directed, found_refused, operation_act}
 use Rattle.world_laws.specs.Nodes.{AreUp}
-use Rattle.recovery_units.specs.Calls.{KeepsUp, alone_early, alone_late, direct_act, unit_act, unit_early, unit_late}
+use Rattle.recovery_units.specs.Calls.{KeepsUp, alone_refused_after_reading, alone_refused_before_reading, direct_act, unit_act, unit_refused_after_reading, unit_refused_before_reading}
 use Rattle.file_requests.specs.Acting.{StaysUp, alone_service, branch_service}
 use Rattle.file_requests.proofs.Served.{both_none}
 
@@ -21,7 +21,7 @@ act_shares b name [] keys s = refl
 act_shares b name (c ∷ cs) keys s = refl
 
 -- the node is up behind the one act of an operation of a branch
-pub branch_up : (n : Node) (b : Branch) (name : List ℕ) (f : File) (op : Operation) → StaysUp (branch_service n b name f op) n → KeepsUp (unit_early n b name f op) (unit_late n b name f op) (unit_act b name f op) n
+pub branch_up : (n : Node) (b : Branch) (name : List ℕ) (f : File) (op : Operation) → StaysUp (branch_service n b name f op) n → KeepsUp (unit_refused_before_reading n b name f op) (unit_refused_after_reading n b name f op) (unit_act b name f op) n
 branch_up n b name f op up = λ none. (up none).1
 
 -- Operations without a branch.
@@ -63,9 +63,9 @@ changes_some f (Next after) c e = let none : ⊥ = cc in absurd none
 
 -- a change that nothing refuses changes something, and so has one row
 module _ (n : Node) (name : List ℕ) (f : File) (op : Operation) where
-  pub alone_row : is_change op ≡ true → first_of (alone_early n name f op) (alone_late n name f op) ≡ None → directed n name (changes_of f op) ≡ record { act = Some (direct_act n name f op); lines = line.Committed (next_id n) (next_id n) (next_moment n) ∷ [] } ∷ []
+  pub alone_row : is_change op ≡ true → first_of (alone_refused_before_reading n name f op) (alone_refused_after_reading n name f op) ≡ None → directed n name (changes_of f op) ≡ record { act = Some (direct_act n name f op); lines = line.Committed (next_id n) (next_id n) (next_moment n) ∷ [] } ∷ []
   alone_row change e =
-      let late = (both_none (alone_early n name f op) (alone_late n name f op) e).1 in
+      let late = (both_none (alone_refused_before_reading n name f op) (alone_refused_after_reading n name f op) e).1 in
       let found_none = (both_none (found_refused n None name op f) _ late).0 in
       one (changes_of f op) (changes_some f op change (both_none (data_refused f op) _ found_none).0)
     where
@@ -73,7 +73,7 @@ module _ (n : Node) (name : List ℕ) (f : File) (op : Operation) where
       one [] k = let none : ⊥ = (let e = k.is in cc) in absurd none
       one (c ∷ cs) k = refl
 
-  pub alone_up : is_change op ≡ true → StaysUp (alone_service n name f op) n → KeepsUp (alone_early n name f op) (alone_late n name f op) (direct_act n name f op) n
+  pub alone_up : is_change op ≡ true → StaysUp (alone_service n name f op) n → KeepsUp (alone_refused_before_reading n name f op) (alone_refused_after_reading n name f op) (direct_act n name f op) n
   alone_up change up = λ none. (subst (λ rs. AreUp rs n) (alone_row change none) (up none)).1
 
   -- what is read leaves no row

@@ -45,7 +45,7 @@ use Rattle.unit_table.specs.Units as units
 use Rattle.recovery_units.specs.State.{IsEarly, IsInOrder, IsKept}
 use Rattle.node_table.specs.Serving.{service_at}
 use Rattle.node_table.specs.Standing.{Stored}
-use Rattle.file_requests.specs.Recovering.{LacksMemory, Recovers, Tells, cause_line}
+use Rattle.file_requests.specs.Recovering.{AnswersRecovery, LacksMemory, Recovers, cause_line}
 use Rattle.file_requests.specs.Replying.{IsPlain}
 use Rattle.file_requests.specs.Serving.{DoesThere, IsReady, SameStored, ServesFile, disk_of, name_of}
 use Rattle.file_requests.specs.TheLaws.{TheLaws}
@@ -72,8 +72,8 @@ IsOfHead (err.Full free needed) = ⊥
 IsOfHead _ = Unit {0}
 
 cause_said : (e : RecoverErr) (w : Way) (l : Line) → IsOfHead e → cause_line e w ≡ Some l → option_map refusal_line (refusal_of w e) ≡ Some l
-cause_said err.NotMarked (way.Forward until) l of is = is
-cause_said err.NotMarked (way.Backward until) l of is = is
+cause_said err.NoJournal (way.Forward until) l of is = is
+cause_said err.NoJournal (way.Backward until) l of is = is
 cause_said err.NoSave (way.Forward until) l of is = is
 cause_said err.NoSave (way.Backward until) l of is = is
 cause_said (err.InUse serial) (way.Forward until) l of is = is
@@ -87,7 +87,7 @@ cause_said (err.Down down) w l of is = absurd of
 cause_said (err.Full free needed) w l of is = absurd of
 
 told_plain : (e : RecoverErr) (w : Way) (l : Line) → cause_line e w ≡ Some l → IsPlain l
-told_plain err.NotMarked w l is = subst IsPlain (let same : line.NoJournal ≡ l = cc in same) (refl, refl)
+told_plain err.NoJournal w l is = subst IsPlain (let same : line.NoJournal ≡ l = cc in same) (refl, refl)
 told_plain err.NoSave w l is = subst IsPlain (let same : line.NoSave ≡ l = cc in same) (refl, refl)
 told_plain (err.InUse serial) w l is = subst IsPlain (let same : line.FileLocked (serial_of serial) ≡ l = cc in same) (refl, refl)
 told_plain (err.Early until save) w l is = subst IsPlain (let same : line.TooEarly until.0 save.0 ≡ l = cc in same) (refl, refl)
@@ -377,8 +377,8 @@ module _ (name : List ℕ) (u : Stored) (o : IsInOrder u.units u.volume) (laws :
       by_head : (e : RecoverErr) → IsOfHead e → IsRefused e w user head u.volume after.volume → ((l : Line) × (cause_line e w ≡ Some l) × (out ≡ Ok Told) × Emits a (l ∷ []) b) → Recovers out asks u after a b
       by_head e of nr t = subst (λ x. Recovers x asks u after a b) (sym t.2) (recover_refused e t.0 after a b of t.1 nr units doubts t.3)
 
-      pub recover_told : (e : RecoverErr) → NotRecovered f w user head e u.volume after.volume → Tells e w out a b → Recovers out asks u after a b
-      recover_told err.NotMarked nr t = by_head err.NotMarked tt nr t
+      pub recover_told : (e : RecoverErr) → NotRecovered f w user head e u.volume after.volume → AnswersRecovery e w out a b → Recovers out asks u after a b
+      recover_told err.NoJournal nr t = by_head err.NoJournal tt nr t
       recover_told err.NoSave nr t = by_head err.NoSave tt nr t
       recover_told (err.InUse serial) nr t = by_head (err.InUse serial) tt nr t
       recover_told (err.Early until save) nr t = by_head (err.Early until save) tt nr t

@@ -32,7 +32,7 @@ use Rattle.unit_table.specs.Units as units
 use Rattle.world_laws.specs.Nodes.{IsUp}
 use Rattle.recovery_units.specs.Laws.{HeadWritten, IsSaveOf}
 use Rattle.recovery_units.specs.State.{IsEarly, IsInOrder, IsKept, UnitsState}
-use Rattle.recovery_units.specs.Uses.{Caused, Goes, Grows, ImagesGrow, down_of}
+use Rattle.recovery_units.specs.Uses.{Caused, DiskAdvances, Grows, ImagesGrow, down_of}
 use Rattle.node_table.specs.Serving.{service_at}
 use Rattle.node_table.specs.Standing.{Stored}
 use Rattle.node_files.proofs.CatalogLemmas.{fit_of, fits_at, placed, some_blocks}
@@ -195,7 +195,7 @@ module _ (f : ℕ) (head : FileHead) (start : ℕ) (u : Stored) (o : IsInOrder u
     one_act : (n : Node) (name : List ℕ) → IsOneAct (saving name start head.ai.end n.durable.greatest) (Saves name start) (line.NormalSave head.ai.end n.durable.greatest)
     one_act n name = record { early = refl; late = refl; rows = refl; told = refl }
 
-    module _ {T : Type 0} (r : Result T Down) (after : Stored) (bytes : List ℕ) (same : after.units ≡ u.units) (doubts : after.in_doubt ≡ u.in_doubt) (wr : WritesHead r f new bytes mid after.volume) (goes : Goes (disk_of u) (disk_of after)) where
+    module _ {T : Type 0} (r : Result T Down) (after : Stored) (bytes : List ℕ) (same : after.units ≡ u.units) (doubts : after.in_doubt ≡ u.in_doubt) (wr : WritesHead r f new bytes mid after.volume) (goes : DiskAdvances (disk_of u) (disk_of after)) where
       grows : Grows 0 0 u.volume after.volume
       grows =
           let catalog = wr.catalog ∙ ap (catalog_with f new) m.catalog in
@@ -224,7 +224,7 @@ module _ (f : ℕ) (head : FileHead) (start : ℕ) (u : Stored) (o : IsInOrder u
       }
 
   -- The disk went down while it was made.
-  pub saved_first : (e : Down) (after : Stored) (a : Shown) → after.units ≡ u.units → after.in_doubt ≡ u.in_doubt → after.volume.catalog ≡ here → after.volume.store.pool ≡ u.volume.store.pool → LeavesOut (in_extent at_run) u.volume.store.current (disk_of after) → Goes (disk_of u) (disk_of after) →
+  pub saved_first : (e : Down) (after : Stored) (a : Shown) → after.units ≡ u.units → after.in_doubt ≡ u.in_doubt → after.volume.catalog ≡ here → after.volume.store.pool ≡ u.volume.store.pool → LeavesOut (in_extent at_run) u.volume.store.current (disk_of after) → DiskAdvances (disk_of u) (disk_of after) →
       Caused (Some e) (disk_of u) (disk_of after) → SavesFile {T = Unit {0}} (Err e) f head start u after a a
   saved_first e after a same doubts catalog pool leaves goes caused = record {
     keeps = record {

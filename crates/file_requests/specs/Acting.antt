@@ -9,7 +9,7 @@ use Rattle.run_model.specs.Answers.{directed, silent}
 use Rattle.run_model.specs.Operations.{changes_of, first_of, operation_answer}
 use Rattle.run_model.specs.World.{File, Node, Shared, next_id}
 use Rattle.world_laws.specs.Nodes.{AreUp}
-use Rattle.recovery_units.specs.Calls.{IsAsked, IsAskedAlone, alone_early, alone_late, unit_act, unit_early, unit_late}
+use Rattle.recovery_units.specs.Calls.{IsAsked, IsAskedAlone, alone_refused_after_reading, alone_refused_before_reading, unit_act, unit_refused_after_reading, unit_refused_before_reading}
 use Rattle.recovery_units.specs.State.{IsKept, WorksFor}
 use Rattle.node_table.specs.Serving.{DoesService, ServiceAt}
 use Rattle.node_table.specs.Standing.{Stored}
@@ -17,11 +17,11 @@ use Rattle.file_requests.specs.Serving.{DoesThere, KeepsStored, SameStored, disk
 
 -- what an operation of a branch on a file is at a node, behind what refuses it by label, file and branch
 abbrev pub branch_service : Node → Branch → (name : List ℕ) → File → Operation → ServiceAt
-branch_service n b name f op = record { early = unit_early n b name f op; late = unit_late n b name f op; rows = silent (unit_act b name f op) ∷ []; answer = operation_answer f op }
+branch_service n b name f op = record { early = unit_refused_before_reading n b name f op; late = unit_refused_after_reading n b name f op; rows = silent (unit_act b name f op) ∷ []; answer = operation_answer f op }
 
 -- what one without a branch is, behind what refuses it by the file
 abbrev pub alone_service : Node → (name : List ℕ) → File → Operation → ServiceAt
-alone_service n name f op = record { early = alone_early n name f op; late = alone_late n name f op; rows = directed n name (changes_of f op); answer = operation_answer f op }
+alone_service n name f op = record { early = alone_refused_before_reading n name f op; late = alone_refused_after_reading n name f op; rows = directed n name (changes_of f op); answer = operation_answer f op }
 
 -- where nothing refuses it the node is up behind each row too
 abbrev pub StaysUp : ServiceAt → Node → Type 0

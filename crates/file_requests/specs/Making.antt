@@ -1,5 +1,6 @@
 -- A new file of a volume.
 use Rattle.std.specs.Prelude.{◌≡◌, ℕ, ◌*◌, ◌<◌, List, [], ◌∷◌, None, Result}
+use Rattle.vms_model.specs.Limits.{file_limit}
 use Rattle.careful_write.specs.declared.down.Down.{Down}
 use Rattle.change_set.specs.Maps.{empty_map}
 use Rattle.extents.specs.Extents.{IsFreeRun, all_extents}
@@ -28,10 +29,10 @@ pub record IsFresh (f : ℕ) (h : FileHead) (v : Catalog) : Type 0 where
   pub start : ℕ
   pub is : h ≡ new_head name sizes start
   pub fits : AreSizes sizes
-  pub below : f < 64
+  pub below : f < file_limit
   pub free : head_at v.heads f ≡ None
   pub lowest : (g : ℕ) → g < f → head_at v.heads g ≡ None → ⊥
-  pub none : NoneNamed v.heads 64 name
+  pub none : NoneNamed v.heads file_limit name
   pub run : IsFreeRun (data_area (sizes_of v.home)) (all_extents v.heads) start (buckets_in sizes * sizes.bucket)
 
 -- a file is that of a head, as soon as its buckets are made

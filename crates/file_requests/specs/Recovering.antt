@@ -28,7 +28,7 @@ HasTimes w _ = Unit {0}
 
 -- how a cause is shown, where it is
 abbrev pub cause_line : RecoverErr → Way → Option Line
-cause_line err.NotMarked w = Some line.NoJournal
+cause_line err.NoJournal w = Some line.NoJournal
 cause_line err.NoSave w = Some line.NoSave
 cause_line (err.InUse serial) w = Some (line.FileLocked (serial_of serial))
 cause_line (err.Early until save) w = Some (line.TooEarly until.0 save.0)
@@ -39,10 +39,10 @@ cause_line err.Memory w = None
 cause_line (err.Down down) w = None
 
 -- it was shown; or nothing was, for memory was missing or the disk went down
-abbrev pub Tells : RecoverErr → Way → Result Reply Down → Shown → Shown → Type 0
-Tells (err.Down down) w r a b = (r ≡ Err down) × (b ≡ a)
-Tells err.Memory w r a b = (r ≡ Ok NoMemory) × (b ≡ a)
-Tells e w r a b = (l : Line) × (cause_line e w ≡ Some l) × (r ≡ Ok Told) × Emits a (l ∷ []) b
+abbrev pub AnswersRecovery : RecoverErr → Way → Result Reply Down → Shown → Shown → Type 0
+AnswersRecovery (err.Down down) w r a b = (r ≡ Err down) × (b ≡ a)
+AnswersRecovery err.Memory w r a b = (r ≡ Ok NoMemory) × (b ≡ a)
+AnswersRecovery e w r a b = (l : Line) × (cause_line e w ≡ Some l) × (r ≡ Ok Told) × Emits a (l ∷ []) b
 
 -- Memory was missing, which is not told yet: nothing refuses the service before the disk is read, and all is as it was but for reads.
 pub record LacksMemory (e : Service) (old new : Stored) (a b : Shown) : Type 0 where

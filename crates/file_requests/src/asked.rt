@@ -1,5 +1,6 @@
 //! What a statement asks of the records of a file, and how that is answered.
 ghost use Rattle.std.specs.Prelude.{◌≡◌, Some, None, IfSome, IfNone, IfOk, MatchResult, length, option_map, ◌≤◌};
+ghost use Rattle.vms_model.specs.Limits.{key_limit};
 ghost use Rattle.transcript.specs.Forms.{HasTime, line_of};
 ghost use Rattle.vms_base.specs.Keys.{key_of};
 ghost use Rattle.vms_model.specs.Keys.{Text};
@@ -30,7 +31,7 @@ pub enum Asked {
 // The key that a word stands for. A word of a length that no key has stands for none.
 fn key_of_word(word: &KeyWord, bytes: &[u8]) -> Option<Key>
     ensures key { IfSome result (λ key. key_of key ≡ key_in bytes.now word.now) }
-    ensures none { IfNone result ((key_in bytes.now word.now ≡ Text bytes.now) × (1 ≤ length bytes.now → length bytes.now ≤ 64 → ⊥)) }
+    ensures none { IfNone result ((key_in bytes.now word.now ≡ Text bytes.now) × (1 ≤ length bytes.now → length bytes.now ≤ key_limit → ⊥)) }
 {
     match word {
         KeyWord::Number(n) => Some(Key::Number(*n)),
@@ -101,7 +102,7 @@ pub(crate) fn refusal_form(cause: RecErr) -> Result<Form<'static>, Down>
         RecErr::BadOperation => Form::BadOperation,
         RecErr::BadRecordNumber => Form::BadRecordNumber,
         RecErr::BadRecordSize => Form::BadRecordSize,
-        RecErr::NotMarked => Form::NotMarked,
+        RecErr::NotForUnits => Form::NotForUnits,
         RecErr::NeedsUnit => Form::NeedsUnit,
         RecErr::Locked(by) => Form::RecordLocked(by),
         RecErr::RecordExists => Form::RecordExists,

@@ -1,6 +1,7 @@
 //! The journal of recovery units as it is shown.
 ghost use Rattle.std.specs.Prelude.{◌≡◌, ◌<◌, ℕ, List, Some, IfOk, IfSome, OnOk, map, option_map};
 ghost use Rattle.std.specs.Option.{option_copied};
+ghost use Rattle.vms_model.specs.Limits.{moment_ceiling};
 ghost use Rattle.careful_write.specs.Down.{answered};
 ghost use Rattle.journal_format.specs.Heads.{entry_of};
 ghost use Rattle.journal_model.specs.Entries.{IsEntry};
@@ -71,7 +72,7 @@ fn entry_form<'a, D: Disk, U: RecoveryUnits>(
     position: u64,
     entry: &EntryHead,
 ) -> Option<Form<'a>>
-    requires greatest { stored.now.volume.catalog.home.greatest_moment.0 < 24000001000066 }
+    requires greatest { stored.now.volume.catalog.home.greatest_moment.0 < moment_ceiling }
     requires is { IsEntry (entry_of entry.now stored.now.room.found) }
     ensures shows { (e : JournalEntry) (f : ℕ) → IsFileOf stored.now.volume.catalog.heads e f → entry_of entry.now stored.now.room.found ≡ entry_for f e → IsShowable stored.now.volume.catalog.heads stored.now.volume.catalog.home.greatest_moment.0 e → option_map line_of result ≡ Some (entry_line position e) }
     ensures time { IfSome result HasTime }

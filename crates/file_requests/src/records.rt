@@ -1,5 +1,6 @@
 //! Operations on records.
 ghost use Rattle.std.specs.Prelude.{◌≡◌, ◌<◌, IfSome, true, false, option_map};
+ghost use Rattle.vms_model.specs.Limits.{moment_ceiling};
 ghost use Rattle.transcript.specs.Forms.{HasTime, line_of};
 ghost use Rattle.vms_base.specs.Ids.{id_of, serial_of};
 ghost use Rattle.run_model.specs.Operations.{form_refused};
@@ -115,7 +116,7 @@ pub fn change_alone<D: Disk, U: RecoveryUnits, E: Emit>(
 ) -> Result<bool, Down>
     requires order { IsInOrder (U.state stored.old.units) stored.old.volume }
     requires early { IsEarly stored.old.volume }
-    requires clock { clock.0 < 24000001000066 }
+    requires clock { clock.0 < moment_ceiling }
     requires file { HasFile (file_in op.now) (stored_of U.state stored.old) }
     requires number { IsNumbered op.now }
     ensures place { E.place out.new ≡ E.place out.old }

@@ -6,7 +6,7 @@ ghost use Rattle.script_model.specs.Statements as said;
 ghost use Rattle.run_model.specs.Answers.{service, way_of as model_way};
 ghost use Rattle.recovery_units.specs.State.{IsEarly, IsInOrder};
 ghost use Rattle.node_table.specs.Code.{stored_of};
-ghost use Rattle.file_requests.specs.Recovering.{HasTimes, Recovers, Tells};
+ghost use Rattle.file_requests.specs.Recovering.{AnswersRecovery, HasTimes, Recovers};
 ghost use Rattle.node_standing.specs.Moments.{CanTell};
 
 use crate::finding::find_file;
@@ -46,12 +46,12 @@ fn way_of(recovery: Recovery) -> Way
 fn tell<E: Emit>(cause: RecoverErr, way: Way, out: &mut E) -> Result<Reply, Down>
     requires times { HasTimes way cause }
     ensures place { E.place out.new ≡ E.place out.old }
-    ensures tells { Tells cause way result (E.shows out.old) (E.shows out.new) }
+    ensures tells { AnswersRecovery cause way result (E.shows out.old) (E.shows out.new) }
 {
     match cause {
         RecoverErr::Down(down) => return Err(down),
         RecoverErr::Memory => return Ok(Reply::NoMemory),
-        RecoverErr::NotMarked => out.emit(&Form::NoJournal),
+        RecoverErr::NoJournal => out.emit(&Form::NoJournal),
         RecoverErr::NoSave => out.emit(&Form::NoSave),
         RecoverErr::InUse(serial) => out.emit(&Form::FileLocked(serial)),
         RecoverErr::Early { until, save } => out.emit(&Form::TooEarly(until, save)),

@@ -1,5 +1,7 @@
 // A settlement with its entries in the journals of the files that the branch changed.
 ghost use Rattle.std.specs.Prelude.{◌≡◌, ◌≤◌, ◌<◌, ◌+◌, ◌-◌, ◌*◌, true, List, Option, OnOk, OnErr, IfErr, length, option_map, if◌then◌else◌};
+ghost use Rattle.block_disk.specs.Sizes.{least_disk_size};
+ghost use Rattle.vms_model.specs.Blocks.{log_start};
 ghost use Rattle.careful_write.specs.Down.{Counts};
 ghost use Rattle.careful_write.specs.Reads.{SameButReads};
 ghost use Rattle.careful_write.specs.State.{IsIdle, IsReady};
@@ -36,7 +38,7 @@ fn enter_in_files<D: Disk>(
     moment: Moment,
     entry: &mut EntryBuf,
 ) -> Result<(), Down>
-    requires least { 4096 ≤ volume.old.store.disk.size }
+    requires least { least_disk_size ≤ volume.old.store.disk.size }
     requires rooms { has_changed ≡ true → AllHaveRoom files.now 48 volume.old.catalog.heads volume.old.store.disk }
     requires staged { length volume.old.store.touched + 6 * files_in files.now ≤ 480 }
     ensures current { OnOk result (volume.new.store.current ≡ option_map (content_settled (entry_if has_changed (settled_entry (tid_of branch.now.tid) (serial_of branch.now.serial) (outcome_of outcome) moment.0)) files.now volume.old.catalog.heads) volume.old.store.current) }
@@ -72,8 +74,8 @@ pub fn settle_with_files<D: Disk>(
     requires staged { length volume.old.store.touched + 6 * files_in files.now ≤ 450 }
     requires holds { Holds volume.old }
     requires ring { IsRing volume.old.catalog.ru volume.old.store.disk }
-    requires behind { 584 ≤ volume.old.catalog.ru.start }
-    requires least { 4096 ≤ volume.old.store.disk.size }
+    requires behind { log_start ≤ volume.old.catalog.ru.start }
+    requires least { least_disk_size ≤ volume.old.store.disk.size }
     requires room { has_changed ≡ true → volume.old.catalog.ru.end - volume.old.catalog.ru.first + 48 ≤ ring_size volume.old.catalog.ru }
     requires rooms { has_changed ≡ true → AllHaveRoom files.now 48 volume.old.catalog.heads volume.old.store.disk }
     ensures makes { OnOk result ((left : List (Option OpenUnit)) → earliest left ≡ first → SettlesFiles files.now branch.now.tid branch.now.serial ending moment.0 (entry_if has_changed (settled_entry (tid_of branch.now.tid) (serial_of branch.now.serial) (outcome_of outcome) moment.0)) left volume.old volume.new) }

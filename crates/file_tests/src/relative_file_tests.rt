@@ -1,6 +1,7 @@
 //! Two files beside each other: records are set, found, listed and removed.
 ghost use Rattle.std.specs.Prelude.{◌≡◌, ◌≤◌, ◌<◌, ◌*◌, ◌+◌, ◌/◌, ℕ, Bool, List, false, true, length, OnOk, IfOk, IfSome, Some, None, option_map, replicate};
 ghost use Rattle.std.specs.Option.{option_copied};
+ghost use Rattle.vms_model.specs.Limits.{lock_limit};
 ghost use Rattle.careful_write.specs.Reads.{SameButReads};
 ghost use Rattle.careful_write.specs.State.{InHome, IsIdle, IsReady};
 ghost use Rattle.vms_base.specs.Keys.{key_of};
@@ -203,7 +204,7 @@ fn spoiled<D: Disk>(
     requires placed { IsPlaced head.old store.old.disk }
     requires frames { 32 ≤ free_frames store.old.pool }
     requires idle { IsIdle store.old }
-    requires size { store.old.disk.size ≡ 4096 }
+    requires size { store.old.disk.size ≡ lock_limit }
     requires numbers { head.old.mrn ≡ 80 }
     requires value { (1 ≤ length value.now) × (length value.now ≤ head.old.mrs) }
 {
@@ -224,7 +225,7 @@ fn keeps_two<D: Disk>(
 ) -> Result<(bool, bool), Down>
     requires frames { 32 ≤ free_frames store.old.pool }
     requires idle { IsIdle store.old }
-    requires size { store.old.disk.size ≡ 4096 }
+    requires size { store.old.disk.size ≡ lock_limit }
     requires value { (1 ≤ length value.now) × (length value.now ≤ 10) }
 {
     let mut head = FileHead {
@@ -295,7 +296,7 @@ fn records_are_found_where_they_were_set_and_none_in_a_spoiled_bucket(
 fn make_many<D: Disk>(store: &mut Store<D>, name: FileName, writes: u32) -> Result<(), Down>
     requires frames { 32 ≤ free_frames store.old.pool }
     requires idle { IsIdle store.old }
-    requires size { store.old.disk.size ≡ 4096 }
+    requires size { store.old.disk.size ≡ lock_limit }
 {
     let head = FileHead {
         name,

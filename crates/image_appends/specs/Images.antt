@@ -1,6 +1,7 @@
 -- Entries at the ends of a file's journals of images.
 use Rattle.std.specs.Prelude.{◌≡◌, ℕ, ◌+◌, ◌-◌, ◌≤◌, List, Bool, true, Option, Some, None, length, slice_set, if◌then◌else◌, Result, Err}
 use Rattle.block_disk.specs.Disk.{DiskState}
+use Rattle.vms_model.specs.Blocks.{log_start}
 use Rattle.careful_write.specs.Reads.{SameButReads}
 use Rattle.careful_write.specs.declared.down.Down.{Down}
 use Rattle.change_set.specs.Files.{fell}
@@ -56,7 +57,7 @@ content_with file side bytes heads c = content_grown (head_at heads file) file s
 -- a journal lies behind the blocks that tell the volume, and has room for so many bytes more
 pub record HasRoom (size : ℕ) (s : Span) (disk : DiskState) : Type 0 where
   pub ring : IsRing s disk
-  pub behind : 584 ≤ s.start
+  pub behind : log_start ≤ s.start
   pub room : s.end - s.first + size ≤ ring_size s
 
 -- the journal of a file, where the file keeps it

@@ -1,7 +1,10 @@
 // An entry at the end of one journal.
 ghost use Rattle.std.specs.Prelude.{◌≡◌, ◌≤◌, ◌<◌, ◌+◌, ◌*◌, true, Some, OnOk, IfErr, length, option_map, slice_set};
+ghost use Rattle.block_disk.specs.Sizes.{least_disk_size};
+ghost use Rattle.vms_model.specs.Limits.{file_limit};
 ghost use Rattle.careful_write.specs.Reads.{SameButReads};
 ghost use Rattle.careful_write.specs.State.{IsReady};
+ghost use Rattle.careful_write.specs.Sizes.{group_limit};
 ghost use Rattle.volume.specs.Catalogs.{head_at};
 ghost use Rattle.volume.specs.State.{Holds};
 ghost use Rattle.unit_journal.specs.Leaving.{FellIn};
@@ -51,14 +54,14 @@ fn append_kept<D: Disk>(
     head: &mut FileHead,
     entry: &EntryBuf,
 ) -> Result<(), Down>
-    requires number { file < 64 }
-    requires least { 4096 ≤ volume.old.store.disk.size }
+    requires number { file < file_limit }
+    requires least { least_disk_size ≤ volume.old.store.disk.size }
     requires room { HasRoom (length entry.now) (span_said side head.old) volume.old.store.disk }
     requires staged { length volume.old.store.touched ≤ 480 }
     ensures current { OnOk result (volume.new.store.current ≡ option_map (entered file side entry.now head.old) volume.old.store.current) }
     ensures rest { OnOk result (SameButReads (record volume.old.store { current = volume.new.store.current; touched = volume.new.store.touched }) volume.new.store) }
     ensures catalog { OnOk result (volume.new.catalog ≡ record volume.old.catalog { heads = slice_set volume.old.catalog.heads file (Some (grown side (length entry.now) head.old)) }) }
-    ensures few { OnOk result (512 * length volume.new.store.touched ≤ 512 * length volume.old.store.touched + length entry.now + 1534) }
+    ensures few { OnOk result (512 * length volume.new.store.touched ≤ group_limit * length volume.old.store.touched + length entry.now + 1534) }
     ensures holds { OnOk result (Holds volume.old → Holds volume.new) }
     ensures ready { OnOk result (IsReady volume.old.store → IsReady volume.new.store) }
     ensures down { IfErr result (λ down. FellIn down volume.old volume.new) }
@@ -86,14 +89,14 @@ pub fn append_image<D: Disk>(
     side: Side,
     entry: &EntryBuf,
 ) -> Result<(), Down>
-    requires number { file < 64 }
-    requires least { 4096 ≤ volume.old.store.disk.size }
+    requires number { file < file_limit }
+    requires least { least_disk_size ≤ volume.old.store.disk.size }
     requires room { FileHasRoom side (length entry.now) file volume.old.catalog.heads volume.old.store.disk }
     requires staged { length volume.old.store.touched ≤ 480 }
     ensures current { OnOk result (volume.new.store.current ≡ option_map (content_with file side entry.now volume.old.catalog.heads) volume.old.store.current) }
     ensures rest { OnOk result (SameButReads (record volume.old.store { current = volume.new.store.current; touched = volume.new.store.touched }) volume.new.store) }
     ensures catalog { OnOk result (volume.new.catalog ≡ record volume.old.catalog { heads = heads_with file side (length entry.now) volume.old.catalog.heads }) }
-    ensures few { OnOk result (512 * length volume.new.store.touched ≤ 512 * length volume.old.store.touched + length entry.now + 1534) }
+    ensures few { OnOk result (512 * length volume.new.store.touched ≤ group_limit * length volume.old.store.touched + length entry.now + 1534) }
     ensures holds { OnOk result (Holds volume.old → Holds volume.new) }
     ensures ready { OnOk result (IsReady volume.old.store → IsReady volume.new.store) }
     ensures down { IfErr result (λ down. FellIn down volume.old volume.new) }

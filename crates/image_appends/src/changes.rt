@@ -1,6 +1,8 @@
 // The images of a change.
 ghost use Rattle.std.specs.Prelude.{◌≡◌, ◌≤◌, ◌<◌, ◌+◌, ◌*◌, OnOk, IfErr, length, option_map};
 ghost use Rattle.std.specs.Option.{option_copied};
+ghost use Rattle.block_disk.specs.Sizes.{least_disk_size};
+ghost use Rattle.vms_model.specs.Limits.{file_limit};
 ghost use Rattle.careful_write.specs.Reads.{SameButReads};
 ghost use Rattle.careful_write.specs.State.{IsReady};
 ghost use Rattle.journal_model.specs.Entries.{IsEntry, spelling};
@@ -33,9 +35,9 @@ fn append_side<D: Disk>(
     image: Option<&Record>,
     entry: &mut EntryBuf,
 ) -> Result<(), Down>
-    requires number { file < 64 }
+    requires number { file < file_limit }
     requires key { 1 ≤ length (key_bytes (key_of key.now)) }
-    requires least { 4096 ≤ volume.old.store.disk.size }
+    requires least { least_disk_size ≤ volume.old.store.disk.size }
     requires room { FileHasRoom side (entry_size (key_of key.now) (option_copied image)) file volume.old.catalog.heads volume.old.store.disk }
     requires staged { length volume.old.store.touched ≤ 480 }
     ensures current { OnOk result (volume.new.store.current ≡ option_map (content_with file side (spelling (change_entry (tid_of branch.now.tid) (serial_of branch.now.serial) file (key_of key.now) (option_copied image.entry))) volume.old.catalog.heads) volume.old.store.current) }
@@ -63,9 +65,9 @@ pub fn append_change<D: Disk>(
     before: Option<&Record>,
     entry: &mut EntryBuf,
 ) -> Result<(), Down>
-    requires number { file < 64 }
+    requires number { file < file_limit }
     requires key { 1 ≤ length (key_bytes (key_of key.now)) }
-    requires least { 4096 ≤ volume.old.store.disk.size }
+    requires least { least_disk_size ≤ volume.old.store.disk.size }
     requires afters { FileHasRoom sides.After (entry_size (key_of key.now) (option_copied after)) file volume.old.catalog.heads volume.old.store.disk }
     requires befores { FileHasRoom sides.Before (entry_size (key_of key.now) (option_copied before)) file volume.old.catalog.heads volume.old.store.disk }
     requires staged { length volume.old.store.touched ≤ 460 }

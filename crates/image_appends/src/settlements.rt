@@ -1,5 +1,7 @@
 // The settlement of a branch in the journals of the files that it changed.
 ghost use Rattle.std.specs.Prelude.{◌≡◌, ◌≤◌, ◌<◌, ◌+◌, ◌*◌, true, OnOk, IfErr, length, option_map};
+ghost use Rattle.block_disk.specs.Sizes.{least_disk_size};
+ghost use Rattle.vms_model.specs.Limits.{file_limit};
 ghost use Rattle.careful_write.specs.Reads.{SameButReads};
 ghost use Rattle.careful_write.specs.State.{IsReady};
 ghost use Rattle.volume.specs.State.{Holds};
@@ -21,8 +23,8 @@ fn append_both<D: Disk>(
     takes: bool,
     entry: &EntryBuf,
 ) -> Result<(), Down>
-    requires number { file < 64 }
-    requires least { 4096 ≤ volume.old.store.disk.size }
+    requires number { file < file_limit }
+    requires least { least_disk_size ≤ volume.old.store.disk.size }
     requires room { takes ≡ true → FileHasRoom sides.After (length entry.now) file volume.old.catalog.heads volume.old.store.disk × FileHasRoom sides.Before (length entry.now) file volume.old.catalog.heads volume.old.store.disk }
     requires size { length entry.now ≤ 48 }
     requires staged { length volume.old.store.touched + 6 * one_if takes ≤ 480 }
@@ -52,7 +54,7 @@ pub fn append_settlement<D: Disk>(
     files: &[bool; 64],
     entry: &EntryBuf,
 ) -> Result<(), Down>
-    requires least { 4096 ≤ volume.old.store.disk.size }
+    requires least { least_disk_size ≤ volume.old.store.disk.size }
     requires room { AllHaveRoom files.now (length entry.now) volume.old.catalog.heads volume.old.store.disk }
     requires size { length entry.now ≤ 48 }
     requires staged { length volume.old.store.touched + 6 * files_in files.now ≤ 480 }

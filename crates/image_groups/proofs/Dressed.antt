@@ -3,7 +3,7 @@ use Rattle.std.proofs.Common.{◌≡◌, ℕ, List, Option, Some, None, slice_se
 use Rattle.std.proofs.lemmas.Bool.{cases_eq}
 use Rattle.file_base.specs.declared.head.FileHead.{FileHead}
 use Rattle.change_set.specs.Files.{AgreesOn}
-use Rattle.directory_model.specs.Files.{StandsIn, head_at}
+use Rattle.directory_model.specs.Files.{AgreesOnFile, head_at}
 use Rattle.directory_model.specs.Laws.{SameBut}
 use Rattle.directory_model.proofs.Places.{within_list}
 use Rattle.restart_laws.specs.Restorable.{IsDressed, SameBuckets}
@@ -29,12 +29,12 @@ place_after a b c (Some h) (Some m) (Some k) first second = (one_after_another h
 pub all_after : (a b c : List (List ℕ)) (heads middle new : List (Option FileHead)) → AllDressed a heads b middle → AllDressed b middle c new → AllDressed a heads c new
 all_after a b c heads middle new first second f = place_after a b c (head_at heads f) (head_at middle f) (head_at new f) (first f) (second f)
 
-place_stays : (a b : List (List ℕ)) (o : Option FileHead) → ((h : FileHead) → o ≡ Some h → StandsIn h a b) → IsDressed a o b o
+place_stays : (a b : List (List ℕ)) (o : Option FileHead) → ((h : FileHead) → o ≡ Some h → AgreesOnFile h a b) → IsDressed a o b o
 place_stays a b None stand = tt
 place_stays a b (Some h) stand = (record { is = refl }, (stand h refl).own)
 
 -- what all files have stands
-pub all_stay : (a b : List (List ℕ)) (heads : List (Option FileHead)) → ((f : ℕ) (h : FileHead) → head_at heads f ≡ Some h → StandsIn h a b) → AllDressed a heads b heads
+pub all_stay : (a b : List (List ℕ)) (heads : List (Option FileHead)) → ((f : ℕ) (h : FileHead) → head_at heads f ≡ Some h → AgreesOnFile h a b) → AllDressed a heads b heads
 all_stay a b heads stand f = place_stays a b (head_at heads f) (stand f)
 
 place_same : (a : List (List ℕ)) (o : Option FileHead) → IsDressed a o a o

@@ -1,6 +1,9 @@
 -- The world's files while entries of images are put at the ends of their journals, in the group of a change or of a settlement.
 use Rattle.std.specs.Prelude.{◌≡◌, ◌⊎◌, ◌+◌, ◌≤◌, ◌<◌, ◌^◌, ℕ, suc, List, [], ◌∷◌, Bool, true, false, Option, Some, None, option_map, if◌then◌else◌, length, map, slice_index_or, slice_set}
 use Rattle.block_disk.specs.Blocks.{block_at}
+use Rattle.block_disk.specs.Sizes.{content_start}
+use Rattle.vms_model.specs.Limits.{file_limit}
+use Rattle.vms_model.specs.Blocks.{log_start}
 use Rattle.careful_write.specs.State.{EachWhole}
 use Rattle.extents.specs.declared.extent.Extent.{Extent as Area}
 use Rattle.file_base.specs.declared.head.FileHead.{FileHead}
@@ -42,7 +45,7 @@ MayEnter side f heads tid e = (h : FileHead) → head_at heads f ≡ Some h → 
 pub record AreFitting (c : List (List ℕ)) (area : Area) (heads : List (Option FileHead)) (directory : List (Option File)) : Type 0 where
   pub files : AreFiles c heads directory
   pub fit : Fit area heads
-  pub behind : 584 ≤ area.start
+  pub behind : log_start ≤ area.start
   pub whole : EachWhole c
 
 -- each file keeps its buckets: other marks, journals and saves alone
@@ -63,13 +66,13 @@ pub record Enters (c : List (List ℕ)) (heads : List (Option FileHead)) (b : Li
   pub fitting : AreFitting b area new directory
   pub dressed : AllDressed c heads b new
   pub size : length b ≡ length c
-  pub front : (k : ℕ) → (k ≡ 0) ⊎ (65 ≤ k) → k + 518 < area.start → block_at b k ≡ block_at c k
+  pub front : (k : ℕ) → (k ≡ 0) ⊎ (65 ≤ k) → k + content_start < area.start → block_at b k ≡ block_at c k
   pub tells : TellsOther c heads b new
   pub sound : StaySound heads new
 
 -- one entry at the end of one journal of a file, where it keeps that
 abbrev pub EntersSide : Type 0
-EntersSide = (c : List (List ℕ)) (area : Area) (heads : List (Option FileHead)) (directory : List (Option File)) (f : ℕ) (file : File) (side : Side) (tid : Id) (e : Entry) → AreFitting c area heads directory → f < 64 → file_at directory f ≡ Some file →
+EntersSide = (c : List (List ℕ)) (area : Area) (heads : List (Option FileHead)) (directory : List (Option File)) (f : ℕ) (file : File) (side : Side) (tid : Id) (e : Entry) → AreFitting c area heads directory → f < file_limit → file_at directory f ≡ Some file →
     MayEnter side f heads tid e →
     Enters c heads (content_with f side (spelled_entry f tid e) heads c) area (heads_with f side (length (spelled_entry f tid e)) heads) (slice_set directory f (Some (carrying (appended_to side tid e file.carried) file)))
 
@@ -85,7 +88,7 @@ outcome_of s = Settled s.serial s.outcome s.moment
 
 -- the images of one change at the ends of both journals of a file
 abbrev pub EntersChange : Type 0
-EntersChange = (c : List (List ℕ)) (area : Area) (heads : List (Option FileHead)) (directory : List (Option File)) (f : ℕ) (file : File) (tid serial : Id) (change : Change) → AreFitting c area heads directory → f < 64 → file_at directory f ≡ Some file →
+EntersChange = (c : List (List ℕ)) (area : Area) (heads : List (Option FileHead)) (directory : List (Option File)) (f : ℕ) (file : File) (tid serial : Id) (change : Change) → AreFitting c area heads directory → f < file_limit → file_at directory f ≡ Some file →
     MayEnter After f heads tid (after_image serial change) → MayEnter Before f heads tid (before_image serial change) →
     Enters c heads (content_with_both f (spelled_entry f tid (after_image serial change)) (spelled_entry f tid (before_image serial change)) heads c) area
     (heads_with_both f (length (spelled_entry f tid (after_image serial change))) (length (spelled_entry f tid (before_image serial change))) heads) (slice_set directory f (Some (carrying (with_image tid serial change file.carried) file)))
@@ -135,12 +138,12 @@ pub record EntersLeft (c : List (List ℕ)) (heads : List (Option FileHead)) (b 
   pub whole : EachWhole b
   pub dressed : AllDressed c heads b new
   pub size : length b ≡ length c
-  pub front : (k : ℕ) → (k ≡ 0) ⊎ (65 ≤ k) → k + 518 < area.start → block_at b k ≡ block_at c k
+  pub front : (k : ℕ) → (k ≡ 0) ⊎ (65 ≤ k) → k + content_start < area.start → block_at b k ≡ block_at c k
   pub tells : TellsOther c heads b new
   pub sound : StaySound heads new
 
 -- So it is of what a fall left of the files, once the branch is undone in their buckets.
 abbrev pub EntersOutcomeLeft : Type 0
-EntersOutcomeLeft = (c : List (List ℕ)) (area : Area) (heads : List (Option FileHead)) (directory : List (Option File)) (files : List Bool) (s : Settlement) → AreLeft c heads (settled_buckets s directory) → Fit area heads → 584 ≤ area.start → EachWhole c →
+EntersOutcomeLeft = (c : List (List ℕ)) (area : Area) (heads : List (Option FileHead)) (directory : List (Option File)) (files : List Bool) (s : Settlement) → AreLeft c heads (settled_buckets s directory) → Fit area heads → log_start ≤ area.start → EachWhole c →
     AreToldBy s files directory → HaveRoom s files heads →
     EntersLeft c heads (content_from 0 files (spelled_entry 0 s.tid (outcome_of s)) heads c) area (heads_from 0 files (length (spelled_entry 0 s.tid (outcome_of s))) heads) (map (option_map (settled_file s)) directory)

@@ -2,6 +2,7 @@
 use Rattle.std.specs.Prelude.{◌≡◌, ◌+◌, ◌-◌, ◌≤◌, ◌<◌, ◌^◌, ℕ, List, [], ◌∷◌, ◌++◌, Bool, true, false, Option, Some, length, slice_set}
 use Rattle.std.specs.List.{AllByRecursion}
 use Rattle.block_disk.specs.Blocks.{block_at}
+use Rattle.vms_model.specs.Limits.{file_limit}
 use Rattle.extents.specs.declared.extent.Extent.{Extent as Area}
 use Rattle.file_base.specs.declared.head.FileHead.{FileHead}
 use Rattle.file_base.specs.declared.head.Span.{Span}
@@ -58,12 +59,12 @@ StandIfKept side f c h tid serial cs = is_kept side h ≡ true → StandBehind s
 
 -- Then the file has the images of all of them, once its directory block tells where the journals end now.
 abbrev pub EntersMoved : Type 0
-EntersMoved = (c : List (List ℕ)) (area : Area) (heads : List (Option FileHead)) (directory : List (Option File)) (f : ℕ) (h : FileHead) (file : File) (tid serial : Id) (cs : List Change) → AreFitting c area heads directory → f < 64 →
+EntersMoved = (c : List (List ℕ)) (area : Area) (heads : List (Option FileHead)) (directory : List (Option File)) (f : ℕ) (h : FileHead) (file : File) (tid serial : Id) (cs : List Change) → AreFitting c area heads directory → f < file_limit →
     head_at heads f ≡ Some h → file_at directory f ≡ Some file → IsHead h → head_block_of h ≡ block_at c (1 + f) → StandIfKept After f c h tid serial cs → StandIfKept Before f c h tid serial cs →
     Enters c heads (slice_set c (1 + f) (head_block_of (moved_ends (length (images_bytes After f tid serial cs)) (length (images_bytes Before f tid serial cs)) h))) area
     (slice_set heads f (Some (moved_ends (length (images_bytes After f tid serial cs)) (length (images_bytes Before f tid serial cs)) h))) (slice_set directory f (Some (carrying (with_images tid serial cs file.carried) file)))
 
 -- Bytes behind the end of a file's journal, where it keeps it, tell nothing yet: all files stay.
 abbrev pub EntersBehind : Type 0
-EntersBehind = (c b : List (List ℕ)) (area : Area) (heads : List (Option FileHead)) (directory : List (Option File)) (f : ℕ) (h : FileHead) (side : Side) → AreFitting c area heads directory → f < 64 → head_at heads f ≡ Some h → is_kept side h ≡ true →
+EntersBehind = (c b : List (List ℕ)) (area : Area) (heads : List (Option FileHead)) (directory : List (Option File)) (f : ℕ) (h : FileHead) (side : Side) → AreFitting c area heads directory → f < file_limit → head_at heads f ≡ Some h → is_kept side h ≡ true →
     KeepsOthers (span_of side h) c b → ((es : List Spelled) → IsJournal c (span_of side h) es → IsJournal b (span_of side h) es) → Enters c heads b area heads directory

@@ -1,5 +1,6 @@
 // Whether the rings of journals of images have room for the settlements of units.
 ghost use Rattle.std.specs.Prelude.{◌≡◌, ◌≤◌, ◌<◌, ◌+◌, ◌-◌, ◌*◌, true, false, ℕ, List, IfSome, length};
+ghost use Rattle.vms_model.specs.Limits.{file_limit};
 ghost use Rattle.journal_model.specs.Ring.{ring_size};
 ghost use Rattle.unit_table.specs.Units.{changers};
 ghost use Rattle.volume.specs.Catalogs.{IsSound};
@@ -30,7 +31,7 @@ fn ring_fits(side: Side, head: &FileHead, units: &UnitTable, file: u8) -> bool
 
 // A volume has 64 file numbers.
 fn is_whole<D: Disk>(volume: &Volume<D>)
-    ensures { length volume.now.catalog.heads ≡ 64 }
+    ensures { length volume.now.catalog.heads ≡ file_limit }
 {
     let _ = volume.head(0);
 }
@@ -40,7 +41,7 @@ pub fn images_fit<D: Disk>(volume: &Volume<D>, units: &UnitTable) -> bool
     requires sound { (node : List ℕ) × IsSound node volume.now.store.disk.size volume.now.catalog }
     ensures yes { result ≡ true → AllSettlementsFit units.now.places volume.now.catalog.heads }
     ensures no { result ≡ false → IsTooFull units.now.places volume.now.catalog.heads }
-    ensures whole { length volume.now.catalog.heads ≡ 64 }
+    ensures whole { length volume.now.catalog.heads ≡ file_limit }
 {
     is_whole(volume);
     for file in 0..64u8 {

@@ -1,5 +1,6 @@
 //! Six hundred blocks are copied, in two groups.
 ghost use Rattle.std.specs.Prelude.{◌≤◌};
+ghost use Rattle.block_disk.specs.Sizes.{content_start};
 ghost use Rattle.careful_write.specs.State.{IsIdle};
 
 use block_disk::{CrashDisk, Disk, MemPlatter};
@@ -11,7 +12,7 @@ use std::test::Fail;
 
 // Whether a block has this byte throughout.
 fn has<D: Disk>(store: &mut Store<D>, n: u32, byte: u8) -> Result<bool, Down>
-    requires { 518 ≤ n }
+    requires { content_start ≤ n }
 {
     if n >= store.blocks() {
         return Ok(false);

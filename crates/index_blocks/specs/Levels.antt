@@ -1,5 +1,6 @@
 -- The index of a file in a list of blocks.
 use Rattle.std.specs.Prelude.{◌≡◌, ◌≤◌, ◌<◌, ◌-◌, ℕ, zero, suc, List, [], ◌∷◌, map, replicate}
+use Rattle.vms_model.specs.Limits.{key_limit}
 use Rattle.file_base.specs.declared.head.FileHead.{FileHead}
 use Rattle.index_model.specs.Indexes.{Entry, entries_along, parent_entry, child_for, descended, numbers_of}
 use Rattle.index_model.specs.Trees.{child_of}
@@ -64,4 +65,4 @@ pub record HasRoot (h : FileHead) : Type 0 where
   pub most : h.levels ≤ 12
   pub root : h.root < h.used
   pub within : h.used ≤ h.alloc
-  pub short : h.key_size ≤ 64
+  pub short : h.key_size ≤ key_limit

@@ -1,5 +1,6 @@
 //! Entries that are handed up from level to level, and the new root where the old one is parted.
 ghost use Rattle.std.specs.Prelude.{◌≡◌, ◌≤◌, ◌<◌, ◌+◌, ◌-◌, ◌*◌, ℕ, List, [], Some, length, OnOk, OnErr, IfOk, IfSome, slice_index_or, IsSomeAnd};
+ghost use Rattle.vms_model.specs.Limits.{key_limit};
 ghost use Rattle.careful_write.specs.Down.{answered};
 ghost use Rattle.careful_write.specs.Reads.{SameButReads};
 ghost use Rattle.frame_pool.specs.Pool.{IsOut};
@@ -34,7 +35,7 @@ fn stage_root<D: Disk>(
     handed: &Handed,
 )
     requires placed { IsPlaced head.now store.old.disk }
-    requires short { head.now.key_size ≤ 64 }
+    requires short { head.now.key_size ≤ key_limit }
     requires out { IsOut store.old.pool frame.now }
     requires free { fresh < head.now.alloc }
     requires room { length store.old.touched ≤ 480 }
@@ -66,7 +67,7 @@ pub fn climb<D: Disk>(
     handed: &Handed,
 ) -> Result<Growth, Down>
     requires placed { IsPlaced head.now store.old.disk }
-    requires short { head.now.key_size ≤ 64 }
+    requires short { head.now.key_size ≤ key_limit }
     requires out { IsOut store.old.pool frame.now }
     requires depth { depth ≤ 11 }
     requires path { (steps : ℕ) → steps < depth → slice_index_or path.now steps 0 < head.now.alloc }

@@ -1,5 +1,7 @@
 //! Buckets that are staged through a frame, and entries that come into one of them.
 ghost use Rattle.std.specs.Prelude.{◌≡◌, ◌≤◌, ◌<◌, ◌+◌, ◌-◌, ◌*◌, ℕ, List, true, false, length, take, drop, option_map, OnOk, IfOk, IfSome, OnErr};
+ghost use Rattle.block_disk.specs.Sizes.{content_start};
+ghost use Rattle.vms_model.specs.Limits.{key_limit};
 ghost use Rattle.careful_write.specs.Down.{answered};
 ghost use Rattle.careful_write.specs.Reads.{SameButReads};
 ghost use Rattle.frame_pool.specs.Pool.{IsOut};
@@ -21,7 +23,7 @@ use index_bucket::{Handed, parent_of, take_handed};
 fn fill_frame<D: Disk>(store: &mut Store<D>, frame: &Frame, bytes: &[u8; FRAME_BYTES])
     requires { IsOut store.old.pool frame.now }
     ensures put { store.new ≡ with_frame frame.now bytes.now store.old }
-    ensures whole { IfSome store.old.current (λ blocks. length blocks + 518 ≡ store.old.disk.size) }
+    ensures whole { IfSome store.old.current (λ blocks. length blocks + content_start ≡ store.old.disk.size) }
     ensures out { IsOut store.new.pool frame.now }
 {
     store.pool().bytes_mut(frame).copy_from_slice(bytes);
@@ -52,7 +54,7 @@ pub fn stage_index<D: Disk>(
       current = option_map (λ blocks. with_bucket bytes.now blocks (bucket_first head.now n) head.now.bucket) store.old.current;
       touched = with_blocks_of head.now n store.old.touched;
     }) }
-    ensures whole { IfSome store.old.current (λ blocks. length blocks + 518 ≡ store.old.disk.size) }
+    ensures whole { IfSome store.old.current (λ blocks. length blocks + content_start ≡ store.old.disk.size) }
     ensures out { IsOut store.new.pool frame.now }
 {
     fill_frame(store, frame, bytes);
@@ -84,7 +86,7 @@ fn stage_halves<D: Disk>(
       current = option_map (with_halves head.now n fresh parted low.now high.now) store.old.current;
       touched = with_blocks_of_halves head.now n fresh parted store.old.touched;
     }) }
-    ensures whole { IfSome store.old.current (λ blocks. length blocks + 518 ≡ store.old.disk.size) }
+    ensures whole { IfSome store.old.current (λ blocks. length blocks + content_start ≡ store.old.disk.size) }
     ensures out { IsOut store.new.pool frame.now }
 {
     stage_index(head, store, frame, n, low);
@@ -105,13 +107,13 @@ pub fn hand_in<D: Disk>(
     handed: &Handed,
 ) -> Result<Option<Handed>, Down>
     requires placed { IsPlaced head.now store.old.disk }
-    requires short { head.now.key_size ≤ 64 }
+    requires short { head.now.key_size ≤ key_limit }
     requires out { IsOut store.old.pool frame.now }
     requires there { n < head.now.alloc }
     requires free { fresh < head.now.alloc }
     requires room { length store.old.touched ≤ 480 }
     ensures hands { IfOk result (λ up. HandsIn head.now key.now (entries_of head.now handed.now) n fresh up store.old (record store.new { pool = store.old.pool })) }
-    ensures whole { OnOk result (IfSome store.old.current (λ blocks. length blocks + 518 ≡ store.old.disk.size)) }
+    ensures whole { OnOk result (IfSome store.old.current (λ blocks. length blocks + content_start ≡ store.old.disk.size)) }
     ensures few { length store.new.touched ≤ length store.old.touched + 32 }
     ensures stages { OnOk result (StagesIn head.now (2 * head.now.bucket) store.old (record store.new { pool = store.old.pool })) }
     ensures down { OnErr result (SameButReads (record store.old { disk = answered result store.old.disk }) (record store.new { pool = store.old.pool })) }

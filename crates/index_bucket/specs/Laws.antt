@@ -1,5 +1,6 @@
 -- What holds of index buckets that took entries.
 use Rattle.std.specs.Prelude.{◌≡◌, ◌≤◌, ◌*◌, ◌/◌, ℕ, Bool, true, false, List, length, map, take, drop}
+use Rattle.vms_model.specs.Limits.{key_limit}
 use Rattle.file_base.specs.declared.head.FileHead.{FileHead}
 use Rattle.bucket_page.specs.Pages.{IsBucket}
 use Rattle.index_model.specs.Indexes.{Entry, Ascends, AllBelow, with_added}
@@ -21,6 +22,6 @@ pub record HasEntries (h : FileHead) (all : List Entry) (bytes : List ℕ) : Typ
 
 -- a bucket that took entries has them so, where all separators ascend and all children are used
 abbrev pub TakenAreHeld : Type 0
-TakenAreHeld = (h : FileHead) (k : List ℕ) (added : List Entry) (old : List ℕ) (parted : Bool) (low high : List ℕ) → 1 ≤ h.bucket → h.key_size ≤ 64 → IsBucket (index_kind h) (512 * h.bucket) old → 1 ≤ length (entries_at h old)
+TakenAreHeld = (h : FileHead) (k : List ℕ) (added : List Entry) (old : List ℕ) (parted : Bool) (low high : List ℕ) → 1 ≤ h.bucket → h.key_size ≤ key_limit → IsBucket (index_kind h) (512 * h.bucket) old → 1 ≤ length (entries_at h old)
     → TakesIn h (512 * h.bucket) k added old parted low high → Ascends (with_added k added (entries_at h old)) → AllBelow h.used (map child_of (with_added k added (entries_at h old)))
     → HoldEntries h (with_added k added (entries_at h old)) parted low high

@@ -1,5 +1,6 @@
 //! Entries that are handed up into an index bucket.
 ghost use Rattle.std.specs.Prelude.{◌≡◌, ◌≤◌, ◌<◌, ◌+◌, ◌-◌, ◌*◌, ◌/◌, ℕ, List, true, false, length, take, drop};
+ghost use Rattle.vms_model.specs.Limits.{key_limit};
 ghost use Rattle.bucket_page.specs.Pages.{slots_of, next_of, IsBucket, IsPacked};
 ghost use Rattle.index_bucket.specs.Entries.{index_kind, sizes_of};
 ghost use Rattle.index_bucket.specs.Takes.{entries_of, TakesIn};
@@ -24,7 +25,7 @@ pub enum Handed {
 fn fan_out(head: &FileHead) -> u16
     requires one { 1 ≤ head.now.bucket }
     requires blocks { head.now.bucket ≤ 16 }
-    requires key { head.now.key_size ≤ 64 }
+    requires key { head.now.key_size ≤ key_limit }
     ensures is { result ≡ (sizes_of head.now).fan_out }
     ensures wide { 3 ≤ result }
     ensures fits { 16 + result * (head.now.key_size + 4) ≤ 512 * head.now.bucket }
@@ -44,7 +45,7 @@ fn take_counted(
 ) -> bool
     requires one { 1 ≤ head.now.bucket }
     requires blocks { head.now.bucket ≤ 16 }
-    requires key { head.now.key_size ≤ 64 }
+    requires key { head.now.key_size ≤ key_limit }
     requires sized { size ≡ 512 * head.now.bucket }
     requires low_within { size ≤ length low.old }
     requires high_within { size ≤ length high.old }
@@ -84,7 +85,7 @@ pub fn take_handed(
 ) -> bool
     requires one { 1 ≤ head.now.bucket }
     requires blocks { head.now.bucket ≤ 16 }
-    requires key { head.now.key_size ≤ 64 }
+    requires key { head.now.key_size ≤ key_limit }
     requires sized { size ≡ 512 * head.now.bucket }
     requires low_within { size ≤ length low.old }
     requires high_within { size ≤ length high.old }

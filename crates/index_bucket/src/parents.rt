@@ -1,6 +1,7 @@
 //! The entry that leads to a bucket, and a new root over an old one.
 ghost use Rattle.std.specs.Prelude.{◌≡◌, ◌≤◌, ◌+◌, ◌*◌, ◌<◌, ◌^◌, ℕ, List, [], ◌∷◌, true, false, length, take, drop, replicate};
 ghost use Rattle.byteorder.specs.Endian.{little_bytes};
+ghost use Rattle.vms_model.specs.Limits.{key_limit};
 ghost use Rattle.bucket_page.specs.Pages.{slots_of, no_next, inserted, suits, IsBucket, IsPacked, Packs};
 ghost use Rattle.index_model.specs.Indexes.{first_separator};
 ghost use Rattle.index_bucket.specs.Entries.{index_kind, entry_of, entries_at};
@@ -24,7 +25,7 @@ fn number_bytes(number: u32) -> [u8; 4]
 
 /// The bytes of the entry of a separator and a child, with zeros behind them.
 pub fn entry_bytes(head: &FileHead, separator: &[u8], child: u32) -> [u8; ENTRY_BYTES]
-    requires key { head.now.key_size ≤ 64 }
+    requires key { head.now.key_size ≤ key_limit }
     requires separator { length separator.now ≡ head.now.key_size }
     ensures is { entry_of head.now (take (head.now.key_size + 4) result) ≡ record { separator = separator.now; child = child } }
     ensures suits { suits (index_kind head.now) (take (head.now.key_size + 4) result) ≡ true }
@@ -37,7 +38,7 @@ pub fn entry_bytes(head: &FileHead, separator: &[u8], child: u32) -> [u8; ENTRY_
 
 /// The entry that leads to an index bucket of this number, by the first separator in it.
 pub fn parent_of(head: &FileHead, bytes: &[u8], number: u32) -> Handed
-    requires key { head.now.key_size ≤ 64 }
+    requires key { head.now.key_size ≤ key_limit }
     requires packed { IsPacked (index_kind head.now) (length bytes.now) bytes.now }
     requires some { 1 ≤ length (slots_of (index_kind head.now) bytes.now) }
     ensures { entries_of head.now result ≡ record { separator = first_separator (entries_at head.now bytes.now); child = number } ∷ [] }
@@ -50,7 +51,7 @@ pub fn parent_of(head: &FileHead, bytes: &[u8], number: u32) -> Handed
 fn lead_all(head: &FileHead, size: usize, bytes: &mut [u8], root: u32)
     requires one { 1 ≤ head.now.bucket }
     requires blocks { head.now.bucket ≤ 16 }
-    requires key { head.now.key_size ≤ 64 }
+    requires key { head.now.key_size ≤ key_limit }
     requires sized { size ≡ 512 * head.now.bucket }
     requires within { size ≤ length bytes.old }
     ensures bucket { IsBucket (index_kind head.now) size (take size bytes.new) }
@@ -80,7 +81,7 @@ pub fn make_root(
 )
     requires one { 1 ≤ head.now.bucket }
     requires blocks { head.now.bucket ≤ 16 }
-    requires key { head.now.key_size ≤ 64 }
+    requires key { head.now.key_size ≤ key_limit }
     requires sized { size ≡ 512 * head.now.bucket }
     requires within { size ≤ length bytes.old }
     requires spare { size ≤ length spare.old }

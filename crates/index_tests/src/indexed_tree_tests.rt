@@ -1,6 +1,7 @@
 //! Keys that are set and set back in a file under an index, beside a plain list, and how single leaves are parted.
 ghost use Rattle.std.specs.Prelude.{IfOk, ◌≡◌, ◌≤◌, ◌<◌, ◌+◌, ℕ, true, length, OnOk, IfSome};
 ghost use Rattle.std.specs.Option.{option_copied};
+ghost use Rattle.vms_model.specs.Limits.{lock_limit};
 ghost use Rattle.careful_write.specs.Reads.{SameButReads};
 ghost use Rattle.careful_write.specs.State.{IsIdle};
 ghost use Rattle.change_set.specs.Files.{IsPlaced, free_frames};
@@ -297,7 +298,7 @@ pub(crate) fn lists<D: Disk>(
 
 // A store of zeros. None where it did not open.
 pub(crate) fn opened(alloc: Global) -> Result<Option<Store<CrashDisk<MemPlatter>>>, AllocError>
-    ensures size { IfOk result (λ store. IfSome store (λ s. s.disk.size ≡ 4096)) }
+    ensures size { IfOk result (λ store. IfSome store (λ s. s.disk.size ≡ lock_limit)) }
     ensures frames { IfOk result (λ store. IfSome store (λ s. 32 ≤ free_frames s.pool)) }
     ensures idle { IfOk result (λ store. IfSome store IsIdle) }
 {

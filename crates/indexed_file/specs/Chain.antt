@@ -1,5 +1,7 @@
 -- The leaves of an indexed file in a list of blocks, and what their slots mean.
 use Rattle.std.specs.Prelude.{◌≡◌, ◌≤◌, ◌<◌, ◌⊎◌, ℕ, ◌+◌, ◌-◌, ◌*◌, ◌==◌, ◌&&◌, ◌||◌, Bool, true, List, [], ◌∷◌, length, map, Option, Some, None, IfSome, if◌then◌else◌, nat_le}
+use Rattle.block_disk.specs.Sizes.{content_start}
+use Rattle.vms_model.specs.Limits.{key_limit}
 use Rattle.file_base.specs.declared.head.FileHead.{FileHead}
 use Rattle.file_base.specs.Bytes.{piece_at}
 use Rattle.vms_model.specs.Keys.{Key, Number, Text, End}
@@ -24,7 +26,7 @@ slot_of h raw = record { key = key_in (kind_of h) raw; room = u16_at raw 0; valu
 
 -- the first block of bucket n, in the content
 abbrev pub bucket_first : FileHead → ℕ → ℕ
-bucket_first h n = h.start - 518 + n * h.bucket
+bucket_first h n = h.start - content_start + n * h.bucket
 
 -- the bytes of bucket n
 abbrev pub bucket_at : FileHead → List (List ℕ) → ℕ → List ℕ
@@ -92,7 +94,7 @@ Leads h blocks (n ∷ ns) end = (next_in h blocks n ≡ first_or ns end) × Lead
 -- the keys of records are not empty, are short, and lie in each record
 pub record HasKeys (h : FileHead) : Type 0 where
   pub key : 1 ≤ h.key_size
-  pub short : h.key_size ≤ 64
+  pub short : h.key_size ≤ key_limit
   pub holds : h.key_pos + h.key_size ≤ h.mrs
 
 -- a key and a value of an indexed file: the key has its size, and a value has the key at its place and at most the longest length

@@ -1,5 +1,6 @@
 -- What a set leaves of a file.
 use Rattle.std.specs.Prelude.{◌≡◌, ℕ, zero, suc, ◌+◌, ◌*◌, Bool, true, List, take, Option}
+use Rattle.block_disk.specs.Sizes.{content_start}
 use Rattle.file_base.specs.declared.head.FileHead.{FileHead}
 use Rattle.bucket_page.specs.Pages.{slots_of, next_of, replaced, IsBucket, Packs}
 use Rattle.change_set.specs.Buckets.{with_bucket, with_numbers}
@@ -15,7 +16,7 @@ with_parts h n (suc (suc m)) low mid high blocks =
 
 -- the numbers of the blocks of a bucket, beside these
 abbrev pub with_blocks_of : FileHead → ℕ → List ℕ → List ℕ
-with_blocks_of h n touched = with_numbers (518 + bucket_first h n) h.bucket touched
+with_blocks_of h n touched = with_numbers (content_start + bucket_first h n) h.bucket touched
 
 -- the numbers of the blocks of bucket n and of those that were added, beside these
 abbrev pub touched_by : FileHead → ℕ → ℕ → List ℕ → List ℕ

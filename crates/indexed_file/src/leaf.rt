@@ -1,5 +1,6 @@
 //! One bucket of a file, read into a frame.
 ghost use Rattle.std.specs.Prelude.{◌≡◌, ◌≤◌, ◌<◌, ◌+◌, ◌-◌, ◌*◌, ℕ, true, false, Some, None, length};
+ghost use Rattle.vms_model.specs.Limits.{record_limit};
 ghost use Rattle.bucket_page.specs.Pages.{slots_of, key_in, slot_at, IsBucket, IsPacked, u16_at};
 ghost use Rattle.records_model.specs.Slots.{bytes_before};
 ghost use Rattle.std.specs.Ordering.{nat_cmp, is_lt, ordering_reverse};
@@ -89,7 +90,7 @@ pub(crate) fn find_place(bytes: &[u8], head: &FileHead, count: u16, key: &[u8]) 
 /// The record in a slot's bytes: true where it has one.
 pub(crate) fn read_record(slot: &[u8], mrs: u16, out: &mut Record) -> bool
     requires whole { 4 + u16_at slot.now 2 ≤ length slot.now }
-    requires most { mrs ≤ 8160 }
+    requires most { mrs ≤ record_limit }
     ensures some { result ≡ true → value_of mrs slot.now ≡ Some out.new }
     ensures none { result ≡ false → value_of mrs slot.now ≡ None }
 {

@@ -1,5 +1,6 @@
 //! The one leaf of an empty indexed file.
 ghost use Rattle.std.specs.Prelude.{◌≡◌, ◌≤◌, ◌<◌, ◌+◌, ◌*◌, ℕ, List, [], Some, None, length, take, OnOk, OnErr, IfSome};
+ghost use Rattle.block_disk.specs.Sizes.{content_start};
 ghost use Rattle.careful_write.specs.Down.{Counts};
 ghost use Rattle.careful_write.specs.State.{IsIdle};
 ghost use Rattle.frame_pool.specs.Pool.{IsOut};
@@ -37,7 +38,7 @@ pub fn make_file<D: Disk>(head: &FileHead, store: &mut Store<D>) -> Result<(), D
     requires frames { 1 ≤ free_frames store.old.pool }
     ensures ok { OnOk result (MakesLeaf head.now store.old.current store.new.current) }
     ensures idle { OnOk result (IsIdle store.new) }
-    ensures whole { IfSome store.old.current (λ b. length b + 518 ≡ store.old.disk.size) }
+    ensures whole { IfSome store.old.current (λ b. length b + content_start ≡ store.old.disk.size) }
     ensures down { OnErr result (LeavesOut (in_extent head.now) store.old.current store.new.disk) }
     ensures counts { Counts result store.old.disk store.new.disk }
     ensures pool { store.new.pool ≡ store.old.pool }

@@ -1,6 +1,7 @@
 //! The first key behind one.
 ghost use Rattle.std.specs.Prelude.{◌≡◌, ◌≤◌, ◌<◌, ◌+◌, ◌-◌, ℕ, Option, Some, None, length, map, IfSome, IfNone};
 ghost use Rattle.std.specs.Option.{option_copied};
+ghost use Rattle.vms_model.specs.Limits.{record_limit};
 ghost use Rattle.bucket_page.specs.Pages.{slots_of, IsBucket};
 ghost use Rattle.indexed_file.specs.Chain.{HasKeys, kind_of, slot_of, HasSlot};
 ghost use Rattle.indexed_file.specs.Behind.{first_behind, IsFound, StartsBehind};
@@ -35,7 +36,7 @@ pub fn next_in_leaf(
 ) -> Option<KeyText>
     requires form { HasKeys head.now }
     requires small { length bytes.now ≤ 8192 }
-    requires most { head.now.mrs ≤ 8160 }
+    requires most { head.now.mrs ≤ record_limit }
     ensures some { IfSome result (λ k. IsBucket (kind_of head.now) (length bytes.now) bytes.now → IsFound (first_behind (option_copied after.entry) (map (slot_of head.now) (slots_of (kind_of head.now) bytes.now))) k out.new) }
     ensures stands { IfSome result (λ k. IsBucket (kind_of head.now) (length bytes.now) bytes.now × HasSlot head.now bytes.now k out.new) }
     ensures none { IfNone result (IsBucket (kind_of head.now) (length bytes.now) bytes.now → first_behind (option_copied after.entry) (map (slot_of head.now) (slots_of (kind_of head.now) bytes.now)) ≡ None) }

@@ -1,5 +1,6 @@
 //! How a bucket that overflows is parted.
 ghost use Rattle.std.specs.Prelude.{◌≡◌, ◌≤◌, ◌<◌, ◌+◌, ◌-◌, ◌==◌, ◌&&◌, ◌||◌, ℕ, true, false, [], length, take, drop, map, max, nat_lt, nat_le, if◌then◌else◌};
+ghost use Rattle.block_disk.specs.Sizes.{greatest_disk_size};
 ghost use Rattle.bucket_page.specs.Pages.{slots_of, next_of, joined, suits, reach, inserted, IsPacked, Packs};
 ghost use Rattle.indexed_file.specs.Chain.{kind_of, slot_of};
 ghost use Rattle.records_model.specs.Parts.{bytes_of, fits_at, has_place, IsBest};
@@ -200,7 +201,7 @@ fn part_in_three(
     requires place { i ≤ length (slots_of (kind_of head.now) (take size low.old)) }
     requires suits { suits (kind_of head.now) slot.now ≡ true }
     requires alone { 16 + length slot.now ≤ size }
-    requires numbers { fresh ≤ 65536 }
+    requires numbers { fresh ≤ greatest_disk_size }
     ensures low { Packs (kind_of head.now) size (take i (slots_of (kind_of head.now) (take size low.old))) fresh (take size low.new) }
     ensures mid { Packs (kind_of head.now) size (inserted [] 0 slot.now) (fresh + 1) (take size mid.new) }
     ensures high { Packs (kind_of head.now) size (drop i (slots_of (kind_of head.now) (take size low.old))) (next_of (take size low.old)) (take size high.new) }
@@ -236,7 +237,7 @@ pub(crate) fn part(
     requires suits { suits (kind_of head.now) slot.now ≡ true }
     requires alone { 16 + length slot.now ≤ size }
     requires over { size < 16 + length (joined (slots_of (kind_of head.now) (take size low.old))) + length slot.now }
-    requires numbers { fresh ≤ 65536 }
+    requires numbers { fresh ≤ greatest_disk_size }
     ensures parted { Parted head.now size fresh (next_of (take size low.old)) (inserted (slots_of (kind_of head.now) (take size low.old)) i slot.now) i result (take size low.new) (take size mid.new) (take size high.new) }
     ensures few { result ≤ 2 }
 {

@@ -1,5 +1,6 @@
 //! The record of a key.
 ghost use Rattle.std.specs.Prelude.{◌≡◌, ◌≤◌, ◌<◌, ◌-◌, ℕ, true, false, Some, None, length, IfNone};
+ghost use Rattle.vms_model.specs.Limits.{record_limit};
 ghost use Rattle.bucket_page.specs.Pages.{IsBucket};
 ghost use Rattle.records_model.specs.Slots.{slot_at};
 ghost use Rattle.records_model.specs.Chain.{begins_by};
@@ -22,7 +23,7 @@ pub fn read_slot(
     out: &mut Record,
 ) -> (Option<bool>, bool)
     requires small { length bytes.now ≤ 8192 }
-    requires most { head.now.mrs ≤ 8160 }
+    requires most { head.now.mrs ≤ record_limit }
     ensures some { result.0 ≡ Some true → IsBucket (kind_of head.now) (length bytes.now) bytes.now → Decides key.now (slots_at head.now bytes.now) (Some out.new) }
     ensures stands { result.0 ≡ Some true → IsBucket (kind_of head.now) (length bytes.now) bytes.now × HasSlot head.now bytes.now key.now out.new }
     ensures none { result.0 ≡ Some false → IsBucket (kind_of head.now) (length bytes.now) bytes.now → Decides key.now (slots_at head.now bytes.now) None }

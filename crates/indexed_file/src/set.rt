@@ -2,6 +2,7 @@
 ghost use Rattle.std.specs.Prelude.{◌≡◌, ◌≤◌, ◌<◌, ◌+◌, ◌-◌, ℕ, true, false, [], Option, Some, None, length, take};
 ghost use Rattle.std.specs.Option.{option_copied};
 ghost use Rattle.vms_model.specs.Keys.{Text};
+ghost use Rattle.block_disk.specs.Sizes.{greatest_disk_size};
 ghost use Rattle.bucket_page.specs.Pages.{slots_of, next_of, slot_at, suits, inserted, page_of, IsPacked, IsBucket, Holds};
 ghost use Rattle.records_model.specs.Slots.{size_of};
 ghost use Rattle.indexed_file.specs.Chain.{HasKeys, kind_of, all_keep, SuitsText};
@@ -41,7 +42,7 @@ fn add_tidied<H: Held>(
     requires place { i ≤ count }
     requires suits { suits (kind_of head.now) slot.now ≡ true }
     requires alone { 16 + length slot.now ≤ size }
-    requires numbers { head.now.used ≤ 65536 }
+    requires numbers { head.now.used ≤ greatest_disk_size }
     ensures parted { let raws = tidied_raws head.now (λ t. H.held held.now (Text t)) (slots_of (kind_of head.now) (take size low.old)) in
         let place = length (tidied_raws head.now (λ t. H.held held.now (Text t)) (take i (slots_of (kind_of head.now) (take size low.old)))) in
         Parted head.now size head.now.used (next_of (take size low.old)) (inserted raws place slot.now) place result (take size low.new) (take size mid.new) (take size high.new) }
@@ -78,7 +79,7 @@ fn add_slot<H: Held>(
     requires place { i ≤ count }
     requires suits { suits (kind_of head.now) slot.now ≡ true }
     requires alone { 16 + length slot.now ≤ size }
-    requires numbers { head.now.used ≤ 65536 }
+    requires numbers { head.now.used ≤ greatest_disk_size }
     ensures parted { Parted head.now size head.now.used (next_of (take size low.old))
         (raws_added head.now (λ t. H.held held.now (Text t)) size (slots_of (kind_of head.now) (take size low.old)) i slot.now)
         (place_added head.now (λ t. H.held held.now (Text t)) size (slots_of (kind_of head.now) (take size low.old)) i slot.now)
@@ -113,7 +114,7 @@ fn add_record<H: Held>(
     requires place { i ≤ count }
     requires key { head.now.key_pos + head.now.key_size ≤ length bytes.now }
     requires alone { 20 + length bytes.now ≤ size }
-    requires numbers { head.now.used ≤ 65536 }
+    requires numbers { head.now.used ≤ greatest_disk_size }
     ensures parted { let slot = slot_bytes (length bytes.now) (length bytes.now) 0 bytes.now in
         Parted head.now size head.now.used (next_of (take size low.old))
         (raws_added head.now (λ t. H.held held.now (Text t)) size (slots_of (kind_of head.now) (take size low.old)) i slot)
@@ -218,7 +219,7 @@ fn set_missing<H: Held>(
     requires small { size ≤ 8192 }
     requires records { head.now.mrs + 32 ≤ size }
     requires suits { SuitsText head.now key.now (option_copied value) }
-    requires numbers { head.now.used ≤ 65536 }
+    requires numbers { head.now.used ≤ greatest_disk_size }
     requires bucket { IsBucket (kind_of head.now) size (take size low.old) }
     requires counted { count ≡ length (slots_of (kind_of head.now) (take size low.old)) }
     requires place { IsPlace head.now key.now (slots_of (kind_of head.now) (take size low.old)) i false }
@@ -252,7 +253,7 @@ fn set_found<H: Held>(
     requires small { size ≤ 8192 }
     requires records { head.now.mrs + 32 ≤ size }
     requires suits { SuitsText head.now key.now (option_copied value) }
-    requires numbers { head.now.used ≤ 65536 }
+    requires numbers { head.now.used ≤ greatest_disk_size }
     requires bucket { IsBucket (kind_of head.now) size (take size low.old) }
     requires counted { count ≡ length (slots_of (kind_of head.now) (take size low.old)) }
     requires place { IsPlace head.now key.now (slots_of (kind_of head.now) (take size low.old)) i true }
@@ -314,7 +315,7 @@ pub fn set_in_leaf<H: Held>(
     requires small { size ≤ 8192 }
     requires records { head.now.mrs + 32 ≤ size }
     requires suits { SuitsText head.now key.now (option_copied value) }
-    requires numbers { head.now.used ≤ 65536 }
+    requires numbers { head.now.used ≤ greatest_disk_size }
     ensures sets { IsBucket (kind_of head.now) size (take size low.old) → all_keep head.now (slots_of (kind_of head.now) (take size low.old)) ≡ true →
         SetsLeaf head.now (λ t. H.held held.now (Text t)) key.now (option_copied value.entry) size head.now.used (take size low.old) result (take size low.new) (take size mid.new) (take size high.new) }
     ensures strange { (IsBucket (kind_of head.now) size (take size low.old) → ⊥) →

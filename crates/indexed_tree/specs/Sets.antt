@@ -1,5 +1,6 @@
 -- What becomes of an indexed file under an index where a key is set in the leaf for it.
 use Rattle.std.specs.Prelude.{◌≡◌, ◌≤◌, ◌<◌, ◌+◌, ◌-◌, ◌*◌, ℕ, zero, suc, Bool, List, [], ◌∷◌, length, take, Option}
+use Rattle.block_disk.specs.Sizes.{content_start}
 use Rattle.file_base.specs.declared.head.FileHead.{FileHead}
 use Rattle.bucket_page.specs.Pages.{no_next, slots_of, IsBucket}
 use Rattle.records_model.specs.Slots.{size_of}
@@ -46,7 +47,7 @@ pub record NewHaveSlots (h : FileHead) (added : ℕ) (mid high : List ℕ) : Typ
 pub record MaySet (h : FileHead) (blocks : List (List ℕ)) (k : List ℕ) (v : Option (List ℕ)) (added : ℕ) : Type 0 where
   pub form : HasRoot h
   pub one : 1 ≤ h.bucket
-  pub within : h.start - 518 + h.alloc * h.bucket ≤ length blocks
+  pub within : h.start - content_start + h.alloc * h.bucket ≤ length blocks
   pub numbers : h.alloc < no_next
   pub key : length k ≡ h.key_size
   pub fits : 4 + size_of v ≤ (sizes_of h).capacity

@@ -6,6 +6,7 @@ ghost use Rattle.vms_base.specs.Keys.{key_of};
 ghost use Rattle.careful_write.specs.Down.{Counts};
 ghost use Rattle.careful_write.specs.Reads.{SameButReads};
 ghost use Rattle.careful_write.specs.State.{IsIdle};
+ghost use Rattle.careful_write.specs.Sizes.{staged_limit};
 ghost use Rattle.change_set.specs.Files.{IsPlaced, free_frames, fell, unstaged, StagesIn, SameFile, in_extent, AgreesOut, LeavesOut};
 ghost use Rattle.change_set.specs.Maps.{IsNext, EndsAfter, empty_map};
 ghost use Rattle.indexed_file.specs.Chain.{StandsAt, Suits};
@@ -123,7 +124,7 @@ impl TreeFile {
         requires form { IsTreeHead head.old }
         requires placed { IsPlaced head.old store.old.disk }
         requires frames { 1 ≤ free_frames store.old.pool }
-        requires staged { length store.old.touched ≤ 64 }
+        requires staged { length store.old.touched ≤ staged_limit }
         requires suits { Suits head.old (key_of key.now) (option_copied value) }
         ensures sets { OnOk result (KeySet head.old head.new (H.held held.now) (key_of key.now) (option_copied value.entry) store.old.current store.new.current) }
         ensures file { OnOk result (SameFile head.old head.new) }

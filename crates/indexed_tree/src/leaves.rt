@@ -1,5 +1,7 @@
 //! The entries that lead to new leaves.
 ghost use Rattle.std.specs.Prelude.{◌≡◌, ◌≤◌, ◌<◌, ◌+◌, ◌-◌, ◌*◌, ℕ, List, true, false, length, take, drop};
+ghost use Rattle.block_disk.specs.Sizes.{greatest_disk_size};
+ghost use Rattle.vms_model.specs.Limits.{key_limit};
 ghost use Rattle.bucket_page.specs.Pages.{slots_of, IsPacked};
 ghost use Rattle.index_bucket.specs.Entries.{entry_of};
 ghost use Rattle.index_bucket.specs.Takes.{entries_of};
@@ -38,7 +40,7 @@ fn first_key_of<'a>(bytes: &'a [u8], head: &FileHead) -> &'a [u8]
 
 // The entry that leads to a leaf of this number; zeros where the bytes are no leaf, or one without slots.
 fn leaf_entry(head: &FileHead, bytes: &[u8], number: u32) -> [u8; ENTRY_BYTES]
-    requires key { head.now.key_size ≤ 64 }
+    requires key { head.now.key_size ≤ key_limit }
     requires small { length bytes.now ≤ 8192 }
     requires sized { length bytes.now ≡ 512 * head.now.bucket }
     ensures { HasSlots head.now bytes.now → entry_of head.now (take (head.now.key_size + 4) result) ≡ entry_to head.now bytes.now number }
@@ -56,13 +58,13 @@ fn leaf_entry(head: &FileHead, bytes: &[u8], number: u32) -> [u8; ENTRY_BYTES]
 
 /// The entries that lead to one or two new leaves, which have these bytes and are numbered from the used ones on.
 pub(crate) fn entries_for(head: &FileHead, added: u32, mid: &[u8], high: &[u8]) -> Handed
-    requires key { head.now.key_size ≤ 64 }
+    requires key { head.now.key_size ≤ key_limit }
     requires small { 512 * head.now.bucket ≤ 8192 }
     requires mid_sized { length mid.now ≡ 512 * head.now.bucket }
     requires high_sized { length high.now ≡ 512 * head.now.bucket }
     requires some { 1 ≤ added }
     requires few { added ≤ 2 }
-    requires numbers { head.now.used ≤ 65536 }
+    requires numbers { head.now.used ≤ greatest_disk_size }
     ensures { NewHaveSlots head.now added mid.now high.now → entries_of head.now result ≡ entries_to head.now added mid.now high.now }
 {
     let first = leaf_entry(head, mid, head.used);

@@ -1,8 +1,10 @@
 //! A leaf that is staged with those that it was parted in, and the entries of these, which are handed up.
 ghost use Rattle.std.specs.Prelude.{◌≡◌, ◌≤◌, ◌<◌, ◌+◌, ◌-◌, ◌*◌, ℕ, List, true, false, Some, None, length, take, option_map, OnOk, OnErr, IfOk, IfSome, IsSomeAnd, slice_index_or};
+ghost use Rattle.block_disk.specs.Sizes.{content_start};
 ghost use Rattle.careful_write.specs.Down.{answered};
 ghost use Rattle.careful_write.specs.Reads.{SameButReads};
 ghost use Rattle.frame_pool.specs.Pool.{IsOut};
+ghost use Rattle.careful_write.specs.Sizes.{staged_limit};
 ghost use Rattle.change_set.specs.Buckets.{frame_of, with_frame};
 ghost use Rattle.change_set.specs.Files.{IsPlaced, StagesIn};
 ghost use Rattle.index_blocks.specs.Laws.{grown_head};
@@ -42,12 +44,12 @@ fn stage_leaves<D: Disk>(
     requires there { n < head.now.alloc }
     requires few { added ≤ 2 }
     requires free { head.now.used + added ≤ head.now.alloc }
-    requires room { length store.old.touched ≤ 64 }
+    requires room { length store.old.touched ≤ staged_limit }
     ensures state { store.new ≡ with_frame frame.now (frame_of store.new.pool frame.now) (record store.old {
       current = option_map (with_parts head.now n added low.now mid.now high.now) store.old.current;
       touched = touched_by head.now n added store.old.touched;
     }) }
-    ensures whole { IfSome store.old.current (λ blocks. length blocks + 518 ≡ store.old.disk.size) }
+    ensures whole { IfSome store.old.current (λ blocks. length blocks + content_start ≡ store.old.disk.size) }
     ensures few { length store.new.touched ≤ length store.old.touched + 48 }
     ensures out { IsOut store.new.pool frame.now }
 {
@@ -93,7 +95,7 @@ fn stage_set<D: Disk>(
     requires there { n < head.now.used }
     requires few { added ≤ 2 }
     requires may { 1 ≤ added → MayPart head.now }
-    requires room { length store.old.touched ≤ 64 }
+    requires room { length store.old.touched ≤ staged_limit }
     requires path { (steps : ℕ) → steps < height head.now → slice_index_or path.now steps 0 < head.now.used }
     ensures sets { IfOk result (λ growth. IfSome store.old.current (λ old. IsSomeAnd store.new.current (PutsLeaf head.now (grown_head head.now growth) key.now path.now n added low.now mid.now high.now old))) }
     ensures stages { OnOk result (StagesIn head.now ((2 * head.now.levels + 2) * head.now.bucket) store.old (record store.new { pool = store.old.pool })) }
@@ -146,7 +148,7 @@ pub fn put_leaf<D: Disk>(
     requires there { n < head.old.used }
     requires few { added ≤ 2 }
     requires may { 1 ≤ added → MayPart head.old }
-    requires room { length store.old.touched ≤ 64 }
+    requires room { length store.old.touched ≤ staged_limit }
     requires path { (steps : ℕ) → steps < height head.old → slice_index_or path.now steps 0 < head.old.used }
     ensures sets { OnOk result (IfSome store.old.current (λ old. IsSomeAnd store.new.current (PutsLeaf head.old head.new key.now path.now n added low.now mid.now high.now old))) }
     ensures stages { OnOk result (StagesIn head.old ((2 * head.old.levels + 2) * head.old.bucket) store.old (record store.new { pool = store.old.pool })) }

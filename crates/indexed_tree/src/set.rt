@@ -5,6 +5,7 @@ ghost use Rattle.vms_model.specs.Keys.{Text};
 ghost use Rattle.careful_write.specs.Down.{answered};
 ghost use Rattle.careful_write.specs.Reads.{SameButReads};
 ghost use Rattle.frame_pool.specs.Pool.{IsOut};
+ghost use Rattle.careful_write.specs.Sizes.{staged_limit};
 ghost use Rattle.bucket_page.specs.Pages.{slots_of, IsBucket};
 ghost use Rattle.change_set.specs.Buckets.{frame_of, with_frame};
 ghost use Rattle.change_set.specs.Files.{IsPlaced, StagesIn, free_frames};
@@ -54,7 +55,7 @@ fn set_loaded<D: Disk, H: Held>(
     requires keys { HasKeys head.old }
     requires placed { IsPlaced head.old store.old.disk }
     requires out { IsOut store.old.pool frame.now }
-    requires room { length store.old.touched ≤ 64 }
+    requires room { length store.old.touched ≤ staged_limit }
     requires suits { SuitsText head.old key.now (option_copied value) }
     requires there { n < head.old.used }
     requires path { (steps : ℕ) → steps < height head.old → slice_index_or path.now steps 0 < head.old.used }
@@ -95,7 +96,7 @@ fn set_through<D: Disk, H: Held>(
     requires keys { HasKeys head.old }
     requires placed { IsPlaced head.old store.old.disk }
     requires out { IsOut store.old.pool frame.now }
-    requires room { length store.old.touched ≤ 64 }
+    requires room { length store.old.touched ≤ staged_limit }
     requires suits { SuitsText head.old key.now (option_copied value) }
     ensures sets { OnOk result (IfSome store.old.current (λ old. IsRooted head.old old → TakesKey head.old old key.now (option_copied value.entry) →
         IsSomeAnd store.new.current (KeyIsSet head.old head.new (λ t. H.held held.now (Text t)) key.now (option_copied value.entry) old))) }
@@ -134,7 +135,7 @@ pub fn set_key<D: Disk, H: Held>(
     requires keys { HasKeys head.old }
     requires placed { IsPlaced head.old store.old.disk }
     requires frames { 1 ≤ free_frames store.old.pool }
-    requires room { length store.old.touched ≤ 64 }
+    requires room { length store.old.touched ≤ staged_limit }
     requires suits { SuitsText head.old key.now (option_copied value) }
     ensures sets { OnOk result (IfSome store.old.current (λ old. IsRooted head.old old → TakesKey head.old old key.now (option_copied value.entry) →
         IsSomeAnd store.new.current (KeyIsSet head.old head.new (λ t. H.held held.now (Text t)) key.now (option_copied value.entry) old))) }

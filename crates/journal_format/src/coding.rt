@@ -3,6 +3,7 @@ ghost use Rattle.std.specs.Prelude.{◌≡◌, ◌==◌, ◌&&◌, ◌≤◌, �
 ghost use Rattle.std.specs.Int.{to_le_bytes, w16, w64};
 ghost use Rattle.byteorder.specs.Endian.{little_bytes, little_number};
 ghost use Rattle.vms_model.specs.Ids.{IsId, id_bytes};
+ghost use Rattle.vms_model.specs.Limits.{key_limit, record_limit};
 ghost use Rattle.vms_base.specs.Ids.{id_of};
 ghost use Rattle.journal_model.specs.Entries.{Entry, IsEntry, spelling, total};
 ghost use Rattle.journal_format.specs.IdForms.{IsIdForm, id_said};
@@ -106,7 +107,7 @@ fn moment_bytes(moment: Moment) -> [u8; 8]
 
 fn key_bytes(key: &Option<KeyText>) -> &[u8]
     ensures value { result.now ≡ unwrap_or key.now [] }
-    ensures few { length result.now ≤ 64 }
+    ensures few { length result.now ≤ key_limit }
 {
     match key {
         Some(text) => text.bytes(),
@@ -116,8 +117,8 @@ fn key_bytes(key: &Option<KeyText>) -> &[u8]
 
 // The bytes before the ids.
 fn add_fields(out: &mut Vec<u8>, e: &EntryHead, key: u8, image: u16)
-    requires key { key ≤ 64 }
-    requires image { image ≤ 8160 }
+    requires key { key ≤ key_limit }
+    requires image { image ≤ record_limit }
     requires room { vec_len out.old + 8 ≤ vec_capacity out.old }
     ensures items { out.new.items ≡ out.old.items ++ kind_code e.now.kind ∷ flag_of e.now.kind e.now.present e.now.outcome ∷ e.now.file ∷ key ∷ (to_le_bytes w16 image ++ to_le_bytes w16 (total key image)) }
     ensures len { vec_len out.new ≡ vec_len out.old + 8 }
@@ -213,7 +214,7 @@ fn moment_at(bytes: &[u8]) -> Moment
 }
 
 fn key_at(bytes: &[u8], len: usize) -> Option<KeyText>
-    requires short { len ≤ 64 }
+    requires short { len ≤ key_limit }
     requires within { 48 + len ≤ length bytes.now }
     ensures { unwrap_or result [] ≡ take len (drop 48 bytes.now) }
 {

@@ -2,6 +2,7 @@
 use Rattle.std.specs.Prelude.{◌≡◌, ℕ, ◌+◌, ◌^◌, ◌<◌, ◌==◌, ◌&&◌, Bool, true, List, ◌∷◌, ◌++◌, length, nat_le, if◌then◌else◌}
 use Rattle.std.specs.Int.{w16, w64, to_le_bytes}
 use Rattle.vms_model.specs.Ids.{Id, IsId, id_bytes}
+use Rattle.vms_model.specs.Limits.{key_limit, record_limit}
 
 -- An entry says that a branch changed a record, that it is prepared, or that it is settled.
 pub record Entry : Type 0 where
@@ -32,14 +33,14 @@ is_file kind file = if kind == 1 then true else file == 0
 
 -- a Change has a key of 1 to 64 bytes, and no other entry has one
 abbrev pub is_key : (kind size : ℕ) → Bool
-is_key kind size = if kind == 1 then nat_le 1 size && nat_le size 64 else size == 0
+is_key kind size = if kind == 1 then nat_le 1 size && nat_le size key_limit else size == 0
 
 abbrev pub has_image : (kind flag : ℕ) → Bool
 has_image kind flag = kind == 1 && flag == 1
 
 -- an image that is there has 1 to 8,160 bytes
 abbrev pub is_image : Bool → (size : ℕ) → Bool
-is_image present size = if present then nat_le 1 size && nat_le size 8160 else size == 0
+is_image present size = if present then nat_le 1 size && nat_le size record_limit else size == 0
 
 -- only a Settled has a moment
 abbrev pub is_moment : (kind moment : ℕ) → Bool

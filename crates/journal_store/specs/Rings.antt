@@ -1,14 +1,15 @@
 -- Where a journal's ring lies.
 use Rattle.std.specs.Prelude.{◌+◌, ◌-◌, ◌<◌, ◌≤◌, ◌^◌}
 use Rattle.block_disk.specs.Disk.{DiskState}
+use Rattle.block_disk.specs.Sizes.{content_start, greatest_disk_size}
 use Rattle.file_base.specs.declared.head.Span.{Span}
 use Rattle.journal_model.specs.Ring.{ring_size}
 
 -- the ring lies in the content of a disk, its entries fit it, and its positions are low
 pub record IsRing (s : Span) (disk : DiskState) : Type 0 where
-  pub from : 518 ≤ s.start
+  pub from : content_start ≤ s.start
   pub to : s.start + s.blocks ≤ disk.size
-  pub fits : disk.size ≤ 65536
+  pub fits : disk.size ≤ greatest_disk_size
   pub some : 0 < s.blocks
   pub order : s.first ≤ s.end
   pub low : s.end ≤ 2 ^ 62

@@ -1,8 +1,10 @@
 // Entries at the end of a journal.
 ghost use Rattle.std.specs.Prelude.{◌≡◌, ◌≤◌, ◌<◌, ◌+◌, ◌-◌, ◌*◌, ◌/◌, ◌%◌, ◌^◌, ◌↔◌, ℕ, OnOk, OnErr, IfErr, IfSome, Ok, Err, length, option_map, min, slice_set, take, drop};
 ghost use Rattle.block_disk.specs.Blocks.{block_at, with_number};
+ghost use Rattle.block_disk.specs.Sizes.{content_start};
 ghost use Rattle.careful_write.specs.Down.{answered};
 ghost use Rattle.careful_write.specs.State.{InHome, StoreState};
+ghost use Rattle.careful_write.specs.Sizes.{group_limit};
 ghost use Rattle.journal_model.specs.Ring.{ring_size, block_of, place_of, put_bytes, put_stream};
 ghost use Rattle.journal_store.specs.Refusing.{Refuses};
 ghost use Rattle.journal_store.specs.Rings.{IsRing};
@@ -36,9 +38,9 @@ fn overlay(block: &mut [u8; 512], at: usize, bytes: &[u8])
 // Stages bytes over those of one block, from a place on.
 fn write_block<D: Disk>(store: &mut Store<D>, n: u32, at: usize, bytes: &[u8]) -> Result<(), Down>
     requires home { InHome store.old.disk n }
-    requires room { length store.old.touched < 512 }
+    requires room { length store.old.touched < group_limit }
     requires within { at + length bytes.now ≤ 512 }
-    ensures current { OnOk result (store.new.current ≡ option_map (λ c. slice_set c (n - 518) (put_bytes at bytes.now (block_at c (n - 518)))) store.old.current) }
+    ensures current { OnOk result (store.new.current ≡ option_map (λ c. slice_set c (n - content_start) (put_bytes at bytes.now (block_at c (n - content_start)))) store.old.current) }
     ensures touched { OnOk result (length store.new.touched ≤ length store.old.touched + 1) }
     ensures disk { store.new.disk ≡ answered result store.old.disk }
     ensures pool { store.new.pool ≡ store.old.pool }
@@ -64,7 +66,7 @@ fn write_stream<D: Disk>(
     requires position { at ≤ 2 ^ 62 }
     ensures current { OnOk result (store.new.current ≡ option_map (λ c. put_stream c span.now at bytes.now) store.old.current) }
     ensures touched { OnOk result (length store.new.touched ≤ length store.old.touched + 18) }
-    ensures few { OnOk result (512 * length store.new.touched ≤ 512 * length store.old.touched + length bytes.now + 1022) }
+    ensures few { OnOk result (512 * length store.new.touched ≤ group_limit * length store.old.touched + length bytes.now + 1022) }
     ensures disk { store.new.disk ≡ answered result store.old.disk }
     ensures pool { store.new.pool ≡ store.old.pool }
     ensures fits { store.new.fits ≡ store.old.fits }
@@ -105,7 +107,7 @@ pub fn append<D: Disk>(
     ensures free { OnOk result (span.old.end - span.old.first + length entry.now ≤ ring_size span.old) }
     ensures span { OnOk result (span.new ≡ record span.old { end = span.old.end + length entry.now }) }
     ensures touched { OnOk result (length store.new.touched ≤ length store.old.touched + 18) }
-    ensures few { OnOk result (512 * length store.new.touched ≤ 512 * length store.old.touched + length entry.now + 1022) }
+    ensures few { OnOk result (512 * length store.new.touched ≤ group_limit * length store.old.touched + length entry.now + 1022) }
     ensures disk { OnOk result (store.new.disk ≡ store.old.disk) }
     ensures err { IfErr result (λ e. Refuses e (ring_size span.old - (span.old.end - span.old.first)) (length entry.now) store.old store.new) }
     ensures kept { OnErr result (span.new ≡ span.old) }

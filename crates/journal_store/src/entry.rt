@@ -2,6 +2,7 @@
 ghost use Rattle.std.specs.Prelude.{◌≡◌, ◌≤◌, ◌<◌, ◌+◌, ◌-◌, ◌*◌, ◌^◌, ℕ, List, OnOk, IfOk, IfErr, IfSome, Some, length, slice_index};
 ghost use Rattle.byteorder.specs.Endian.{little_bytes, little_number};
 ghost use Rattle.block_disk.specs.Blocks.{block_at};
+ghost use Rattle.block_disk.specs.Sizes.{content_start};
 ghost use Rattle.careful_write.specs.State.{InHome};
 ghost use Rattle.journal_format.specs.Heads.{entry_of};
 ghost use Rattle.journal_model.specs.Entries.{IsEntry};
@@ -31,7 +32,7 @@ fn read_block<D: Disk>(
     requires room { from + count ≤ length out.old }
     ensures length { length out.new ≡ length out.old }
     ensures before { (i : ℕ) → i < from → slice_index out.new i ≡ slice_index out.old i }
-    ensures read { OnOk result (IfSome store.old.current (λ c. (i : ℕ) → i < count → slice_index out.new (from + i) ≡ slice_index (block_at c (n - 518)) (at + i))) }
+    ensures read { OnOk result (IfSome store.old.current (λ c. (i : ℕ) → i < count → slice_index out.new (from + i) ≡ slice_index (block_at c (n - content_start)) (at + i))) }
     ensures only { OnlyReads result store.old store.new }
 {
     let mut block = [0; 512];

@@ -1,5 +1,6 @@
 -- Which files keep a journal of images.
 use Rattle.std.specs.Prelude.{◌≡◌, ◌≤◌, ◌<◌, ◌+◌, ◌&&◌, ◌||◌, ℕ, suc, List, [], ◌∷◌, Bool, true, false, Option, Some, None, length, slice_index_or}
+use Rattle.vms_model.specs.Limits.{file_limit}
 use Rattle.file_base.specs.declared.head.FileHead.{FileHead}
 use Rattle.volume.specs.Catalogs.{head_at}
 use Rattle.image_appends.specs.declared.side.Side.TheVariants.{After, Before}
@@ -17,8 +18,8 @@ keeping heads files file = slice_index_or files file false && keeps_some (head_a
 
 -- a list tells of each file whether it takes part and keeps one
 pub record TellsKeeping (heads : List (Option FileHead)) (files kept : List Bool) : Type 0 where
-  pub long : length kept ≡ 64
-  pub each : (file : ℕ) → file < 64 → slice_index_or kept file false ≡ keeping heads files file
+  pub long : length kept ≡ file_limit
+  pub each : (file : ℕ) → file < file_limit → slice_index_or kept file false ≡ keeping heads files file
 
 -- how many of these files keep one, from a number on
 abbrev pub kept_from : (file : ℕ) → List Bool → List (Option FileHead) → ℕ

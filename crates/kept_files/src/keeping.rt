@@ -1,6 +1,7 @@
 // Which files keep a journal of images.
 ghost use Rattle.std.specs.Prelude.{◌≡◌, ◌≤◌, length};
 ghost use Rattle.std.specs.Option.{option_copied};
+ghost use Rattle.vms_model.specs.Limits.{file_limit};
 ghost use Rattle.image_appends.specs.Settling.{files_in};
 ghost use Rattle.kept_files.specs.Keeping.{TellsKeeping, kept_in, keeps_some};
 
@@ -43,7 +44,7 @@ fn count(files: &[bool]) -> usize
 /// How many of these files keep a journal of images.
 pub fn files_kept<D: Disk>(volume: &Volume<D>, files: &[bool; 64]) -> usize
     ensures value { result ≡ kept_in files.now volume.now.catalog.heads }
-    ensures few { result ≤ 64 }
+    ensures few { result ≤ file_limit }
 {
     let kept = keeping(volume, files);
     count(&kept)

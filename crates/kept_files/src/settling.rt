@@ -1,5 +1,7 @@
 // A settlement with its entries in the journals of the files that keep one.
 ghost use Rattle.std.specs.Prelude.{◌≡◌, ◌≤◌, ◌+◌, ◌-◌, ◌*◌, true, List, Option, OnOk, OnErr, length, if◌then◌else◌};
+ghost use Rattle.block_disk.specs.Sizes.{least_disk_size};
+ghost use Rattle.vms_model.specs.Blocks.{log_start};
 ghost use Rattle.careful_write.specs.Down.{Counts};
 ghost use Rattle.careful_write.specs.State.{IsIdle, IsReady};
 ghost use Rattle.journal_model.specs.Ring.{ring_size};
@@ -43,8 +45,8 @@ pub fn settle_in_files<D: Disk>(
     requires staged { length volume.old.store.touched + 6 * kept_in files.now volume.old.catalog.heads ≤ 450 }
     requires holds { Holds volume.old }
     requires ring { IsRing volume.old.catalog.ru volume.old.store.disk }
-    requires behind { 584 ≤ volume.old.catalog.ru.start }
-    requires least { 4096 ≤ volume.old.store.disk.size }
+    requires behind { log_start ≤ volume.old.catalog.ru.start }
+    requires least { least_disk_size ≤ volume.old.store.disk.size }
     requires room { has_changed ≡ true → volume.old.catalog.ru.end - volume.old.catalog.ru.first + 48 ≤ ring_size volume.old.catalog.ru }
     requires rooms { has_changed ≡ true → AllHaveRoom files.now 48 volume.old.catalog.heads volume.old.store.disk }
     ensures makes { OnOk result ((left : List (Option OpenUnit)) → earliest left ≡ first → SettlesFiles files.now branch.now.tid branch.now.serial ending moment.0 (entry_if has_changed (settled_entry (tid_of branch.now.tid) (serial_of branch.now.serial) (outcome_of outcome) moment.0)) left volume.old volume.new) }

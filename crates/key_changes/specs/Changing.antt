@@ -1,6 +1,7 @@
 -- A change of one key of a file, by the file's head and the records that stand.
 use Rattle.std.specs.Prelude.{◌≡◌, ◌≤◌, ◌+◌, ◌-◌, ◌==◌, ℕ, List, [], ◌∷◌, Bool, true, false, not, Option, Some, None, IfSome, length, nat_lt, take, drop, if◌then◌else◌}
 use Rattle.std.specs.Ordering.{eq_by_cmp}
+use Rattle.vms_model.specs.Limits.{change_limit, key_limit, lock_limit, record_limit}
 use Rattle.change_set.specs.declared.walk.Place.{Place}
 use Rattle.file_base.specs.declared.head.FileHead.{FileHead}
 use Rattle.file_base.specs.declared.head.Organization.{Organization}
@@ -93,11 +94,11 @@ locks_refuse asking file (k ∷ ks) locks = first_cause (held_against asking (ho
 
 -- a unit makes so many changes more
 abbrev pub changes_refused : ℕ → OpenUnit → Option Cause
-changes_refused more u = cause_if (nat_lt 1024 (length u.positions + more)) Changes
+changes_refused more u = cause_if (nat_lt change_limit (length u.positions + more)) Changes
 
 -- keys that nobody holds are locked
 abbrev pub keys_refused : (file : ℕ) → List Key → List Lock → Option Cause
-keys_refused file ks locks = cause_if (nat_lt 4096 (length locks + length (not_locked locks file ks))) Locks
+keys_refused file ks locks = cause_if (nat_lt lock_limit (length locks + length (not_locked locks file ks))) Locks
 
 -- whether a file so organized asks for free buckets: for each new record, and where records are found by a key within them also for one that takes the place
 -- of another
@@ -122,5 +123,5 @@ file_refused h need = cause_if (nat_lt (h.alloc - h.used) need) (FileFull (h.all
 -- place of another in an indexed file holds a key.
 pub record IsFormed (a : Asked) (value : List ℕ) : Type 0 where
   pub key : 1 ≤ length (key_bytes (key_of a.key))
-  pub size : length value ≤ 8160
-  pub within : a.change ≡ Replace → a.head.organization ≡ Indexed → (a.head.key_pos + a.head.key_size ≤ length value) × (1 ≤ a.head.key_size) × (a.head.key_size ≤ 64)
+  pub size : length value ≤ record_limit
+  pub within : a.change ≡ Replace → a.head.organization ≡ Indexed → (a.head.key_pos + a.head.key_size ≤ length value) × (1 ≤ a.head.key_size) × (a.head.key_size ≤ key_limit)

@@ -1,6 +1,7 @@
 // Changes of one key of a file.
 ghost use Rattle.std.specs.Prelude.{◌≡◌, ◌≤◌, ◌+◌, ℕ, List, [], true, None, Some, OnOk, IfOk, IfErr, IfSome, IsSome, length, option_map, unwrap_or, if◌then◌else◌};
 ghost use Rattle.std.specs.Ordering.{eq_by_cmp};
+ghost use Rattle.vms_model.specs.Limits.{key_limit, record_limit};
 ghost use Rattle.records_model.specs.Records.{key_cmp};
 ghost use Rattle.std.specs.Option.{option_and_then, option_copied};
 ghost use Rattle.change_set.specs.Files.{IsPlaced, free_frames};
@@ -31,7 +32,7 @@ use volume_files::{find_record, need_buckets};
 // The key that a record of an indexed file has.
 fn key_within(head: &FileHead, bytes: &[u8]) -> Option<KeyText>
     ensures key { IfSome result (λ key. key ≡ within_said head.now.key_pos head.now.key_size bytes.now) }
-    ensures there { head.now.key_pos + head.now.key_size ≤ length bytes.now → 1 ≤ head.now.key_size → head.now.key_size ≤ 64 → IsSome result }
+    ensures there { head.now.key_pos + head.now.key_size ≤ length bytes.now → 1 ≤ head.now.key_size → head.now.key_size ≤ key_limit → IsSome result }
 {
     let from = usize::from(head.key_pos);
     let to = from + usize::from(head.key_size);
@@ -44,7 +45,7 @@ fn key_within(head: &FileHead, bytes: &[u8]) -> Option<KeyText>
 // Where a record is put that nothing refuses by its form.
 fn key_put(head: &FileHead, key: &Option<Key>, bytes: &[u8]) -> Key
     requires place { place_refused head.now (option_map key_of key.now) ≡ None }
-    requires within { head.now.organization ≡ organization.Indexed → (head.now.key_pos + head.now.key_size ≤ length bytes.now) × (1 ≤ head.now.key_size) × (head.now.key_size ≤ 64) }
+    requires within { head.now.organization ≡ organization.Indexed → (head.now.key_pos + head.now.key_size ≤ length bytes.now) × (1 ≤ head.now.key_size) × (head.now.key_size ≤ key_limit) }
     ensures key { key_of result ≡ put_said head.now.organization head.now (option_map key_of key.now) bytes.now }
     ensures some { 1 ≤ length (key_bytes (key_of result)) }
 {
@@ -67,8 +68,8 @@ fn key_put(head: &FileHead, key: &Option<Key>, bytes: &[u8]) -> Key
 pub fn asked_by(op: &RecordOp, head: &FileHead, value: &[u8]) -> Asked
     requires one { is_of_key op.now ≡ true }
     requires fits { form_refused head.now op.now (length value.now) ≡ None }
-    requires sizes { head.now.organization ≡ organization.Indexed → (1 ≤ head.now.key_size) × (head.now.key_size ≤ 64) }
-    requires size { length value.now ≤ 8160 }
+    requires sizes { head.now.organization ≡ organization.Indexed → (1 ≤ head.now.key_size) × (head.now.key_size ≤ key_limit) }
+    requires size { length value.now ≤ record_limit }
     ensures file { result.file ≡ file_in op.now }
     ensures head { result.head ≡ head.now }
     ensures key { key_of result.key ≡ key_in head.now op.now value.now }
@@ -111,7 +112,7 @@ fn is_text(key: &Key, text: &KeyText) -> bool
 
 // Why a record may not take the place of another: in a sequential file it has another length, in an indexed one another key.
 fn other_refusal(asked: &Asked, old: &[u8], new: &[u8]) -> Option<RecErr>
-    requires within { asked.now.head.organization ≡ organization.Indexed → (asked.now.head.key_pos + asked.now.head.key_size ≤ length new.now) × (1 ≤ asked.now.head.key_size) × (asked.now.head.key_size ≤ 64) }
+    requires within { asked.now.head.organization ≡ organization.Indexed → (asked.now.head.key_pos + asked.now.head.key_size ≤ length new.now) × (1 ≤ asked.now.head.key_size) × (asked.now.head.key_size ≤ key_limit) }
     ensures refuses { option_and_then cause_of result ≡ other_refused_by asked.now.head.organization asked.now.head (key_of asked.now.key) old.now new.now }
     ensures refusal { IfSome result IsRefusal }
 {
@@ -181,7 +182,7 @@ pub fn room_in_file<D: Disk>(
 ) -> Result<(), RecErr>
     requires placed { IsPlaced asked.now.head volume.old.store.disk }
     requires frames { 32 ≤ free_frames volume.old.store.pool }
-    requires size { size ≤ 8160 }
+    requires size { size ≤ record_limit }
     ensures room { OnOk result ((a : List (List ℕ)) → volume.old.store.current ≡ Some a → IsFile asked.now.head → IsLaidOut asked.now.head a → file_refused asked.now.head (need_of asked.now.head a asked.now.change size) ≡ None) }
     ensures same { OnOk result (SameVolume volume.old volume.new) }
     ensures err { IfErr result (λ e. IfRefused e (λ cause. ((a : List (List ℕ)) → volume.old.store.current ≡ Some a → IsFile asked.now.head → IsLaidOut asked.now.head a → file_refused asked.now.head (need_of asked.now.head a asked.now.change size) ≡ Some cause) × SameVolume volume.old volume.new) (λ down. FellIn down volume.old volume.new)) }

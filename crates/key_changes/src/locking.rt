@@ -2,6 +2,7 @@
 ghost use Rattle.std.specs.Prelude.{◌≡◌, ◌≤◌, ◌∷◌, [], true, false, None, Some, IfNone, IfSome, IsSome, length, option_map, is_some};
 ghost use Rattle.vms_model.specs.Keys.{End};
 ghost use Rattle.std.specs.Option.{option_and_then};
+ghost use Rattle.vms_model.specs.Limits.{lock_limit};
 ghost use Rattle.vms_base.specs.Ids.{serial_of};
 ghost use Rattle.vms_base.specs.Keys.{key_of};
 ghost use Rattle.records_model.specs.History.{same_id};
@@ -91,13 +92,13 @@ pub fn free_keys(locks: &Locks, asked: &Asked) -> usize
 
 /// Lets a branch hold a key that no other branch holds, or refuses that, where more keys than may be would be held.
 pub fn hold_key(locks: &mut Locks, file: u8, key: &Key, by: Serial) -> Option<RecErr>
-    requires most { locks.old.most ≡ 4096 }
-    requires few { length locks.old.locks ≤ 4096 }
+    requires most { locks.old.most ≡ lock_limit }
+    requires few { length locks.old.locks ≤ lock_limit }
     requires free { held_against (Some (serial_of by)) (holder locks.old.locks file (key_of key.now)) ≡ None }
     ensures refuses { option_and_then cause_of result ≡ keys_refused file (key_of key.now ∷ []) locks.old.locks }
     ensures refusal { IfSome result IsRefusal }
     ensures holds { IfNone result (locks.new ≡ record locks.old { locks = with_locks (serial_of by) file (key_of key.now ∷ []) locks.old.locks }) }
-    ensures few { length locks.new.locks ≤ 4096 }
+    ensures few { length locks.new.locks ≤ lock_limit }
     ensures same { IsSome result → locks.new ≡ locks.old }
 {
     if locks.count() + locks.count_free(file, &[*key]) > MOST_LOCKS as usize {

@@ -1,6 +1,8 @@
-//! Names, lines, messages and locks, tried.
+//! Names, lines, messages, locks and the words of the command, tried.
 #![tactic(auto)]
 
+#[cfg(test)]
+mod dtm_command_tests;
 #[cfg(test)]
 mod net_wire_tests;
 #[cfg(test)]

@@ -196,7 +196,7 @@ const REFUSALS: [Form<'static>; 35] = [
     Form::NotInitialized,
     Form::FileExists,
     Form::BadParameter,
-    Form::NotMarked,
+    Form::NotForUnits,
     Form::QuotaExceeded(Quota::Branches, 64),
     Form::QuotaExceeded(Quota::Files, 64),
     Form::QuotaExceeded(Quota::Changes, 1_024),

@@ -1,6 +1,7 @@
 -- The log of a node: its slots, what a content tells of them, and what a call stages.
 use Rattle.std.specs.Prelude.{◌≡◌, ℕ, ◌+◌, ◌-◌, ◌<◌, ◌==◌, ◌&&◌, Bool, true, false, List, [], ◌∷◌, length, take, if◌then◌else◌, Option, Some, None, option_map, slice_set, slice_index_or}
 use Rattle.vms_model.specs.Ids.{Id}
+use Rattle.vms_model.specs.Blocks.{log_start}
 use Rattle.vms_base.specs.declared.protocol.LogRec.{LogRec}
 use Rattle.block_disk.specs.Blocks.{block_at, with_number}
 use Rattle.block_disk.specs.Disk.{MayLeave}
@@ -73,7 +74,7 @@ pub record StagesSlot (old new : Slots) (s t : StoreState) (entry : Option LogRe
   pub within : place < length old
   pub slots : new ≡ slice_set old place entry
   pub current : t.current ≡ option_map (λ c. slice_set c (66 + place) (block_of entry)) s.current
-  pub touched : t.touched ≡ with_number (584 + place) s.touched
+  pub touched : t.touched ≡ with_number (log_start + place) s.touched
   pub rest : t ≡ record s { current = t.current; touched = t.touched }
   pub disk : SameDisk s t
 

@@ -3,6 +3,7 @@ use Rattle.std.specs.Prelude.{◌≡◌, ℕ, ◌≤◌, false, List, [], ◌∷
 use Rattle.std.specs.List.{concat}
 use Rattle.vms_model.specs.Names.{label_named}
 use Rattle.vms_model.specs.Ids.{Id, IsId, id_bytes, padded}
+use Rattle.vms_model.specs.Limits.{bid_limit}
 use Rattle.commit_protocol.specs.Messages.{Name, LogRecord, RecordKind, PreparedRecord, CommittedRecord}
 use Rattle.commit_protocol.specs.Table.{nothing_left}
 use Rattle.volume_format.specs.Layout.{Row, row, number_8, laid}
@@ -51,7 +52,7 @@ pub record IsParts (r : LogRecord) : Type 0 where
   pub tid : IsId r.tid
   pub serial : IsId r.serial
   pub waiting : AllIds r.waiting
-  pub few : length r.waiting ≤ 15
+  pub few : length r.waiting ≤ bid_limit
   pub rms : AllNames r.rms
   pub few_rms : length r.rms ≤ 8
 

@@ -1,5 +1,7 @@
 //! The log of a node, as its slots.
 ghost use Rattle.std.specs.Prelude.{◌≡◌, ◌≤◌, ◌<◌, ◌+◌, ◌↔◌, ℕ, true, false, [], length, map, Some, IsSome, IfOk, IfSome, IfNone, OnOk, OnErr, IsErr, option_copied, vec_capacity, vec_len};
+ghost use Rattle.vms_model.specs.Limits.{slot_limit};
+ghost use Rattle.vms_model.specs.Blocks.{log_start};
 ghost use Rattle.vms_base.specs.Ids.{serial_of};
 ghost use Rattle.block_disk.specs.Blocks.{block_at};
 ghost use Rattle.careful_write.specs.Down.{Counts};
@@ -47,6 +49,7 @@ pub struct Log {
 
 impl Model for Log {
     ghost use Rattle.std.specs.Prelude.{◌≤◌, length, map, vec_capacity};
+    ghost use Rattle.vms_model.specs.Limits.{slot_limit};
     ghost use Rattle.log_laws.specs.Slots.{Slots};
     ghost use Rattle.lmcp_log.specs.Log.{slot_of};
 
@@ -54,7 +57,7 @@ impl Model for Log {
 
     ghost view = { λ l. map slot_of l.slots.items };
 
-    ghost invariant = { λ l. (512 ≤ vec_capacity l.slots) × (length l.slots.items ≤ 512) };
+    ghost invariant = { λ l. (slot_limit ≤ vec_capacity l.slots) × (length l.slots.items ≤ slot_limit) };
 }
 
 fn has_serial(slot: &Option<LogRec>, serial: &Serial) -> bool
@@ -118,12 +121,12 @@ fn load_slots<D: Disk>(
     count: u32,
     slots: &mut Vec<Option<LogRec>>,
 ) -> Result<(), Down>
-    requires size { 584 + count ≤ store.old.disk.size }
-    requires count { count ≤ 512 }
-    requires room { 512 ≤ vec_capacity slots.old }
+    requires size { log_start + count ≤ store.old.disk.size }
+    requires count { count ≤ slot_limit }
+    requires room { slot_limit ≤ vec_capacity slots.old }
     ensures count { OnOk result (length slots.new.items ≡ count) }
-    ensures few { length slots.new.items ≤ 512 }
-    ensures room { 512 ≤ vec_capacity slots.new }
+    ensures few { length slots.new.items ≤ slot_limit }
+    ensures room { slot_limit ≤ vec_capacity slots.new }
     ensures reading { OnOk result (IfSome store.old.current (IsReading (map slot_of slots.new.items))) }
     ensures records { (r : LogRecord) → In r (records_in (map slot_of slots.new.items)) → IsRecord r }
     ensures distinct { Distinct (record_serials (records_in (map slot_of slots.new.items))) }
@@ -154,8 +157,8 @@ impl Log {
 
     /// Reads the slots of a volume. After an error the log has the first of them.
     pub fn load<D: Disk>(vol: &mut Volume<D>, log: &mut Log) -> Result<(), Down>
-        requires slots { vol.old.catalog.home.slots ≤ 512 }
-        requires size { 584 + vol.old.catalog.home.slots ≤ vol.old.store.disk.size }
+        requires slots { vol.old.catalog.home.slots ≤ slot_limit }
+        requires size { log_start + vol.old.catalog.home.slots ≤ vol.old.store.disk.size }
         ensures count { OnOk result (length log.new ≡ vol.old.catalog.home.slots) }
         ensures reading { OnOk result (IfSome vol.old.store.current (IsReading log.new)) }
         ensures records { (r : LogRecord) → In r (records_in log.new) → IsRecord r }
@@ -175,7 +178,7 @@ impl Log {
         ensures there { has_slot (serial_of serial.now) self.now ≡ true → IfSome result (IsFirst (is_of (serial_of serial.now)) self.now) }
         ensures free { has_slot (serial_of serial.now) self.now ≡ false → IfSome result (IsFirst is_free self.now) }
         ensures none { IfNone result ((has_slot (serial_of serial.now) self.now ≡ false) × (has_free self.now ≡ false)) }
-        ensures few { length self.now ≤ 512 }
+        ensures few { length self.now ≤ slot_limit }
     {
         match place_of(&self.slots, serial) {
             Some(i) => Some(i),
@@ -187,7 +190,7 @@ impl Log {
     pub fn put<D: Disk>(&mut self, store: &mut Store<D>, r: &LogRec) -> Result<(), LogErr>
         requires form { HasForm (log_record_of r.now).kind (log_record_of r.now).waiting (log_record_of r.now).rms }
         requires room { length store.old.touched ≤ 480 }
-        requires size { 584 + length self.old ≤ store.old.disk.size }
+        requires size { log_start + length self.old ≤ store.old.disk.size }
         ensures slots { OnOk result (self.new ≡ put_in (log_record_of r.now) self.old) }
         ensures staged { OnOk result (StagesSlot self.old self.new store.old store.new (Some (log_record_of r.now))) }
         ensures keeps { OnOk result (IfSome store.old.current (Keeps self.old) → IfSome store.new.current (Keeps self.new)) }
@@ -207,7 +210,7 @@ impl Log {
     /// Stages zeros over the slot of a serial, which is free from then on. Where no slot has it nothing is staged.
     pub fn forget<D: Disk>(&mut self, store: &mut Store<D>, serial: Serial)
         requires room { length store.old.touched ≤ 480 }
-        requires size { 584 + length self.old ≤ store.old.disk.size }
+        requires size { log_start + length self.old ≤ store.old.disk.size }
         ensures slots { self.new ≡ forgotten (serial_of serial) self.old }
         ensures staged { has_slot (serial_of serial) self.old ≡ true → StagesSlot self.old self.new store.old store.new None }
         ensures nothing { has_slot (serial_of serial) self.old ≡ false → store.new ≡ store.old }
@@ -243,7 +246,7 @@ impl Log {
     /// How many slots it has.
     pub fn slots(&self) -> usize
         ensures value { result ≡ length self.now }
-        ensures few { result ≤ 512 }
+        ensures few { result ≤ slot_limit }
     {
         let slots: &[Option<LogRec>] = &self.slots;
         slots.len()
@@ -277,7 +280,7 @@ impl Log {
     /// Lists the prepared records and the committed ones, each in the order of the slots, in place of others.
     pub fn list(&self, prepared: &mut Vec<LogRec>, committed: &mut Vec<LogRec>)
         requires prepared { length (prepared_of (records_in self.now)) ≤ vec_capacity prepared.old }
-        requires committed { 512 ≤ vec_capacity committed.old }
+        requires committed { slot_limit ≤ vec_capacity committed.old }
         ensures prepared { map log_record_of prepared.new.items ≡ prepared_of (records_in self.now) }
         ensures committed { map log_record_of committed.new.items ≡ committed_of (records_in self.now) }
         ensures prepared_room { vec_capacity prepared.old ≤ vec_capacity prepared.new }

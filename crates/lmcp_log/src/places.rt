@@ -4,6 +4,7 @@ ghost use Rattle.std.specs.List.{concat};
 ghost use Rattle.std.specs.Option.{option_map};
 ghost use Rattle.vms_model.specs.Names.{label_named};
 ghost use Rattle.vms_model.specs.Ids.{Id as IdSaid, IsId, id_bytes, padded};
+ghost use Rattle.vms_model.specs.Limits.{bid_limit};
 ghost use Rattle.vms_base.specs.Ids.{id_of, serial_of, until_zero};
 ghost use Rattle.file_base.specs.Bytes.{piece_at};
 ghost use Rattle.volume_format.specs.Layout.{spliced, laid, number_8 as number_8_at};
@@ -61,7 +62,7 @@ fn name_16(rm: &RmName) -> [u8; 16]
 pub(crate) fn serial_places(serials: &SerialList) -> [u8; 240]
     ensures bytes { result ≡ padded 240 (concat (map id_bytes (map serial_of serials.now))) }
     ensures ids { AllIds (map serial_of serials.now) }
-    ensures few { length serials.now ≤ 15 }
+    ensures few { length serials.now ≤ bid_limit }
 {
     let mut places = [0; 240];
     for (i, serial) in serials.items().iter().enumerate() {
@@ -124,7 +125,7 @@ fn name_at(block: &[u8; 512], at: usize) -> Option<RmName>
 
 /// The serials that stand in the first places of a block.
 pub(crate) fn serials_at(block: &[u8; 512], count: u8) -> Option<SerialList>
-    ensures { (ss : List IdSaid) → AllIds ss → length ss ≤ 15 → length ss ≡ count → piece_at block.now 40 240 ≡ padded 240 (concat (map id_bytes ss))
+    ensures { (ss : List IdSaid) → AllIds ss → length ss ≤ bid_limit → length ss ≡ count → piece_at block.now 40 240 ≡ padded 240 (concat (map id_bytes ss))
         → option_map (map serial_of) result ≡ Some ss }
 {
     if count > 15 {

@@ -1,5 +1,6 @@
 -- Records that are given, and their slots.
 use Rattle.std.specs.Prelude.{◌≡◌, ◌≤◌, ◌+◌, ℕ, true, List, [], ◌∷◌, length}
+use Rattle.vms_model.specs.Limits.{record_limit}
 use Rattle.vms_base.specs.Keys.{key_of}
 use Rattle.bucket_page.specs.declared.kind.PageKind.{PageKind}
 use Rattle.bucket_page.specs.Pages.{suits}
@@ -17,7 +18,7 @@ raw_of kind r = raw_for kind r.bytes.items
 
 -- a record whose slot is of the kind and fits a bucket of so many bytes
 pub record IsRaw (kind : PageKind) (size : ℕ) (r : KeyedRecord) : Type 0 where
-  pub short : length r.bytes.items ≤ 8160
+  pub short : length r.bytes.items ≤ record_limit
   pub suit : suits kind (raw_of kind r) ≡ true
   pub fits : 16 + length (raw_of kind r) ≤ size
 

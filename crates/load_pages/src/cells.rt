@@ -1,6 +1,7 @@
 //! The cells of a bucket of a relative file.
 ghost use Rattle.std.specs.Prelude.{◌≡◌, ◌≤◌, ◌<◌, ◌+◌, ◌-◌, ◌*◌, ◌/◌, ◌%◌, ◌∷◌, [], ℕ, List, length, take, drop, map, IfSome, Some, OnSome, IfNone};
 ghost use Rattle.byteorder.specs.Endian.{little_bytes};
+ghost use Rattle.vms_model.specs.Limits.{record_limit};
 ghost use Rattle.file_base.specs.Bytes.{spliced};
 ghost use Rattle.bucket_page.specs.Pages.{u16_bytes};
 ghost use Rattle.relative_file.specs.Cells.{cells_in, cell_of, front_of, empty_bucket};
@@ -60,7 +61,7 @@ fn size_bytes(size: u16) -> [u8; 2]
 // Writes a cell with this record, and zeros behind it.
 fn write_cell(bytes: &mut [u8], at: usize, mrs: usize, value: &[u8])
     requires within { at + mrs + 2 ≤ length bytes.old }
-    requires longest { mrs ≤ 8160 }
+    requires longest { mrs ≤ record_limit }
     requires holds { length value.now ≤ mrs }
     ensures { bytes.new ≡ spliced bytes.old at (cell_of mrs value.now) }
 {

@@ -1,5 +1,7 @@
 //! How many buckets records take.
 ghost use Rattle.std.specs.Prelude.{◌≡◌, ◌≤◌, ◌<◌, ◌+◌, ◌-◌, ◌*◌, ◌/◌, ℕ, List, length, map};
+ghost use Rattle.block_disk.specs.Sizes.{greatest_disk_size};
+ghost use Rattle.vms_model.specs.Limits.{key_limit, record_limit};
 ghost use Rattle.tree_model.specs.Layouts.{index_size};
 ghost use Rattle.tree_model.specs.Loads.{index_over};
 ghost use Rattle.seq_file.specs.Placing.{buckets_for};
@@ -55,7 +57,7 @@ pub fn index_counts(count: u64, fan_out: u64) -> (u64, u64)
 pub fn buckets(head: &FileHead, records: &[KeyedRecord]) -> u64
     requires one { 1 ≤ head.now.bucket }
     requires blocks { head.now.bucket ≤ 16 }
-    requires key { head.now.key_size ≤ 64 }
+    requires key { head.now.key_size ≤ key_limit }
     requires short { AllTell records.now }
     ensures is { result ≡ loaded_buckets head.now (map keyed records.now) }
     ensures most { result ≤ head.now.alloc + 2 * length records.now + 2 }
@@ -87,9 +89,9 @@ fn plain_head(head: &FileHead, used: u32, count: u32) -> FileHead
 fn indexed_head(head: &FileHead, leaves: u64) -> FileHead
     requires one { 1 ≤ head.now.bucket }
     requires blocks { head.now.bucket ≤ 16 }
-    requires key { head.now.key_size ≤ 64 }
+    requires key { head.now.key_size ≤ key_limit }
     requires some { 1 ≤ leaves }
-    requires few { leaves ≤ 65536 }
+    requires few { leaves ≤ greatest_disk_size }
     ensures { result ≡ tree_head head.now leaves }
 {
     let (above, levels) = index_counts(leaves, fan_out(head) as u64);
@@ -106,8 +108,8 @@ pub fn head_of(head: &FileHead, records: &[KeyedRecord]) -> FileHead
     requires one { 1 ≤ head.now.bucket }
     requires blocks { head.now.bucket ≤ 16 }
     requires records { head.now.mrs + 32 ≤ 512 * head.now.bucket }
-    requires most { head.now.mrs ≤ 8160 }
-    requires few { head.now.alloc ≤ 65536 }
+    requires most { head.now.mrs ≤ record_limit }
+    requires few { head.now.alloc ≤ greatest_disk_size }
     requires loadable { AreLoadable head.now (map keyed records.now) }
     ensures { result ≡ loaded_head head.now (map keyed records.now) }
 {

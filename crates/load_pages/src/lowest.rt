@@ -1,5 +1,6 @@
 //! The lowest keys of the leaves of a file that is loaded.
 ghost use Rattle.std.specs.Prelude.{◌≡◌, ◌≤◌, ◌<◌, ◌+◌, ◌-◌, ◌*◌, ◌++◌, ◌∷◌, [], ℕ, List, length, map, IfOk, replicate};
+ghost use Rattle.vms_model.specs.Limits.{key_limit, record_limit};
 ghost use Rattle.file_base.specs.Bytes.{piece_at};
 ghost use Rattle.indexed_file.specs.Chain.{HasKeys, kind_of};
 ghost use Rattle.load_laws.specs.Chains.{packed};
@@ -14,7 +15,7 @@ use vms_base::KeyText;
 // The key of these bytes, 1 to 64 of them.
 fn key_text(bytes: &[u8]) -> KeyText
     requires some { 1 ≤ length bytes.now }
-    requires short { length bytes.now ≤ 64 }
+    requires short { length bytes.now ≤ key_limit }
     ensures { result ≡ bytes.now }
 {
     match KeyText::new(bytes) {
@@ -63,7 +64,7 @@ fn note_record(
     requires one { 1 ≤ head.now.bucket }
     requires blocks { head.now.bucket ≤ 16 }
     requires long { head.now.key_pos + head.now.key_size ≤ length value.now }
-    requires short { length value.now ≤ 8160 }
+    requires short { length value.now ≤ record_limit }
     requires few { used ≤ 16356 }
     ensures fits { IfOk result (λ filled. used + (length value.now + 4) ≤ 512 * head.now.bucket - 16 → (filled ≡ used + (length value.now + 4)) × (keys.new.items ≡ keys.old.items)) }
     ensures over { IfOk result (λ filled. 512 * head.now.bucket - 16 < used + (length value.now + 4) → (filled ≡ length value.now + 4) × (keys.new.items ≡ keys.old.items ++ piece_at value.now head.now.key_pos head.now.key_size ∷ [])) }

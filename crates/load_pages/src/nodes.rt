@@ -1,5 +1,7 @@
 //! Index buckets that are filled, and the keys of the level above them.
 ghost use Rattle.std.specs.Prelude.{◌≡◌, ◌≤◌, ◌<◌, ◌+◌, ◌-◌, ◌*◌, ◌∷◌, [], ℕ, List, length, take, drop};
+ghost use Rattle.block_disk.specs.Sizes.{greatest_disk_size};
+ghost use Rattle.vms_model.specs.Limits.{key_limit};
 ghost use Rattle.index_bucket.specs.Entries.{sizes_of};
 ghost use Rattle.load_model.specs.Nodes.{entries_by};
 ghost use Rattle.load_laws.specs.Pages.{HasEntries};
@@ -14,7 +16,7 @@ use vms_base::KeyText;
 pub fn fan_out(head: &FileHead) -> u32
     requires one { 1 ≤ head.now.bucket }
     requires blocks { head.now.bucket ≤ 16 }
-    requires key { head.now.key_size ≤ 64 }
+    requires key { head.now.key_size ≤ key_limit }
     ensures is { result ≡ (sizes_of head.now).fan_out }
     ensures wide { 3 ≤ result }
     ensures fits { 16 + result * (head.now.key_size + 4) ≤ 512 * head.now.bucket }
@@ -26,11 +28,11 @@ pub fn fan_out(head: &FileHead) -> u32
 pub fn fill_node(head: &FileHead, bytes: &mut [u8], keys: &[KeyText], first: u32)
     requires one { 1 ≤ head.now.bucket }
     requires blocks { head.now.bucket ≤ 16 }
-    requires key { head.now.key_size ≤ 64 }
+    requires key { head.now.key_size ≤ key_limit }
     requires within { 512 * head.now.bucket ≤ length bytes.old }
     requires sized { AllKeys head.now.key_size keys.now }
     requires few { length keys.now ≤ (sizes_of head.now).fan_out }
-    requires numbers { first + length keys.now ≤ 65536 }
+    requires numbers { first + length keys.now ≤ greatest_disk_size }
     ensures { HasEntries head.now (entries_by first keys.now) (take (512 * head.now.bucket) bytes.new) }
 {
     let size = 512 * head.bucket as usize;

@@ -1,6 +1,7 @@
 //! Records as slots of a bucket.
 ghost use Rattle.std.specs.Prelude.{◌↔◌, ◌≡◌, ◌≤◌, ◌<◌, ◌+◌, ◌-◌, ◌*◌, ◌++◌, ◌∷◌, [], ℕ, List, true, false, length, take, drop, map};
 ghost use Rattle.byteorder.specs.Endian.{little_bytes};
+ghost use Rattle.vms_model.specs.Limits.{record_limit};
 ghost use Rattle.bucket_page.specs.Pages.{slots_of, next_of, no_next, joined, suits, u16_bytes, IsPacked, Packs};
 ghost use Rattle.load_laws.specs.Chains.{raw_for, packed, parts_of};
 ghost use Rattle.load_pages.specs.Given.{raw_of, AllRaw};
@@ -24,7 +25,7 @@ fn number_bytes(number: u16) -> [u8; 2]
 
 // Writes a record behind its length, which stands there once more where the kind has rooms. Answers how long the slot is.
 fn write_slot(kind: PageKind, value: &[u8], out: &mut [u8]) -> usize
-    requires short { length value.now ≤ 8160 }
+    requires short { length value.now ≤ record_limit }
     requires within { 8164 ≤ length out.old }
     ensures slot { take result out.new ≡ raw_for kind value.now }
     ensures size { result ≤ 8164 }
@@ -54,7 +55,7 @@ fn write_slot(kind: PageKind, value: &[u8], out: &mut [u8]) -> usize
 fn push_record(kind: PageKind, size: usize, bytes: &mut [u8], count: usize, value: &[u8]) -> bool
     requires within { size ≤ length bytes.old }
     requires small { size ≤ 8192 }
-    requires short { length value.now ≤ 8160 }
+    requires short { length value.now ≤ record_limit }
     requires packed { IsPacked kind size (take size bytes.old) }
     requires counted { count ≡ length (slots_of kind (take size bytes.old)) }
     requires suits { suits kind (raw_for kind value.now) ≡ true }

@@ -18,7 +18,7 @@ use Rattle.commit_protocol.proofs.Serials.{parts_apart, unique_of, in_serial, se
 use Rattle.commit_protocol.proofs.StandingRows.{rows_stand}
 use Rattle.commit_protocol.proofs.Lasting.{new_lasts}
 use Rattle.commit_protocol.proofs.Within.{drop_at, length_drop, in_drop, length_put, length_put_there, length_cut, length_cut_there, length_acknowledge, length_release, length_add}
-use Rattle.log_laws.specs.Slots.{Slots, records_in, has_slot, has_free, replaced, filled, put_in, forgotten, record_effect_in, record_effects_in, slots_after, LogTells, HasSlot, AllTell, size, begun, IsFresh}
+use Rattle.log_laws.specs.Slots.{Slots, records_in, has_slot, has_free, replaced, filled, put_in, forgotten, record_effect_in, record_effects_in, slots_after, LogTells, HasSlot, AllTell, size, branches_added, IsFresh}
 use Rattle.log_laws.proofs.Slotting.{TmApart, slot_of, state_first, state_rest, same_tells, act_tells}
 
 -- Counts.
@@ -311,7 +311,7 @@ quiet_size tm e apart h =
 no_more : (tm : Tm) (e : Event) → HasApartLog tm → BeginsNothing e → size (after (row tm e) tm) ≤ size tm + 0
 no_more tm e apart h = let q = quiet_size tm e apart h in omega arith
 
-pub row_size : (tm : Tm) (e : Event) → HasApartLog tm → size (after (row tm e) tm) ≤ size tm + begun e
+pub row_size : (tm : Tm) (e : Event) → HasApartLog tm → size (after (row tm e) tm) ≤ size tm + branches_added e
 row_size tm (rows.Start t due) apart = let h = length_put (blank t t None Active due) tm.table in omega arith
 row_size tm (rows.Begin t s bid) apart = let h = length_put (blank t s (Some bid) Joining None) tm.table in omega arith
 row_size tm (rows.Changed s) apart = let h = changed_size tm (find_serial s tm.table) (λ b e. find_serial-key s tm.table b e) in omega arith

@@ -138,10 +138,10 @@ IsFresh tm (Begin t s bid) = find (child t s) tm.table ≡ None
 IsFresh tm _ = Unit {0}
 
 -- how many branches an event begins
-abbrev pub begun : Event → ℕ
-begun (Start t due) = 1
-begun (Begin t s bid) = 1
-begun _ = 0
+abbrev pub branches_added : Event → ℕ
+branches_added (Start t due) = 1
+branches_added (Begin t s bid) = 1
+branches_added _ = 0
 
 -- committed records are of that kind
 abbrev pub AreCommitted : List LogRecord → Type 0

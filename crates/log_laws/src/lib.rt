@@ -12,7 +12,7 @@ ghost use Rattle.commit_protocol.specs.Orders.{IsPermuted};
 ghost use Rattle.commit_protocol.specs.Rows.{Event, row};
 ghost use Rattle.commit_protocol.specs.Agreement.{Distinct};
 ghost use Rattle.commit_protocol.specs.Standing.{HasApartLog, Stands};
-ghost use Rattle.log_laws.specs.Slots.{Slots, slots_after, LogTells, HasSlot, AllTell, IsFresh, size, begun, records_in, prepared_of, committed_of, AreCommitted, AreUnwaiting, SlotsAreCounted};
+ghost use Rattle.log_laws.specs.Slots.{Slots, slots_after, LogTells, HasSlot, AllTell, IsFresh, size, branches_added, records_in, prepared_of, committed_of, AreCommitted, AreUnwaiting, SlotsAreCounted};
 ghost use Rattle.log_laws.specs.Handing.{EffectsAreActs};
 
 /// The effects of a row come one by one of its acts, in their order: before each effect the node has done a front of the row's acts.
@@ -28,7 +28,7 @@ pub fn effects_are_acts()
 pub fn slots_follow()
     ensures act { (tm : Tm) (a : Act) (ss : Slots) → HasApartLog tm → Stands tm.table a → HasSlot ss a → LogTells tm ss → LogTells (after_act a tm) (slots_after a tm.records ss) }
     ensures row { (tm : Tm) (e : Event) (ss : Slots) → HasApartLog tm → IsFresh tm e → size tm ≤ length ss → LogTells tm ss → AllTell (row tm e) tm ss }
-    ensures room { (tm : Tm) (e : Event) → HasApartLog tm → size (after (row tm e) tm) ≤ size tm + begun e }
+    ensures room { (tm : Tm) (e : Event) → HasApartLog tm → size (after (row tm e) tm) ≤ size tm + branches_added e }
 {}
 
 /// What a boot reads from the slots, in their order, are the prepared and the committed records of the table that fell, each in some order. A table that begins

@@ -3,6 +3,7 @@ use Rattle.std.proofs.Common.{◌≡◌, ◌⊎◌, ◌+◌, Bool, true, false, 
 use Rattle.std.specs.Prelude.{length, nat_lt}
 use Rattle.vms_model.specs.Ids.{Id}
 use Rattle.vms_model.specs.Transactions.{SyncFail}
+use Rattle.vms_model.specs.Limits.{message_limit}
 use Rattle.transcript_model.specs.Lines as line
 use Rattle.transcript_model.specs.Lines.{Line}
 use Rattle.script_model.specs.Statements.{At, EndTrans}
@@ -14,7 +15,7 @@ use Rattle.commit_protocol.specs.Rows as rows
 use Rattle.commit_protocol.specs.Rows.{all_replied, all_voted, asks, begins_ending, commits_if_all, ending, joined, sends_all, tells, to_each, which_event}
 use Rattle.commit_protocol.specs.World.{In}
 use Rattle.commit_protocol.proofs.Lists.{in_left, in_right}
-use Rattle.run_model.specs.World.{Node, Shared, Tables, acted, message_limit, next_moment, shared_after}
+use Rattle.run_model.specs.World.{Node, Shared, Tables, acted, next_moment, shared_after}
 use Rattle.run_model.specs.Answers as answers
 use Rattle.run_model.specs.Answers.{Row, branch_labelled, is_declared, just, service, table_rows, told_rows}
 use Rattle.run_model.specs.Steps.{lines_of_rows}

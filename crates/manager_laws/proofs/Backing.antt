@@ -25,7 +25,7 @@ use Rattle.run_model.specs.World.{Act, DiskCounts, Durable, IsOpening, MayTurnOu
 use Rattle.run_model.specs.Answers.{Hears, Restarts, Row, Serves, Takes, Task, powers, refused_before_reading, service, task_service}
 use Rattle.run_model.specs.Statements.{RoseAt, Step, stops_at}
 use Rattle.run_model.specs.StepLaws.{is_refusal}
-use Rattle.run_model.specs.Steps.{Choice, Cut, TaskAllowed, TaskEffect, Unpowered, Whole, WithoutMemory, node_after, ready_node, spoilt, task_effect, whole}
+use Rattle.run_model.specs.Steps.{Choice, Cut, TaskAllowed, TaskEffect, Unpowered, Whole, WithoutMemory, node_after, ready_node, task_effect, whole, with_unknown_volume}
 use Rattle.run_model.specs.Transcript.{AreOpening, Entry, Legal, Turn}
 use Rattle.run_model.proofs.CauseLemmas.{refuses_first}
 use Rattle.run_model.proofs.NodeLists.{put_node, some_is}
@@ -266,7 +266,7 @@ made_at w v node slots journal sound step m now = go (ended w v (At node (Init s
             let clash : true ≡ false = sym ((refuses_first w.shared n (Serves (Init slots journal))).says refusal first) ∙ ap is_refusal (sym same) in let no : ⊥ = cc in absurd no
         whole_done o may None first k =
             let r = init_ready once once_keeps w.shared (stops_at node w) n (Serves (Init slots journal)) tt known.kept known.once (unused w.shared n known) slots journal o may first in
-            (slots, journal, spoilt true (powered o (stops_at node w) n), refl, r.1, r.2)
+            (slots, journal, with_unknown_volume true (powered o (stops_at node w) n), refl, r.1, r.2)
 
         done : (c : Choice) → TaskAllowed w.shared (stops_at node w) n (Serves (Init slots journal)) (λ cause. RoseAt w node cause v.disks) c → line.Normal ∷ [] ≡ (task_effect w.shared (stops_at node w) n (Serves (Init slots journal)) c).lines ++ (task_effect w.shared (stops_at node w) n (Serves (Init slots journal)) c).answer ∷ [] →
             IsNew (task_effect w.shared (stops_at node w) n (Serves (Init slots journal)) c).node

@@ -21,7 +21,7 @@ use Rattle.run_model.specs.World.{Act, IsOpening, Node, Shared, Tables, acted, n
 use Rattle.run_model.specs.Operations.{refused_if}
 use Rattle.run_model.specs.Answers as answers
 use Rattle.run_model.specs.Answers.{Hears, LosesLink, Restarts, Row, RunsDown, Serves, Service, Takes, Task, Ticks, boot_rows, has_joined, is_declared, left_active, powers, refused_before_reading, service, table_rows, task_service, unit_key}
-use Rattle.run_model.specs.Steps.{Choice, TaskAllowed, TaskEffect, node_after, node_after_rows, ready_node, spoilt, succeeded, task_effect}
+use Rattle.run_model.specs.Steps.{Choice, TaskAllowed, TaskEffect, node_after, node_after_rows, ready_node, succeeded, task_effect, with_unknown_volume}
 use Rattle.run_model.proofs.TaskLemmas.{Failing, First, Lacking, Late, Outcome, Success, outcome}
 use Rattle.run_model.proofs.Refusing.{not_ready}
 use Rattle.world_laws.specs.Nodes.{IsKeptNode}
@@ -322,7 +322,7 @@ own_declared s stops n t c rises sound may h = go (outcome s stops n t rises c m
     late_on _ on outturn turns first = let no : ⊥ = cc in absurd no
 
     done_on : (t : Task) → powers (task_service t) ≡ true → (outturn : world.Outturn) → world.MayTurnOut n outturn → refused_before_reading s n (task_service t) ≡ None → DeclaredUp (succeeded s (ready_node outturn stops (task_service t) n) (task_service t)).node
-    done_on (Serves (Init slots journal)) on outturn turns first = down_so (acted (world.Formats slots journal) (spoilt true (powered outturn stops n))) (as_ready outturn turns ∙ made_down s n slots journal sound.kept first)
+    done_on (Serves (Init slots journal)) on outturn turns first = down_so (acted (world.Formats slots journal) (with_unknown_volume true (powered outturn stops n))) (as_ready outturn turns ∙ made_down s n slots journal sound.kept first)
     done_on (Serves Boot) on outturn turns first = boots_declared s (ready_node outturn stops (service Boot) n) (service Boot) (λ x m. refl) refl
     done_on Restarts on outturn turns first = boots_declared s (ready_node outturn stops (task_service Restarts) n) (task_service Restarts) (λ x m. refl) refl
     done_on (Serves _) on outturn turns first = let no : ⊥ = cc in absurd no

@@ -9,6 +9,7 @@ use Rattle.vms_model.specs.Ids.{Id}
 use Rattle.vms_model.specs.Keys.{Key as RecordKey}
 use Rattle.vms_model.specs.Transactions as settles
 use Rattle.vms_model.specs.Transactions.{Aborted, Reason}
+use Rattle.vms_model.specs.Limits.{message_limit}
 use Rattle.transcript_model.specs.Lines as line
 use Rattle.transcript_model.specs.Lines.{Line, Cause}
 use Rattle.script_model.specs.Statements.{Statement, At, Deliver, LinkDown, Settle, Reading, Blank, Says, Bad, Request, Init, Boot, Create, SetFile, StartTrans, AddBranch, StartBranch, Records, Direct, EndBranch, EndTrans, AbortTrans, Inquire, DeclareRm, JoinRm, AckEvent, ForgetRm, GetDti, LmcpShow, LmcpDump, Dump, DumpJournal, DumpImages, Backup, Recover, Fuse, Crash, Clock}
@@ -24,10 +25,10 @@ use Rattle.commit_protocol.specs.World.{In}
 use Rattle.commit_protocol.proofs.Lists.{in_left, in_parts, in_right}
 use Rattle.log_laws.specs.Slots.{committed_of, records_in, slot_records, waiting_for}
 use Rattle.run_model.specs.World as world
-use Rattle.run_model.specs.World.{Act, DiskCounts, Node, Outturn, Shared, Tables, World, acted, fallen, find_node, message_limit, next_moment, opened, shared_after, tm_of}
+use Rattle.run_model.specs.World.{Act, DiskCounts, Node, Outturn, Shared, Tables, World, acted, fallen, find_node, next_moment, opened, shared_after, tm_of}
 use Rattle.run_model.specs.Answers as answers
 use Rattle.run_model.specs.Answers.{Hears, LosesLink, Restarts, Row, RunsDown, Serves, Service, Takes, Task, Telling, Ticks, begins, branch_labelled, branch_named, is_declared, just, owed_line, powers, refused_before_reading, service, spoils, table_rows, task_service, told_if, told_rows, touches}
-use Rattle.run_model.specs.Steps.{Choice, Cut, TaskAllowed, TaskEffect, Unpowered, Whole, WithoutMemory, act_begun, begun, lines_of_rows, node_after, node_after_rows, ready_node, rows_if, rows_to_cut, spoilt, task_effect, whole}
+use Rattle.run_model.specs.Steps.{Choice, Cut, TaskAllowed, TaskEffect, Unpowered, Whole, WithoutMemory, act_begun, begun, lines_of_rows, node_after, node_after_rows, ready_node, rows_if, rows_to_cut, task_effect, whole, with_unknown_volume}
 use Rattle.run_model.specs.Statements.{Allowed, Begins, Does, Part, PartEffect, Phase, Phases, RoseAt, Step, begun_with, message_at, part_effect, phases_of, refused_at_once, stops_at}
 use Rattle.run_model.specs.StepLaws.{task_of_part}
 use Rattle.run_model.specs.Transcript.{Legal, Turn}
@@ -303,7 +304,7 @@ module _ (tid serial : Id) (rm : Name) where
 
     module _ (off : powers e ≡ false) where
       same_ready : (o : Outturn) → ready_node o stops e n ≡ n
-      same_ready o = ap (λ b. if b then spoilt (spoils e) (world.powered o stops n) else n) off
+      same_ready o = ap (λ b. if b then with_unknown_volume (spoils e) (world.powered o stops n) else n) off
 
       module _ (up : n.up ≡ true) where
         rests : n.under_way ≡ None

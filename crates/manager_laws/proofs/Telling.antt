@@ -7,6 +7,7 @@ use Rattle.vms_model.specs.Ids.{Id}
 use Rattle.vms_model.specs.Keys.{Key as RecordKey}
 use Rattle.vms_model.specs.Transactions as settles
 use Rattle.vms_model.specs.Transactions.{Reason, Aborted}
+use Rattle.vms_model.specs.Limits.{message_limit}
 use Rattle.transcript_model.specs.Lines as line
 use Rattle.transcript_model.specs.Lines.{Line, Cause}
 use Rattle.script_model.specs.Statements.{Statement, At, Deliver, LinkDown, Settle, Request, Init, Boot, Create, SetFile, StartTrans, AddBranch, StartBranch, Records, Direct, EndBranch, EndTrans, AbortTrans, Inquire, DeclareRm, JoinRm, AckEvent, ForgetRm, GetDti, LmcpShow, LmcpDump, Dump, DumpJournal, DumpImages, Backup, Recover, Fuse, Crash, Clock}
@@ -21,7 +22,7 @@ use Rattle.commit_protocol.specs.Rows.{Event, row}
 use Rattle.commit_protocol.specs.World.{In, undo_all}
 use Rattle.log_laws.specs.Slots.{slot_records}
 use Rattle.run_model.specs.World as world
-use Rattle.run_model.specs.World.{DiskCounts, Label, Node, Settlement, Shared, Tables, World, acted, find_node, message_limit, next_id, next_moment, shared_after, tm_of}
+use Rattle.run_model.specs.World.{DiskCounts, Label, Node, Settlement, Shared, Tables, World, acted, find_node, next_id, next_moment, shared_after, tm_of}
 use Rattle.run_model.specs.Answers as answers
 use Rattle.run_model.specs.Answers.{Hears, LosesLink, Restarts, Row, RunsDown, Serves, Service, Takes, Task, Ticks, begins, boot_rows, branch_labelled, branch_named, is_declared, just, last_line, last_lines, prepared_line, prepared_lines, refused_before_reading, service, table_rows, task_service, told_if, told_rows}
 use Rattle.run_model.specs.Steps.{Choice, Cut, Unpowered, Whole, WithoutMemory, begun, lines_of_rows, ready_node, rows_if, rows_to_cut, task_effect, whole}

@@ -7,6 +7,7 @@ use Rattle.vms_model.specs.Ids.{Id}
 use Rattle.vms_model.specs.Keys.{Key as RecordKey}
 use Rattle.vms_model.specs.Transactions as settles
 use Rattle.vms_model.specs.Transactions.{Aborted, Reason}
+use Rattle.vms_model.specs.Limits.{message_limit}
 use Rattle.transcript_model.specs.Lines as line
 use Rattle.transcript_model.specs.Lines.{Line}
 use Rattle.script_model.specs.Statements.{Request, Init, Boot, Create, SetFile, StartTrans, AddBranch, StartBranch, Records, Direct, EndBranch, EndTrans, AbortTrans, Inquire, DeclareRm, JoinRm, AckEvent, ForgetRm, GetDti, LmcpShow, LmcpDump, Dump, DumpJournal, DumpImages, Backup, Recover, Fuse, Crash, Clock}
@@ -21,7 +22,7 @@ use Rattle.commit_protocol.specs.Rows.{row}
 use Rattle.commit_protocol.specs.World.{In, undo_all}
 use Rattle.log_laws.specs.Slots.{slot_records}
 use Rattle.run_model.specs.World as world
-use Rattle.run_model.specs.World.{Act, Node, Shared, Tables, acted, message_limit, next_moment, shared_after, tm_of}
+use Rattle.run_model.specs.World.{Act, Node, Shared, Tables, acted, next_moment, shared_after, tm_of}
 use Rattle.run_model.specs.Answers as answers
 use Rattle.run_model.specs.Answers.{Hears, LosesLink, Restarts, Row, RunsDown, Serves, Service, Takes, Task, Telling, Ticks, begins, branch_labelled, branch_named, is_declared, just, powers, service, table_rows, task_service, told_if, told_rows}
 use Rattle.run_said.proofs.Passing.{AllPass, acknowledged_passes, append_passes, prepared_passes, released_passes}
@@ -33,7 +34,7 @@ use Rattle.std.proofs.Common.{not, ◌||◌, zero, suc, take}
 use Rattle.run_model.specs.World.{Outturn}
 use Rattle.run_model.specs.Operations.{refused_if}
 use Rattle.run_model.specs.Answers.{refused_before_reading, spoils}
-use Rattle.run_model.specs.Steps.{Choice, Cut, TaskAllowed, Unpowered, Whole, WithoutMemory, begun, lines_of_rows, ready_node, rows_if, rows_to_cut, spoilt, task_effect, whole}
+use Rattle.run_model.specs.Steps.{Choice, Cut, TaskAllowed, Unpowered, Whole, WithoutMemory, begun, lines_of_rows, ready_node, rows_if, rows_to_cut, task_effect, whole, with_unknown_volume}
 use Rattle.world_laws.proofs.AnswerLemmas.{neither, not_refused}
 use Rattle.run_laws.proofs.Keeping.{closes_none}
 use Rattle.run_laws.proofs.Once.{once, once_keeps}
@@ -278,7 +279,7 @@ module _ (s : Shared) (stops : ℕ) (n : Node) (task : Task) (v : RmEvent) (tid 
 
   module _ (off : powers e ≡ false) where
     same_ready : (o : Outturn) → ready_node o stops e n ≡ n
-    same_ready o = ap (λ b. if b then spoilt (spoils e) (world.powered o stops n) else n) off
+    same_ready o = ap (λ b. if b then with_unknown_volume (spoils e) (world.powered o stops n) else n) off
 
     by_rows : refused_before_reading s n e ≡ None → In it (lines_of_rows (e.rows s n)) → TellsByRows s n task it
     by_rows first i = record { first = first; off = off; up = go n.up refl; here = i }

@@ -1,5 +1,6 @@
 -- A new file.
 use Rattle.std.specs.Prelude.{◌≡◌, ℕ, ◌+◌, ◌*◌, ◌≤◌, true, List, false}
+use Rattle.vms_model.specs.Limits.{record_limit}
 use Rattle.file_base.specs.declared.head.FileHead.{FileHead}
 use Rattle.file_base.specs.declared.head.Organization.{Organization}
 use Rattle.file_base.specs.declared.head.Organization.TheVariants as organization
@@ -16,7 +17,7 @@ pub record AreSizes (s : Sizes) : Type 0 where
   pub least_blocks : 1 ≤ s.bucket
   pub most_blocks : s.bucket ≤ 16
   pub least_record : 1 ≤ s.mrs
-  pub most_record : s.mrs ≤ 8160
+  pub most_record : s.mrs ≤ record_limit
   pub record_fits : s.mrs + 32 ≤ 512 * s.bucket
   pub form : is_file_form s.bucket s.mrs (form_of s.form) ≡ true
 

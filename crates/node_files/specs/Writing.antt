@@ -1,5 +1,6 @@
 -- Groups that change a volume.
 use Rattle.std.specs.Prelude.{◌≡◌, ℕ, ◌+◌, List, [], Option, Result, OnOk, OnErr, IfSome, length}
+use Rattle.block_disk.specs.Sizes.{content_start}
 use Rattle.careful_write.specs.declared.down.Down.{Down}
 use Rattle.careful_write.specs.Down.{Counts}
 use Rattle.careful_write.specs.State.{EachWhole, IsEither, IsIdle, Leaves, content}
@@ -14,7 +15,7 @@ pub record Writes {T : Type 0} (r : Result T Down) (after : Option (List (List �
   pub catalog : new.catalog ≡ v
   pub tells : Holds old → IfSome after (TellsCatalog v)
   pub each : IfSome after EachWhole
-  pub sized : IfSome after (λ c. length c + 518 ≡ old.store.disk.size)
+  pub sized : IfSome after (λ c. length c + content_start ≡ old.store.disk.size)
   pub down : OnErr r (Leaves (IsEither (content old.store) after) new.store.disk)
   pub counts : Counts r old.store.disk new.store.disk
   pub ready : OnOk r (new.store.disk.pending ≡ [])

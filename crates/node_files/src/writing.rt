@@ -1,6 +1,9 @@
 //! Records of a volume's files as they are shown, and the groups that change a volume.
 ghost use Rattle.std.specs.Prelude.{◌≡◌, ◌<◌, ◌≤◌, ◌+◌, ◌-◌, ◌*◌, true, false, Some, Ok, length, OnOk, OnErr, IfOk, IfSome, option_map, slice_set};
 ghost use Rattle.std.specs.Option.{option_copied};
+ghost use Rattle.block_disk.specs.Sizes.{content_start, least_disk_size};
+ghost use Rattle.vms_model.specs.Limits.{file_limit};
+ghost use Rattle.vms_model.specs.Blocks.{directory_start, home_block};
 ghost use Rattle.careful_write.specs.Down.{Counts};
 ghost use Rattle.careful_write.specs.State.{EachWhole, IsIdle, IsReady};
 ghost use Rattle.change_set.specs.Files.{AgreesOut, IsPlaced, LeavesOut, fell, free_frames, in_extent};
@@ -53,7 +56,7 @@ pub fn next_record_from<D: Disk>(
 /// What a store reads has 512 bytes a block and reaches to the end of the disk, as it promises where its frames are asked for.
 pub fn blocks_are_whole<D: Disk>(store: &mut Store<D>)
     ensures each { IfSome store.old.current EachWhole }
-    ensures sized { IfSome store.old.current (λ c. length c + 518 ≡ store.old.disk.size) }
+    ensures sized { IfSome store.old.current (λ c. length c + content_start ≡ store.old.disk.size) }
     ensures same { store.new ≡ store.old }
 {
     let _pool = store.pool();
@@ -96,10 +99,10 @@ pub fn copy_records<D: Disk>(
     requires target { AreBlocks start (head.now.alloc * head.now.bucket) volume.old.store.disk }
     requires apart { AreApart head.now.start start (head.now.alloc * head.now.bucket) }
     requires idle { IsIdle volume.old.store }
-    ensures copies { OnOk result (CopiesTo (head.now.start - 518) (start - 518) (head.now.alloc * head.now.bucket) volume.old.store.current volume.new.store.current) }
+    ensures copies { OnOk result (CopiesTo (head.now.start - content_start) (start - content_start) (head.now.alloc * head.now.bucket) volume.old.store.current volume.new.store.current) }
     ensures each { OnOk result (IfSome volume.new.store.current EachWhole) }
     ensures idle { OnOk result (IsIdle volume.new.store) }
-    ensures down { OnErr result (LeavesOut (is_within (start - 518) (head.now.alloc * head.now.bucket)) volume.old.store.current volume.new.store.disk) }
+    ensures down { OnErr result (LeavesOut (is_within (start - content_start) (head.now.alloc * head.now.bucket)) volume.old.store.current volume.new.store.disk) }
     ensures counts { Counts result volume.old.store.disk volume.new.store.disk }
     ensures pool { volume.new.store.pool ≡ volume.old.store.pool }
     ensures catalog { volume.new.catalog ≡ volume.old.catalog }
@@ -116,11 +119,11 @@ pub fn copy_records<D: Disk>(
 
 /// Writes the directory block of a file number, and all that is staged, in one group.
 pub fn write_head<D: Disk>(volume: &mut Volume<D>, file: u8, head: &FileHead) -> Result<(), Down>
-    requires file { file < 64 }
+    requires file { file < file_limit }
     requires ready { IsReady volume.old.store }
-    requires size { 4096 ≤ volume.old.store.disk.size }
+    requires size { least_disk_size ≤ volume.old.store.disk.size }
     requires room { length volume.old.store.touched ≤ 480 }
-    ensures { Writes result (with_block (519 + file) (head_block_of head.now) volume.old.store).current (record volume.old.catalog { heads = slice_set volume.old.catalog.heads file (Some head.now) }) volume.old volume.new }
+    ensures { Writes result (with_block (directory_start + file) (head_block_of head.now) volume.old.store).current (record volume.old.catalog { heads = slice_set volume.old.catalog.heads file (Some head.now) }) volume.old volume.new }
 {
     let Ok(()) = volume.stage_head(file, head) else {
         unreachable!()
@@ -132,9 +135,9 @@ pub fn write_head<D: Disk>(volume: &mut Volume<D>, file: u8, head: &FileHead) ->
 /// Writes the home block, and all that is staged, in one group.
 pub fn write_home<D: Disk>(volume: &mut Volume<D>, home: &Home) -> Result<(), Down>
     requires ready { IsReady volume.old.store }
-    requires size { 4096 ≤ volume.old.store.disk.size }
+    requires size { least_disk_size ≤ volume.old.store.disk.size }
     requires room { length volume.old.store.touched ≤ 480 }
-    ensures { Writes result (with_block 518 (home_block_of home.now) volume.old.store).current (record volume.old.catalog { home = home.now }) volume.old volume.new }
+    ensures { Writes result (with_block home_block (home_block_of home.now) volume.old.store).current (record volume.old.catalog { home = home.now }) volume.old volume.new }
 {
     let Ok(()) = volume.stage_home(home) else {
         unreachable!()

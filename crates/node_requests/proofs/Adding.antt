@@ -3,6 +3,7 @@ use Rattle.std.proofs.Common.{◌≡◌, ℕ, List, [], ◌∷◌, Bool, true, f
 use Rattle.std.specs.Prelude.{not, ◌&&◌}
 use Rattle.std.specs.Option.{option_and_then}
 use Rattle.std.proofs.lemmas.Bool.{and_from, leb-false, lt-ltb}
+use Rattle.vms_model.specs.Limits.{bid_limit}
 use Rattle.commit_protocol.specs.Allowed.{may_authorise, there_is}
 use Rattle.commit_protocol.specs.Rows as rows
 use Rattle.commit_protocol.specs.Table.{Branch, find, find_serial, first}
@@ -15,11 +16,11 @@ use Rattle.run_said.specs.Said.{line_said, refused_by_lines, request_said}
 use Rattle.said_steps.specs.Answers.{is_served}
 use Rattle.run_model.specs.Operations.{first_of, refused_if}
 use Rattle.run_model.specs.World.{Draws, Node, Shared, acted}
-use Rattle.run_model.specs.Answers.{bid_limit, branch_labelled, in_state, is_first_active, made_label, more_bids, new_label, service, unsettled, unsettled_label}
+use Rattle.run_model.specs.Answers.{branch_labelled, in_state, is_first_active, made_label, more_bids, new_label, service, unsettled, unsettled_label}
 use Rattle.world_laws.specs.Nodes.{RowsKeepUp}
 use Rattle.run_shared.specs.Sharing.{IsShared, SharedState}
 use Rattle.node_table.specs.Running.{KeepsUp, TellsRows}
-use Rattle.node_table.specs.Standing.{IsUp, StandsUp, Up}
+use Rattle.node_table.specs.Standing.{IsUp, Up, UpRepresents}
 use Rattle.node_requests.specs.Labelled.{branch_in, made_in, unsettled_in}
 use Rattle.node_requests.specs.Requests.{DoesRequest, node_up}
 use Rattle.node_requests.specs.Running.{name_of}
@@ -58,7 +59,7 @@ module _ (label other new : List ℕ) (clock : ℕ) (r : Up) (sh : SharedState) 
     unrefused : refused_by_lines (said_shared sh) (node_up (name_of r)) (AddBranch label other new) ≡ None
     unrefused = by_lines ∙ (λ i. first_of (made i) (fresh i))
 
-    branch_early : (s : Shared) (n : Node) → StandsUp clock r n → IsShared sh s → (o : Option Branch) → branch_in (name_of r) label sh.labels r.tm.table ≡ o → (service (AddBranch label other new)).refused_before_reading s n ≡ first_of (unsettled o) (in_state is_first_active o)
+    branch_early : (s : Shared) (n : Node) → UpRepresents clock r n → IsShared sh s → (o : Option Branch) → branch_in (name_of r) label sh.labels r.tm.table ≡ o → (service (AddBranch label other new)).refused_before_reading s n ≡ first_of (unsettled o) (in_state is_first_active o)
     branch_early s n h share o found = (λ i. first_of ((made_is clock r sh s n h share label ∙ made) i) (first_of ((new_is clock r sh s n h share new ∙ fresh) i) (first_of (unsettled_label s n label) (in_state is_first_active (branch_labelled s n label)))))
         ∙ (λ i. first_of (unsettled ((branch_is clock r sh s n h share label ∙ found) i)) (in_state is_first_active ((branch_is clock r sh s n h share label ∙ found) i)))
 
@@ -84,7 +85,7 @@ module _ (label other new : List ℕ) (clock : ℕ) (r : Up) (sh : SharedState) 
             (λ s n h share kept. (λ i. first_of ((branch_early s n h share (Some x) found ∙ ap (λ (t : Bool). refused_if (not t) line.WrongState) first) i) (option_and_then more_bids ((branch_is clock r sh s n h share label ∙ found) i)))
             ∙ ap (λ (t : Bool). refused_if t (line.QuotaExceeded line.Bids bid_limit)) full)
 
-        module _ (few : nat_le bid_limit (length x.bids) ≡ false) (rows_keep_up : RowsKeepUp) (draws : (n : Node) → StandsUp clock r n → StandsUp clock (with_drawn r) (acted Draws n)) (after_up : Up) (after : SharedState) where
+        module _ (few : nat_le bid_limit (length x.bids) ≡ false) (rows_keep_up : RowsKeepUp) (draws : (n : Node) → UpRepresents clock r n → UpRepresents clock (with_drawn r) (acted Draws n)) (after_up : Up) (after : SharedState) where
           abbrev pub labelled_so : Id → SharedState
           labelled_so id = record sh { labels = record { name = new; node = other; tid = x.key.tid; bid = Some id; serial = None } ∷ sh.labels }
 

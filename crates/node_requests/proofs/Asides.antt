@@ -17,13 +17,13 @@ use Rattle.run_model.specs.World as world
 use Rattle.run_model.specs.World.{Node, Volatile, tm_of}
 use Rattle.row_laws.specs.May.{IsTold}
 use Rattle.recovery_units.specs.State.{AreOfBranches, IsInOrder, IsKept, UnitsState}
-use Rattle.recovery_units.specs.Uses.{Goes, ImagesGrow}
+use Rattle.recovery_units.specs.Uses.{DiskAdvances, ImagesGrow}
 use Rattle.world_laws.specs.Running.{IsDrawn}
 use Rattle.file_requests.specs.Serving.{KeepsStored, SameStored}
 use Rattle.file_requests.proofs.Reading.{kept_still}
 use Rattle.node_table.specs.Growing.{end_to_come, groups_left, moment_to_come}
 use Rattle.node_table.specs.Serving.{DoesService, ServiceAt}
-use Rattle.node_table.specs.Standing.{AreInDoubt, Follows, IsUp, NamesPrepared, StandsUp, Stored, Up, standing}
+use Rattle.node_table.specs.Standing.{AreInDoubt, Follows, IsUp, NamesPrepared, Stored, Up, UpRepresents, unsettled_serials}
 use Rattle.node_table.proofs.Rows.{goes_same}
 use Rattle.node_requests.specs.Requests.{HasMoved, KeepsRequest}
 
@@ -109,13 +109,13 @@ drawn_more name boot drawn more k h = (
   ],
 )
 
-pub stands_aside : (clock : ℕ) (old : Up) (new : Stored) (more : ℕ) (n m : Node) → new.in_doubt ≡ old.stored.in_doubt → StandsUp clock old n → IsAside n m more → IsKept new.units new.volume m → StandsUp clock (record { stored = new; tm = old.tm; drawn = old.drawn + more; declared = old.declared }) m
+pub stands_aside : (clock : ℕ) (old : Up) (new : Stored) (more : ℕ) (n m : Node) → new.in_doubt ≡ old.stored.in_doubt → UpRepresents clock old n → IsAside n m more → IsKept new.units new.volume m → UpRepresents clock (record { stored = new; tm = old.tm; drawn = old.drawn + more; declared = old.declared }) m
 stands_aside clock old new more n m doubts h aside kept = record {
   stands = record {
     kept = kept;
     table = (λ i. record { node = aside.name i; table = aside.branches i; records = aside.records i }) ∙ h.stands.table;
     clock_is = aside.clock ∙ h.stands.clock_is;
-    doubt = (λ i. standing (aside.preparation i) (aside.branches i)) ∙ h.stands.doubt ∙ sym doubts;
+    doubt = (λ i. unsettled_serials (aside.preparation i) (aside.branches i)) ∙ h.stands.doubt ∙ sym doubts;
     names = subst (λ ks. NamesPrepared ks m.volatile.branches) (sym aside.preparation) (subst (λ bs. NamesPrepared n.volatile.preparation bs) (sym aside.branches) h.stands.names);
     up = aside.up ∙ h.stands.up;
     was_up = aside.was_up ∙ h.stands.was_up;
@@ -129,7 +129,7 @@ stands_aside clock old new more n m doubts h aside kept = record {
 }
 
 -- what is stored is the same but for reads
-pub stands_still : (clock : ℕ) (old : Up) (new : Stored) (n : Node) → SameStored old.stored new → StandsUp clock old n → StandsUp clock (record { stored = new; tm = old.tm; drawn = old.drawn; declared = old.declared }) n
+pub stands_still : (clock : ℕ) (old : Up) (new : Stored) (n : Node) → SameStored old.stored new → UpRepresents clock old n → UpRepresents clock (record { stored = new; tm = old.tm; drawn = old.drawn; declared = old.declared }) n
 stands_still clock old new n same h = record {
   stands = record {
     kept = kept_still old.stored new same n h.stands.kept;

@@ -5,6 +5,7 @@ use Rattle.std.specs.Borrow.{Bor}
 use Rattle.std.specs.Option.{option_map}
 use Rattle.std.specs.List.{list_any}
 use Rattle.std.proofs.lemmas.Bool.{leb-false, lt-ltb}
+use Rattle.vms_model.specs.Limits.{branch_limit}
 use Rattle.commit_protocol.specs.Allowed.{has_room}
 use Rattle.commit_protocol.specs.Effects.{effects_of}
 use Rattle.commit_protocol.specs.Messages.{LogRecord}
@@ -15,9 +16,8 @@ use Rattle.commit_protocol.specs.World.{In}
 use Rattle.commit_protocol.proofs.Lists.{in_left, in_parts, in_right, told_id}
 use Rattle.vms_model.specs.Ids.{Id}
 use Rattle.transcript_model.specs.Lines as line
-use Rattle.log_laws.specs.Slots.{begun}
+use Rattle.log_laws.specs.Slots.{branches_added}
 use Rattle.run_model.specs.Operations.{first_of, refused_if}
-use Rattle.run_model.specs.Answers.{branch_limit}
 use Rattle.tm_table.specs.Restarts.{record_of}
 use Rattle.node_table.specs.Running.{IsFreshOf}
 use Rattle.node_table.specs.Standing.{IsUp, Up}

@@ -15,7 +15,7 @@ use Rattle.run_model.specs.Answers.{Telling, adds, all_acted, all_shared, author
 use Rattle.world_laws.specs.Nodes.{IsKeptNode}
 use Rattle.world_laws.specs.Running.{IsDrawn}
 use Rattle.run_shared.specs.Sharing.{IsShared, SharedState}
-use Rattle.node_table.specs.Standing.{StandsUp, Up}
+use Rattle.node_table.specs.Standing.{Up, UpRepresents}
 use Rattle.node_requests.specs.Labelled.{branch_in, made_in}
 use Rattle.node_requests.specs.Running.{name_of}
 use Rattle.node_requests.specs.Transacting.{due_in, more_in, new_in}
@@ -36,7 +36,7 @@ not_next name boot drawn id h e = elim h.1 [
   | inr here ↦ (let q : id.seq ≡ drawn + 1 = ap (λ (i : Id). i.seq) e in let l = here.1 in omega (arith, q, l))
 ]
 
-module _ (clock : ℕ) (r : Up) (sh : SharedState) (s : Shared) (n : Node) (h : StandsUp clock r n) (share : IsShared sh s) where
+module _ (clock : ℕ) (r : Up) (sh : SharedState) (s : Shared) (n : Node) (h : UpRepresents clock r n) (share : IsShared sh s) where
   pub next_is : next_id n ≡ id_next r
   next_is = λ i. record { node = h.stands.kept.name i; boot = h.stands.kept.has.home.boot i; seq = h.drawn i + 1 }
 
@@ -57,14 +57,14 @@ module _ (clock : ℕ) (r : Up) (sh : SharedState) (s : Shared) (n : Node) (h : 
   more_is = (λ i. more_in (record r { tm = h.stands.table i; stored = record r.stored { units = record r.stored.units { log = h.stands.kept.log i } } }))
 
 -- START_TRANS.
-module _ (clock : ℕ) (r : Up) (sh : SharedState) (label : List ℕ) (seconds : Option ℕ) (draws : (n : Node) → StandsUp clock r n → StandsUp clock (with_drawn r) (acted Draws n)) where
+module _ (clock : ℕ) (r : Up) (sh : SharedState) (label : List ℕ) (seconds : Option ℕ) (draws : (n : Node) → UpRepresents clock r n → UpRepresents clock (with_drawn r) (acted Draws n)) where
   abbrev pub start_label : Label
   start_label = record { name = label; node = name_of r; tid = id_next r; bid = None; serial = Some (id_next r) }
 
   abbrev pub start_acts : Node → List Act
   start_acts n = Draws ∷ Labels (record { name = label; node = n.name; tid = next_id n; bid = None; serial = Some (next_id n) }) ∷ []
 
-  pub start_told : new_in label sh.labels ≡ None → seconds_refused seconds ≡ None → more_in r ≡ None → (s : Shared) (n : Node) → StandsUp clock r n → IsShared sh s → IsKeptNode s n
+  pub start_told : new_in label sh.labels ≡ None → seconds_refused seconds ≡ None → more_in r ≡ None → (s : Shared) (n : Node) → UpRepresents clock r n → IsShared sh s → IsKeptNode s n
       → IsToldBy (StartTrans label seconds) (start_acts n) (rows.Start (id_next r) (due_in clock seconds)) clock (with_drawn r) (record sh { labels = start_label ∷ sh.labels }) s n
   start_told made given room s n h share kept = record {
     early = ap (λ x. first_of x (seconds_refused seconds)) (new_is clock r sh s n h share label ∙ made) ∙ given;
@@ -76,14 +76,14 @@ module _ (clock : ℕ) (r : Up) (sh : SharedState) (label : List ℕ) (seconds :
   }
 
 -- ADD_BRANCH.
-module _ (clock : ℕ) (r : Up) (sh : SharedState) (label other new : List ℕ) (draws : (n : Node) → StandsUp clock r n → StandsUp clock (with_drawn r) (acted Draws n)) (x : Branch) (found : branch_in (name_of r) label sh.labels r.tm.table ≡ Some x) where
+module _ (clock : ℕ) (r : Up) (sh : SharedState) (label other new : List ℕ) (draws : (n : Node) → UpRepresents clock r n → UpRepresents clock (with_drawn r) (acted Draws n)) (x : Branch) (found : branch_in (name_of r) label sh.labels r.tm.table ≡ Some x) where
   abbrev pub add_label : Label
   add_label = record { name = new; node = other; tid = x.key.tid; bid = Some (id_next r); serial = None }
 
   abbrev pub add_acts : Node → List Act
   add_acts n = Draws ∷ Labels (record { name = new; node = other; tid = x.key.tid; bid = Some (next_id n); serial = None }) ∷ []
 
-  pub add_told : made_in (name_of r) label sh.labels ≡ None → new_in new sh.labels ≡ None → is_first_active x ≡ true → more_bids x ≡ None → (s : Shared) (n : Node) → StandsUp clock r n → IsShared sh s → IsKeptNode s n
+  pub add_told : made_in (name_of r) label sh.labels ≡ None → new_in new sh.labels ≡ None → is_first_active x ≡ true → more_bids x ≡ None → (s : Shared) (n : Node) → UpRepresents clock r n → IsShared sh s → IsKeptNode s n
       → IsToldBy (AddBranch label other new) (add_acts n) (rows.Authorise x.key.tid (id_next r)) clock (with_drawn r) (record sh { labels = add_label ∷ sh.labels }) s n
   add_told made fresh first few s n h share kept =
       let b = branch_is clock r sh s n h share label ∙ found in
@@ -99,11 +99,11 @@ module _ (clock : ℕ) (r : Up) (sh : SharedState) (label other new : List ℕ) 
       }
 
 -- START_BRANCH.
-module _ (clock : ℕ) (r : Up) (sh : SharedState) (label : List ℕ) (draws : (n : Node) → StandsUp clock r n → StandsUp clock (with_drawn r) (acted Draws n)) (l : Label) (bid : Id) (found : labelled (name_of r) label sh.labels ≡ Some l) (authorised_by : l.bid ≡ Some bid) where
+module _ (clock : ℕ) (r : Up) (sh : SharedState) (label : List ℕ) (draws : (n : Node) → UpRepresents clock r n → UpRepresents clock (with_drawn r) (acted Draws n)) (l : Label) (bid : Id) (found : labelled (name_of r) label sh.labels ≡ Some l) (authorised_by : l.bid ≡ Some bid) where
   abbrev pub begin_acts : Node → List Act
   begin_acts n = Draws ∷ Numbers l.name (next_id n) ∷ []
 
-  pub begin_told : branch_in (name_of r) label sh.labels r.tm.table ≡ None → more_in r ≡ None → (s : Shared) (n : Node) → StandsUp clock r n → IsShared sh s → IsKeptNode s n
+  pub begin_told : branch_in (name_of r) label sh.labels r.tm.table ≡ None → more_in r ≡ None → (s : Shared) (n : Node) → UpRepresents clock r n → IsShared sh s → IsKeptNode s n
       → IsToldBy (StartBranch label) (begin_acts n) (rows.Begin l.tid (id_next r) bid) clock (with_drawn r) (record sh { labels = with_serial l.name (id_next r) sh.labels }) s n
   begin_told none room s n h share kept =
       let there : labelled n.name label s.labels ≡ Some l = (λ i. labelled (h.stands.kept.name i) label (share.labels i)) ∙ found in

@@ -4,7 +4,7 @@ use Rattle.run_model.specs.World.{Draws, Node, acted}
 use Rattle.world_laws.specs.Running.{IsDrawn}
 use Rattle.vms_model.specs.Ids.{Id}
 use Rattle.recovery_units.specs.Laws.{KeepsNodes}
-use Rattle.node_table.specs.Standing.{IsUp, StandsUp, Up}
+use Rattle.node_table.specs.Standing.{IsUp, Up, UpRepresents}
 use Rattle.node_requests.proofs.Drawing.{with_drawn}
 
 drawn_more : (name : List ℕ) (boot drawn : ℕ) (id : Id) → IsDrawn name boot drawn id → IsDrawn name boot (drawn + 1) id
@@ -16,7 +16,7 @@ drawn_more name boot drawn id h = (
   ],
 )
 
-pub draws : KeepsNodes → (clock : ℕ) (r : Up) (n : Node) → StandsUp clock r n → StandsUp clock (with_drawn r) (acted Draws n)
+pub draws : KeepsNodes → (clock : ℕ) (r : Up) (n : Node) → UpRepresents clock r n → UpRepresents clock (with_drawn r) (acted Draws n)
 draws law clock r n h =
     let k = h.stands in
     record {

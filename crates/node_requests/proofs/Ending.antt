@@ -19,7 +19,7 @@ use Rattle.said_steps.specs.Answers.{is_served}
 use Rattle.run_model.specs.World.{Node, Shared, tm_of}
 use Rattle.run_model.specs.Answers.{end_answer, is_first_active, missing, service, unreplied}
 use Rattle.run_shared.specs.Sharing.{IsShared, SharedState}
-use Rattle.node_table.specs.Standing.{StandsUp, Up}
+use Rattle.node_table.specs.Standing.{Up, UpRepresents}
 use Rattle.node_requests.specs.Labelled.{branch_in}
 use Rattle.node_requests.specs.Running.{name_of}
 use Rattle.node_requests.specs.Transacting.{ended_in, ending_in, ending_line}
@@ -95,7 +95,7 @@ ended_left t es bs o e f = ap (λ (p : Option Line). elim p [ Some k ↦ k | Non
 -- The world's answer is that.
 module _ (label : List ℕ) (clock : ℕ) (r : Up) (sh : SharedState) (x : Branch) (found : branch_in (name_of r) label sh.labels r.tm.table ≡ Some x) (holds : is_first_active x ≡ true) where
   pub end_is : (es : List Effect) (tm : Tm) → es ≡ effects_of (row r.tm (rows.EndTrans x.key.tid)) r.tm.records → tm ≡ after (row r.tm (rows.EndTrans x.key.tid)) r.tm
-      → (s : Shared) (n : Node) → StandsUp clock r n → IsShared sh s → (service (EndTrans label)).answer s n ≡ ended_in x.key.tid es tm.table
+      → (s : Shared) (n : Node) → UpRepresents clock r n → IsShared sh s → (service (EndTrans label)).answer s n ≡ ended_in x.key.tid es tm.table
   end_is es tm effects table s n h share =
       let there = first_serial r.tm.table x (named_again (ByLabel label) r sh.labels x found) (first_parts x holds).0 in
       ap (λ (o : Option Branch). elim o [ Some b ↦ end_answer (row (tm_of n) (rows.EndTrans b.key.tid)) line.Normal | None ↦ line.Normal ]) (branch_is clock r sh s n h share label ∙ found)

@@ -18,7 +18,7 @@ use Rattle.world_laws.specs.Nodes.{IsKeptNode}
 use Rattle.file_requests.specs.Serving.{DoesThere, IsReady, SameStored, ServesFile}
 use Rattle.node_table.specs.Growing.{end_to_come, moment_to_come}
 use Rattle.node_table.specs.Serving.{DoesService, service_at}
-use Rattle.node_table.specs.Standing.{IsUp, StandsUp, Stored, Up}
+use Rattle.node_table.specs.Standing.{IsUp, Stored, Up, UpRepresents}
 use Rattle.node_requests.specs.Requests.{DoesRequest, KeepsRequest, MayServe, SaysRequest, ServesUp, node_up}
 use Rattle.node_standing.specs.Standing.{disk_of}
 use Rattle.node_standing.specs.Telling.{said_shared}
@@ -30,12 +30,12 @@ pub early_of : (clock : ℕ) (r : Up) → MayServe clock r → IsEarly r.stored.
 early_of clock r m = (let e = m.low in let g = m.moment in record { low = omega arith; moment = omega arith; images = omega arith })
 
 -- a node of the world that is up is ready for a request on files
-pub ready_of : (clock : ℕ) (r : Up) (s : world.Shared) (n : Node) → StandsUp clock r n → IsKeptNode s n → IsReady r.stored n
+pub ready_of : (clock : ℕ) (r : Up) (s : world.Shared) (n : Node) → UpRepresents clock r n → IsKeptNode s n → IsReady r.stored n
 ready_of clock r s n h k = record { kept = h.stands.kept; up = (k.runs h.stands.up).0 }
 
 -- the same stands for the node, with no id drawn
-drawn_as : (clock : ℕ) (old : Up) (new : Stored) (m : Node) → StandsUp clock (record { stored = new; tm = old.tm; drawn = old.drawn + 0; declared = old.declared }) m → StandsUp clock (record { stored = new; tm = old.tm; drawn = old.drawn; declared = old.declared }) m
-drawn_as clock old new m h = subst (λ (d : ℕ). StandsUp clock (record { stored = new; tm = old.tm; drawn = d; declared = old.declared }) m) (omega arith) h
+drawn_as : (clock : ℕ) (old : Up) (new : Stored) (m : Node) → UpRepresents clock (record { stored = new; tm = old.tm; drawn = old.drawn + 0; declared = old.declared }) m → UpRepresents clock (record { stored = new; tm = old.tm; drawn = old.drawn; declared = old.declared }) m
+drawn_as clock old new m h = subst (λ (d : ℕ). UpRepresents clock (record { stored = new; tm = old.tm; drawn = d; declared = old.declared }) m) (omega arith) h
 
 -- A request that was served over what is stored, whose rows change files alone.
 pub serves_files : {T : Type 0} (r : Result T Down) (request : Request) (clock : ℕ) (old : Up) (new : Stored) (shared : SharedState) (a b : Shown) → MayServe clock old → IsStillRequest old.stored.volume.catalog.home.node request → refused_by_lines (said_shared shared) (node_up old.stored.volume.catalog.home.node) request ≡ None
@@ -48,8 +48,8 @@ serves_files {T} r request clock old new shared a b may still none touched rows 
   serves = λ s n stands share kept.
       let q = service_at (service request) s n in
       let new' : Up = record { stored = new; tm = old.tm; drawn = old.drawn; declared = old.declared } in
-      let same : SameStored old.stored new → StandsUp clock new' n × IsShared shared s = λ e. (stands_still clock old new n e stands, share) in
-      service_as r q s n a b (SameStored old.stored new) (StandsUp clock new' n × IsShared shared s) (λ t. t ≡ s) (IsShared shared) (IsKept new.units new.volume) (StandsUp clock new') (disk_of new')
+      let same : SameStored old.stored new → UpRepresents clock new' n × IsShared shared s = λ e. (stands_still clock old new n e stands, share) in
+      service_as r q s n a b (SameStored old.stored new) (UpRepresents clock new' n × IsShared shared s) (λ t. t ≡ s) (IsShared shared) (IsKept new.units new.volume) (UpRepresents clock new') (disk_of new')
       same
       (λ t e. subst (IsShared shared) (sym e) share)
       (λ k. drawn_as clock old new (node_after_rows q.rows n) (stands_aside clock old new 0 n (node_after_rows q.rows n) h.keeps.in_doubt stands (aside_rows q.rows n (rows s n)) k))

@@ -22,7 +22,7 @@ use Rattle.run_model.specs.Answers.{authorised, branch_labelled, in_state, more_
 use Rattle.world_laws.specs.Nodes.{RowsKeepUp}
 use Rattle.run_shared.specs.Sharing.{IsShared, SharedState}
 use Rattle.node_table.specs.Running.{KeepsUp, TellsRows}
-use Rattle.node_table.specs.Standing.{IsUp, StandsUp, Up}
+use Rattle.node_table.specs.Standing.{IsUp, Up, UpRepresents}
 use Rattle.node_requests.specs.Labelled.{branch_in, made_in, unsettled_in}
 use Rattle.node_requests.specs.Requests.{DoesRequest, node_up}
 use Rattle.node_requests.specs.Running.{name_of}
@@ -83,7 +83,7 @@ module _ (label : List ℕ) (clock : ℕ) (r : Up) (sh : SharedState) (a b : Sho
     unrefused : refused_by_lines (said_shared sh) (node_up (name_of r)) (StartBranch label) ≡ None
     unrefused = by_lines ∙ labelled_free (name_of r) label sh.labels l found
 
-    label_early : (s : Shared) (n : Node) → StandsUp clock r n → IsShared sh s → (o : Option Branch) → branch_in (name_of r) label sh.labels r.tm.table ≡ o → (service (StartBranch label)).refused_before_reading s n ≡ first_of (authorised l) (in_state (λ y. false) o)
+    label_early : (s : Shared) (n : Node) → UpRepresents clock r n → IsShared sh s → (o : Option Branch) → branch_in (name_of r) label sh.labels r.tm.table ≡ o → (service (StartBranch label)).refused_before_reading s n ≡ first_of (authorised l) (in_state (λ y. false) o)
     label_early s n h share o at =
         let there : labelled n.name label s.labels ≡ Some l = (λ i. labelled (h.stands.kept.name i) label (share.labels i)) ∙ found in
         λ i. first_of (elim (there i) [ Some x ↦ None | None ↦ Some line.BadLabel ]) (first_of (elim (there i) [ Some x ↦ authorised x | None ↦ None ]) (in_state (λ y. false) ((branch_is clock r sh s n h share label ∙ at) i)))
@@ -95,7 +95,7 @@ module _ (label : List ℕ) (clock : ℕ) (r : Up) (sh : SharedState) (a b : Sho
         ∙ ap (λ (o : Option Id). first_of (elim o [ Some bid ↦ None | None ↦ Some line.NoSuchBranchId ]) (in_state (λ y. false) (branch_in (name_of r) label sh.labels r.tm.table))) none))
 
     module _ (bid : Id) (authorised_by : l.bid ≡ Some bid) where
-      state_early : (s : Shared) (n : Node) → StandsUp clock r n → IsShared sh s → (o : Option Branch) → branch_in (name_of r) label sh.labels r.tm.table ≡ o → (service (StartBranch label)).refused_before_reading s n ≡ in_state (λ y. false) o
+      state_early : (s : Shared) (n : Node) → UpRepresents clock r n → IsShared sh s → (o : Option Branch) → branch_in (name_of r) label sh.labels r.tm.table ≡ o → (service (StartBranch label)).refused_before_reading s n ≡ in_state (λ y. false) o
       state_early s n h share o at = label_early s n h share o at ∙ ap (λ (p : Option Id). first_of (elim p [ Some y ↦ None | None ↦ Some line.NoSuchBranchId ]) (in_state (λ y. false) o)) authorised_by
 
       -- its branch has begun
@@ -114,7 +114,7 @@ module _ (label : List ℕ) (clock : ℕ) (r : Up) (sh : SharedState) (a b : Sho
         begin_taken since shows taken = refuses (StartBranch label) clock r sh a b line.WrongState up since shows (λ s. refl) (λ s. refl) (λ refusal e. absurd (no_line refusal (sym unrefused ∙ e))) (λ e. refl)
             (λ s n h share kept. absurd (next_free clock r sh s n h share kept taken))
 
-        module _ (room : more_in r ≡ None) (rows_keep_up : RowsKeepUp) (draws : (n : Node) → StandsUp clock r n → StandsUp clock (with_drawn r) (acted Draws n)) (new : Up) (after : SharedState) where
+        module _ (room : more_in r ≡ None) (rows_keep_up : RowsKeepUp) (draws : (n : Node) → UpRepresents clock r n → UpRepresents clock (with_drawn r) (acted Draws n)) (new : Up) (after : SharedState) where
           abbrev pub numbered_so : Id → SharedState
           numbered_so serial = record sh { labels = with_serial l.name serial sh.labels }
 

@@ -15,7 +15,7 @@ use Rattle.run_model.specs.Steps.{lines_of_rows, node_after_rows, shared_after_r
 use Rattle.world_laws.specs.Nodes.{IsKeptNode}
 use Rattle.recovery_units.specs.Laws.{KeepsNodes}
 use Rattle.run_shared.specs.Sharing.{IsShared, SharedState}
-use Rattle.node_table.specs.Standing.{IsUp, StandsUp, Up}
+use Rattle.node_table.specs.Standing.{IsUp, Up, UpRepresents}
 use Rattle.node_table.specs.Telling.{IsOfWork}
 use Rattle.node_requests.specs.Requests.{DoesRequest, node_up, said_up}
 use Rattle.node_requests.specs.Running.{name_of}
@@ -34,7 +34,7 @@ pub record Looks (request : Request) (s : Shared) (n m : Node) (ls : List Line) 
 abbrev pub with_declared : List Name → Up → Up
 with_declared rms r = record r { declared = rms }
 
-pub stands_declared : KeepsNodes → (clock : ℕ) (r : Up) (rms : List Name) (n : Node) → StandsUp clock r n → StandsUp clock (with_declared rms r) (acted (Declares rms) n)
+pub stands_declared : KeepsNodes → (clock : ℕ) (r : Up) (rms : List Name) (n : Node) → UpRepresents clock r n → UpRepresents clock (with_declared rms r) (acted (Declares rms) n)
 stands_declared law clock r rms n h =
     let k = h.stands in
     record {
@@ -56,7 +56,7 @@ stands_declared law clock r rms n h =
 module _ (request : Request) (clock : ℕ) (r : Up) (rms : List Name) (sh : SharedState) (a b : Shown) (ls : List Line) (l : Line) where
   pub looks : IsUp r → Since a b → Emits a (ls ++ l ∷ []) b → AllByRecursion IsOfWork ls → ((s : Said) → line_said l s ≡ s) → ((s : Said) → lines_said ls s ≡ s) → ((s : Said) → request_said (name_of r) request l s ≡ s)
       → refused_by_lines (said_shared sh) (node_up (name_of r)) request ≡ None → is_served l ≡ true
-      → ((s : Shared) (n : Node) → StandsUp clock r n → IsShared sh s → IsKeptNode s n → (m : Node) × Looks request s n m ls l × StandsUp clock (with_declared rms r) m) → DoesRequest {T = Unit {0}} (Ok tt) request clock r (with_declared rms r) sh sh a b
+      → ((s : Shared) (n : Node) → UpRepresents clock r n → IsShared sh s → IsKeptNode s n → (m : Node) × Looks request s n m ls l × UpRepresents clock (with_declared rms r) m) → DoesRequest {T = Unit {0}} (Ok tt) request clock r (with_declared rms r) sh sh a b
   looks up since shows work quiet still said unrefused served here = record {
     keeps = record {
       up = record { follows = up.follows; within = up.within };
@@ -85,7 +85,7 @@ module _ (request : Request) (clock : ℕ) (r : Up) (rms : List Name) (sh : Shar
       allowed = w.1.allowed;
       shows = subst (λ x. Emits a (x ++ (service request).answer s n ∷ []) b) (sym w.1.lines) (subst (λ x. Emits a (ls ++ x ∷ []) b) (sym w.1.answer) shows);
       shared = subst (IsShared sh) (sym w.1.shared) share;
-      node = subst (StandsUp clock (with_declared rms r)) (sym w.1.node) w.2;
+      node = subst (UpRepresents clock (with_declared rms r)) (sym w.1.node) w.2;
     }));
   }
 

@@ -16,7 +16,7 @@ use Rattle.world_laws.specs.Nodes.{IsKeptNode}
 use Rattle.recovery_units.specs.Laws.{KeepsNodes}
 use Rattle.run_shared.specs.Sharing.{IsShared, SharedState}
 use Rattle.participants.specs.Refusing.{refused_declaration, refused_forgetting}
-use Rattle.node_table.specs.Standing.{IsUp, StandsUp, Up}
+use Rattle.node_table.specs.Standing.{IsUp, Up, UpRepresents}
 use Rattle.node_requests.specs.Managers.{known_at, made_of, serial_in}
 use Rattle.node_requests.specs.Requests.{DoesRequest, node_up}
 use Rattle.node_requests.specs.Running.{name_of}
@@ -35,7 +35,7 @@ first_end None = refl
 
 -- A manager is declared.
 module _ (rm : Name) (clock : ℕ) (r : Up) (sh : SharedState) (a b : Shown) where
-  declares_is : (s : Shared) (n : Node) → StandsUp clock r n → first_of ((service (DeclareRm rm)).refused_before_reading s n) ((service (DeclareRm rm)).refused_after_reading s n) ≡ refused_declaration rm r.declared
+  declares_is : (s : Shared) (n : Node) → UpRepresents clock r n → first_of ((service (DeclareRm rm)).refused_before_reading s n) ((service (DeclareRm rm)).refused_after_reading s n) ≡ refused_declaration rm r.declared
   declares_is s n h = ap (refused_declaration rm) h.declared
 
   pub declare_refuses : (l : Line) → IsUp r → Since a b → Emits a (l ∷ []) b → ((s : Said) → line_said l s ≡ s) → is_served l ≡ true → refused_declaration rm r.declared ≡ Some l → DoesRequest {T = Unit {0}} (Ok tt) (DeclareRm rm) clock r r sh sh a b
@@ -62,7 +62,7 @@ module _ (rm : Name) (clock : ℕ) (r : Up) (sh : SharedState) (a b : Shown) whe
 
 -- A manager is declared no more.
 module _ (rm : Name) (clock : ℕ) (r : Up) (sh : SharedState) (a b : Shown) where
-  forgets_is : (s : Shared) (n : Node) → StandsUp clock r n → IsShared sh s → first_of ((service (ForgetRm rm)).refused_before_reading s n) None ≡ refused_forgetting rm r.declared r.tm.table
+  forgets_is : (s : Shared) (n : Node) → UpRepresents clock r n → IsShared sh s → first_of ((service (ForgetRm rm)).refused_before_reading s n) None ≡ refused_forgetting rm r.declared r.tm.table
   forgets_is s n h share = first_end (refused_forgetting rm n.volatile.declared n.volatile.branches) ∙ (λ i. refused_forgetting rm (h.declared i) (branches_are clock r sh s n h share i))
 
   pub forget_refuses : (l : Line) → IsUp r → Since a b → Emits a (l ∷ []) b → ((s : Said) → line_said l s ≡ s) → is_served l ≡ true → refused_forgetting rm r.declared r.tm.table ≡ Some l → DoesRequest {T = Unit {0}} (Ok tt) (ForgetRm rm) clock r r sh sh a b

@@ -11,7 +11,7 @@ use Rattle.commit_protocol.specs.Rows as rows
 use Rattle.commit_protocol.specs.Rows.{Event, note_row, with_manager}
 use Rattle.commit_protocol.specs.Table.{Active, Branch, Ending, Joining, Prepared, State, Tm, Voting, find_serial}
 use Rattle.commit_protocol.proofs.Lists.{find_serial-serial, told_id}
-use Rattle.log_laws.specs.Slots.{begun}
+use Rattle.log_laws.specs.Slots.{branches_added}
 use Rattle.vms_model.specs.Ids.{Id}
 use Rattle.emitter_model.specs.Emitting.{Emits, Shown, Since}
 use Rattle.transcript_model.specs.Lines as line
@@ -30,7 +30,7 @@ use Rattle.participants.specs.declared.refusals.RmErr.{RmErr}
 use Rattle.participants.specs.declared.refusals.RmErr.TheVariants as error
 use Rattle.tm_table.specs.Restarts.{record_of}
 use Rattle.node_table.specs.Running.{KeepsUp, TellsRows}
-use Rattle.node_table.specs.Standing.{IsUp, StandsUp, Up}
+use Rattle.node_table.specs.Standing.{IsUp, Up, UpRepresents}
 use Rattle.node_table.specs.Telling.{uses_disk}
 use Rattle.node_requests.specs.Labelled.{made_in}
 use Rattle.node_requests.specs.Managers.{known_at, made_of, serial_in, unheard_in, without_serial}
@@ -63,7 +63,7 @@ heard o q = elim o [ Some b ↦ Unsettled b | None ↦ elim q [ Some r ↦ Recor
 pub known_serial_is : (serial : Id) (n : Node) (tm : Tm) → tm_of n ≡ tm → known_serial n serial ≡ known_in tm serial
 known_serial_is serial n tm same = (λ i. heard (branch_found serial n.volatile.branches i) (record_found serial n.volatile.records i)) ∙ ap (λ (t : Tm). known_in t serial) same
 
-module _ (clock : ℕ) (r : Up) (sh : SharedState) (s : Shared) (n : Node) (h : StandsUp clock r n) (share : IsShared sh s) where
+module _ (clock : ℕ) (r : Up) (sh : SharedState) (s : Shared) (n : Node) (h : UpRepresents clock r n) (share : IsShared sh s) where
   pub serial_is : (who : Named) → serial_named s n who ≡ serial_in who sh.labels r
   serial_is (ByLabel label) = λ i. serial_labelled (name_is clock r sh s n h share i) label (share.labels i)
   serial_is (BySerial serial) = refl
@@ -139,7 +139,7 @@ module _ (request : Request) (who : Named) (clock : ℕ) (r : Up) (sh : SharedSt
 
     -- what is known of it refuses the statement
     pub error_refuses : (l : Line) → IsUp r → Since a b → Emits a (l ∷ []) b → ((s : Said) → line_said l s ≡ s) → is_served l ≡ true
-        → ((s : Shared) (n : Node) → StandsUp clock r n → IsShared sh s → first_of ((service request).refused_before_reading s n) ((service request).refused_after_reading s n) ≡ Some l) → DoesRequest {T = Unit {0}} (Ok tt) request clock r r sh sh a b
+        → ((s : Shared) (n : Node) → UpRepresents clock r n → IsShared sh s → first_of ((service request).refused_before_reading s n) ((service request).refused_after_reading s n) ≡ Some l) → DoesRequest {T = Unit {0}} (Ok tt) request clock r r sh sh a b
     error_refuses l up since shows quiet served refused =
         refuses request clock r sh a b l up since shows quiet (λ s. still (name_of r) l s) (λ refusal e. absurd (no_line refusal (sym unrefused ∙ e))) (λ e. served) (λ s n h share kept. refused s n h share)
 
@@ -160,7 +160,7 @@ module _ (who : Named) (rm : Name) (reply : Reply) (clock : ℕ) (r : Up) (sh : 
   ack_unheard_refuses l up since shows unheard = serial_refuses (AckEvent who rm reply) who clock r sh a b refl (λ name x s. refl) l up since shows unheard (λ s n h. ack_unheard n rm reply (made_name s n who) (serial_named s n who) l h)
 
   module _ (serial : Id) (found : serial_in who sh.labels r ≡ Some serial) (made : made_of who (name_of r) sh.labels ≡ None) where
-    ack_refused : (s : Shared) (n : Node) → StandsUp clock r n → IsShared sh s → first_of ((service (AckEvent who rm reply)).refused_before_reading s n) None ≡ refused_reply rm reply r.declared (known_in r.tm serial)
+    ack_refused : (s : Shared) (n : Node) → UpRepresents clock r n → IsShared sh s → first_of ((service (AckEvent who rm reply)).refused_before_reading s n) None ≡ refused_reply rm reply r.declared (known_in r.tm serial)
     ack_refused s n h share =
         let k : known s n who ≡ known_in r.tm serial = known_is clock r sh s n h share who ∙ ap (known_at r.tm) found in
         (λ i. first_of (first_of ((made_name_is who clock r sh s n h share ∙ made) i) (first_of (known_branch (k i)) (first_of (undeclared_is clock r sh s n h share rm i) (first_of (known_manager rm (k i)) (awaited_reply rm reply (k i)))))) None)
@@ -170,14 +170,14 @@ module _ (who : Named) (rm : Name) (reply : Reply) (clock : ℕ) (r : Up) (sh : 
     ack_refuses l up since shows quiet served refused = error_refuses (AckEvent who rm reply) who clock r sh a b refl (λ name x s. refl) made l up since shows quiet served (λ s n h share. ack_refused s n h share ∙ refused)
 
     module _ (none : refused_reply rm reply r.declared (known_in r.tm serial) ≡ None) where
-      ack_early : (s : Shared) (n : Node) → StandsUp clock r n → IsShared sh s → (service (AckEvent who rm reply)).refused_before_reading s n ≡ None
+      ack_early : (s : Shared) (n : Node) → UpRepresents clock r n → IsShared sh s → (service (AckEvent who rm reply)).refused_before_reading s n ≡ None
       ack_early s n h share = go ((service (AckEvent who rm reply)).refused_before_reading s n) (ack_refused s n h share ∙ none)
         where
           go : (o : Option Line) → first_of o None ≡ None → o ≡ None
           go None e = refl
           go (Some l) e = absurd (no_line l (sym e))
 
-      ack_told : (s : Shared) (n : Node) → StandsUp clock r n → IsShared sh s → IsKeptNode s n → IsToldBy (AckEvent who rm reply) [] (rows.Replied serial rm reply) clock r sh s n
+      ack_told : (s : Shared) (n : Node) → UpRepresents clock r n → IsShared sh s → IsKeptNode s n → IsToldBy (AckEvent who rm reply) [] (rows.Replied serial rm reply) clock r sh s n
       ack_told s n h share kept = record {
         early = ack_early s n h share;
         late = refl;
@@ -219,10 +219,10 @@ module _ (label : List ℕ) (rm : Name) (clock : ℕ) (r : Up) (sh : SharedState
   join_unheard_refuses l up since shows unheard = serial_refuses (JoinRm label rm) (ByLabel label) clock r sh a b refl (λ name x s. refl) l up since shows unheard (λ s n h. join_unheard n rm (made_name s n (ByLabel label)) (serial_labelled n.name label s.labels) l h)
 
   module _ (serial : Id) (found : serial_in (ByLabel label) sh.labels r ≡ Some serial) (made : made_in (name_of r) label sh.labels ≡ None) where
-    join_branch : (s : Shared) (n : Node) → StandsUp clock r n → IsShared sh s → branch_labelled s n label ≡ find_serial serial r.tm.table
+    join_branch : (s : Shared) (n : Node) → UpRepresents clock r n → IsShared sh s → branch_labelled s n label ≡ find_serial serial r.tm.table
     join_branch s n h share = ap (option_and_then (λ (i : Id). find_branch i n.volatile.branches)) (serial_is clock r sh s n h share (ByLabel label) ∙ found) ∙ branch_found serial n.volatile.branches ∙ ap (find_serial serial) (branches_are clock r sh s n h share)
 
-    join_refused : (s : Shared) (n : Node) → StandsUp clock r n → IsShared sh s → first_of ((service (JoinRm label rm)).refused_before_reading s n) ((service (JoinRm label rm)).refused_after_reading s n) ≡ refused_joining rm r.declared (find_serial serial r.tm.table)
+    join_refused : (s : Shared) (n : Node) → UpRepresents clock r n → IsShared sh s → first_of ((service (JoinRm label rm)).refused_before_reading s n) ((service (JoinRm label rm)).refused_after_reading s n) ≡ refused_joining rm r.declared (find_serial serial r.tm.table)
     join_refused s n h share =
         let x : branch_labelled s n label ≡ find_serial serial r.tm.table = join_branch s n h share in
         (λ i. first_of (first_of ((made_name_is (ByLabel label) clock r sh s n h share ∙ made) i) (first_of (unsettled (x i)) (first_of (undeclared_is clock r sh s n h share rm i) (in_state (is_joinable rm) (x i))))) (option_and_then more_managers (x i)))
@@ -240,7 +240,7 @@ module _ (label : List ℕ) (rm : Name) (clock : ℕ) (r : Up) (sh : SharedState
       is_there (Some x) e = (x, refl)
       is_there None e = absurd (no_line line.NoSuchTransaction (sym e))
 
-      join_told : (s : Shared) (n : Node) → StandsUp clock r n → IsShared sh s → IsKeptNode s n → IsToldBy (JoinRm label rm) [] (rows.JoinRm serial rm) clock r sh s n
+      join_told : (s : Shared) (n : Node) → UpRepresents clock r n → IsShared sh s → IsKeptNode s n → IsToldBy (JoinRm label rm) [] (rows.JoinRm serial rm) clock r sh s n
       join_told s n h share kept =
           let w = is_there (find_serial serial r.tm.table) none in
           let two = first_two ((service (JoinRm label rm)).refused_before_reading s n) ((service (JoinRm label rm)).refused_after_reading s n) (join_refused s n h share ∙ none) in

@@ -17,7 +17,7 @@ use Rattle.run_model.specs.World.{find_branch, with_changed}
 use Rattle.unit_table.specs.Units.{OpenUnit}
 use Rattle.recovery_units.specs.State.{AreLater, AreOfBranches, IsLater, IsOfBranch, are_there, has_changed_by, unit_of}
 use Rattle.node_table.specs.Growing.{groups_left}
-use Rattle.node_table.specs.Standing.{AreInDoubt, NamesPrepared, standing}
+use Rattle.node_table.specs.Standing.{AreInDoubt, NamesPrepared, unsettled_serials}
 use Rattle.node_table.proofs.Branching.{told_serial}
 use Rattle.node_table.proofs.Noting.{changed_after}
 use Rattle.node_requests.specs.Requests.{noted, with_noted}
@@ -89,7 +89,7 @@ found_alike k (b ∷ bs) (c ∷ cs) h = ap (λ (x : Key). is_some (if same_key x
     go true rest = refl
     go false rest = rest
 
-pub standing_alike : (ks : List Key) (bs cs : List Branch) → AreAlike bs cs → standing ks cs ≡ standing ks bs
+pub standing_alike : (ks : List Key) (bs cs : List Branch) → AreAlike bs cs → unsettled_serials ks cs ≡ unsettled_serials ks bs
 standing_alike [] bs cs h = refl
 standing_alike (k ∷ ks) bs cs h = λ i. if found_alike k bs cs h i then k.serial ∷ standing_alike ks bs cs h i else standing_alike ks bs cs h i
 

@@ -29,13 +29,13 @@ use Rattle.record_operations.specs.declared.ops.RecordOp.{RecordOp}
 use Rattle.record_operations.specs.declared.ops.RecordOp.TheVariants as change
 use Rattle.records_model.specs.History.{same_id}
 use Rattle.unit_table.specs.Units.{OpenUnit}
-use Rattle.recovery_units.specs.Calls.{IsAsked, IsAskedAlone, alone_early, alone_late, change_said, direct_act, read_said}
+use Rattle.recovery_units.specs.Calls.{IsAsked, IsAskedAlone, alone_refused_after_reading, alone_refused_before_reading, change_said, direct_act, read_said}
 use Rattle.recovery_units.specs.State.{AreOfBranches, IsInOrder, IsKept, unit_of}
 use Rattle.file_requests.specs.Acting.{ActsAlone, ActsFor, LooksAlone, StaysUp, alone_service, branch_service}
 use Rattle.file_requests.specs.Serving.{KeepsStored, SameStored}
 use Rattle.file_requests.proofs.Operating.{alone_row, looks_row}
 use Rattle.node_table.specs.Growing.{end_to_come, groups_left, moment_to_come}
-use Rattle.node_table.specs.Standing.{AreInDoubt, Follows, IsUp, NamesPrepared, StandsUp, Stored, Up, standing}
+use Rattle.node_table.specs.Standing.{AreInDoubt, Follows, IsUp, NamesPrepared, Stored, Up, UpRepresents, unsettled_serials}
 use Rattle.node_requests.specs.Operating.{DoesUp, OperatesAlone, OperatesFor}
 use Rattle.node_requests.specs.Requests.{HasMoved, KeepsRequest, MayServe, noted, with_noted}
 use Rattle.node_standing.specs.Standing.{disk_of}
@@ -139,18 +139,18 @@ module _ (serial : Id) (f : ℕ) (op : Operation) (clock : ℕ) (old : Up) (new 
       since = h.keeps.since;
     }
 
-    module _ (n : Node) (name : List ℕ) (file : File) (branch : Branch) (stands : StandsUp clock old n) (q : IsAsked serial f old.stored.units old.stored.volume n name file branch) where
+    module _ (n : Node) (name : List ℕ) (file : File) (branch : Branch) (stands : UpRepresents clock old n) (q : IsAsked serial f old.stored.units old.stored.volume n name file branch) where
       -- refused, all is as it was but for reads
-      refused_behind : SameStored old.stored new → StandsUp clock behind n
+      refused_behind : SameStored old.stored new → UpRepresents clock behind n
       refused_behind e =
           let same : with_noted serial old.stored.units.begun n.volatile.branches ≡ n.volatile.branches = noted_same serial old.stored.units.begun n.volatile.branches branch q.kept.branches q.branch q.unprepared in
           let table : n.volatile.branches ≡ old.tm.table = ap (λ (t : Tm). t.table) stands.stands.table in
           let noted_is : with_noted serial old.stored.units.begun old.tm.table ≡ old.tm.table = subst (λ bs. with_noted serial old.stored.units.begun bs ≡ bs) table same in
           let tm_is : noted serial new.units.begun old.tm ≡ old.tm = ap (λ (s : Stored). noted serial s.units.begun old.tm) e ∙ ap (λ bs. record old.tm { table = bs }) noted_is in
-          subst (λ (t : Tm). StandsUp clock (record { stored = new; tm = t; drawn = old.drawn; declared = old.declared }) n) (sym tm_is) (stands_still clock old new n e stands)
+          subst (λ (t : Tm). UpRepresents clock (record { stored = new; tm = t; drawn = old.drawn; declared = old.declared }) n) (sym tm_is) (stands_still clock old new n e stands)
 
       -- done, by what it changed
-      done_behind : (cs : List Change) (ks : List keys.Key) → IsKept new.units new.volume (world.acted (operation_act branch name cs ks) n) → StandsUp clock behind (world.acted (operation_act branch name cs ks) n)
+      done_behind : (cs : List Change) (ks : List keys.Key) → IsKept new.units new.volume (world.acted (operation_act branch name cs ks) n) → UpRepresents clock behind (world.acted (operation_act branch name cs ks) n)
       done_behind [] ks kept = record {
         stands = record {
           kept = kept;
@@ -178,7 +178,7 @@ module _ (serial : Id) (f : ℕ) (op : Operation) (clock : ℕ) (old : Up) (new 
               kept = kept;
               table = (λ i. record (tm_of n) { table = is i }) ∙ ap (noted serial new.units.begun) stands.stands.table;
               clock_is = stands.stands.clock_is;
-              doubt = ap (standing n.volatile.preparation) is ∙ standing_alike n.volatile.preparation bs (with_noted serial new.units.begun bs) (alike_noted serial new.units.begun bs) ∙ stands.stands.doubt ∙ sym h.keeps.in_doubt;
+              doubt = ap (unsettled_serials n.volatile.preparation) is ∙ standing_alike n.volatile.preparation bs (with_noted serial new.units.begun bs) (alike_noted serial new.units.begun bs) ∙ stands.stands.doubt ∙ sym h.keeps.in_doubt;
               names = subst (λ xs. NamesPrepared n.volatile.preparation xs) (sym is) (names_alike n.volatile.preparation bs (with_noted serial new.units.begun bs) (alike_noted serial new.units.begun bs) stands.stands.names);
               up = stands.stands.up;
               was_up = stands.stands.was_up;
@@ -194,7 +194,7 @@ module _ (serial : Id) (f : ℕ) (op : Operation) (clock : ℕ) (old : Up) (new 
       keeps = keeps_behind;
       replies = h.keeps.replies;
       acts = λ s n name file branch stands q stays.
-          service_as {T = Unit {0}} (Ok tt) (branch_service n branch name file op) s n a b (SameStored old.stored new) (StandsUp clock behind n) (λ t. t ≡ s) (λ t. t ≡ s) (IsKept new.units new.volume) (StandsUp clock behind) (disk_of behind)
+          service_as {T = Unit {0}} (Ok tt) (branch_service n branch name file op) s n a b (SameStored old.stored new) (UpRepresents clock behind n) (λ t. t ≡ s) (λ t. t ≡ s) (IsKept new.units new.volume) (UpRepresents clock behind) (disk_of behind)
           (refused_behind n name file branch stands q)
           (λ t e. e)
           (done_behind n name file branch stands q (changes_of file op) (keys_held file op))
@@ -226,7 +226,7 @@ module _ (f : ℕ) (op : Operation) (clock : ℕ) (old : Up) (new : Stored) (a b
   at_ids drawn = record { stored = new; tm = old.tm; drawn = drawn; declared = old.declared }
 
   -- all is as it was but for reads
-  as_before : (n : Node) → SameStored old.stored new → StandsUp clock old n → StandsUp clock (at_ids old.drawn) n
+  as_before : (n : Node) → SameStored old.stored new → UpRepresents clock old n → UpRepresents clock (at_ids old.drawn) n
   as_before n e stands = stands_still clock old new n e stands
 
   -- a record was looked at
@@ -236,7 +236,7 @@ module _ (f : ℕ) (op : Operation) (clock : ℕ) (old : Up) (new : Stored) (a b
     replies = h.keeps.replies;
     acts = λ s n name file stands q stays. elim (h.acts s n name file q) [
       | inl x ↦ inl (record { refusal = x.refusal; is = x.is; shows = x.shows; same = as_before n h.same stands })
-      | inr x ↦ inr (record { allowed = x.allowed; shows = x.shows; shared = x.shared; node = subst (λ rs. StandsUp clock (at_ids old.drawn) (node_after_rows rs n)) (sym (looks_row n name file op read)) (as_before n h.same stands) })
+      | inr x ↦ inr (record { allowed = x.allowed; shows = x.shows; shared = x.shared; node = subst (λ rs. UpRepresents clock (at_ids old.drawn) (node_after_rows rs n)) (sym (looks_row n name file op read)) (as_before n h.same stands) })
     ];
   }
   looked read (Err d) h = record {
@@ -247,7 +247,7 @@ module _ (f : ℕ) (op : Operation) (clock : ℕ) (old : Up) (new : Stored) (a b
 
   -- a change was made, or not
   module _ (id : Id) (id_is : id ≡ record { node = old.stored.volume.catalog.home.node; boot = old.stored.volume.catalog.home.boot; seq = old.drawn + 1 }) where
-    next_is : (n : Node) → StandsUp clock old n → next_id n ≡ id
+    next_is : (n : Node) → UpRepresents clock old n → next_id n ≡ id
     next_is n stands = (λ i. record { node = stands.stands.kept.name i; boot = stands.stands.kept.has.home.boot i; seq = stands.drawn i + 1 }) ∙ sym id_is
 
     pub changed_stopped : (d : Down) → ActsAlone (Err d) id clock f op old.stored new a b → OperatesAlone {T = Unit {0}} (Err d) f op clock old (at_ids old.drawn) a b
@@ -295,10 +295,10 @@ module _ (f : ℕ) (op : Operation) (clock : ℕ) (old : Up) (new : Stored) (a b
         keeps_as k = keeps_beside old new (old.drawn + 1) k.units up {T = Unit {0}} (Ok tt) 1 clock clock a b (omega arith) (omega arith) (omega arith, omega arith)
             (record { order = k.keeps.order; in_doubt = k.keeps.in_doubt; grows = k.keeps.grows; images = k.keeps.images; cause = tt; since = k.keeps.since; replies = k.keeps.replies })
 
-        made : (n : Node) (name : List ℕ) (file : File) → StandsUp clock old n → first_of (alone_early n name file op) (alone_late n name file op) ≡ None → IsKept new.units new.volume (node_after_rows (directed n name (changes_of file op)) n)
-            → StandsUp clock (at_ids (old.drawn + 1)) (node_after_rows (directed n name (changes_of file op)) n)
+        made : (n : Node) (name : List ℕ) (file : File) → UpRepresents clock old n → first_of (alone_refused_before_reading n name file op) (alone_refused_after_reading n name file op) ≡ None → IsKept new.units new.volume (node_after_rows (directed n name (changes_of file op)) n)
+            → UpRepresents clock (at_ids (old.drawn + 1)) (node_after_rows (directed n name (changes_of file op)) n)
         made n name file stands none kept =
             let row = alone_row n name file op change none in
             let kept' : IsKept new.units new.volume (world.acted (direct_act n name file op) n) = subst (λ rs. IsKept new.units new.volume (node_after_rows rs n)) row kept in
-            subst (λ rs. StandsUp clock (at_ids (old.drawn + 1)) (node_after_rows rs n)) (sym row)
+            subst (λ rs. UpRepresents clock (at_ids (old.drawn + 1)) (node_after_rows rs n)) (sym row)
             (stands_aside clock old new 1 n (world.acted (direct_act n name file op) n) h.keeps.in_doubt stands (aside_directs n name (changes_of file op) (commit_settlement n (next_id n) (next_id n))) kept')

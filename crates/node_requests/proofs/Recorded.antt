@@ -2,6 +2,7 @@
 use Rattle.std.proofs.Common.{◌≡◌, ℕ, Bool, true, false, List, [], ◌∷◌, ◌++◌, Option, Some, None, Result, Ok, Err, inl, inr, length, refl, ap, sym, subst, ◌∙◌}
 use Rattle.std.specs.Prelude.{OnErr, ◌||◌, nat_lt, not}
 use Rattle.std.specs.Option.{option_and_then}
+use Rattle.vms_model.specs.Limits.{change_limit}
 use Rattle.careful_write.specs.declared.down.Down.{Down}
 use Rattle.commit_protocol.specs.Allowed.{is_working}
 use Rattle.commit_protocol.specs.Table.{Branch, Tm, find_serial}
@@ -14,7 +15,7 @@ use Rattle.vms_model.specs.Ids.{Id}
 use Rattle.records_model.specs.Records.{Change}
 use Rattle.run_said.specs.Said.{refused_by_lines}
 use Rattle.said_steps.specs.Answers.{is_served}
-use Rattle.run_model.specs.Answers.{Serves, branch_labelled, change_limit, directed, found_refused, images_full, in_state, is_marked, journal_full, keys_refused, more_changes, more_locks, needs_unit, operation_act, service, silent, touches, unsettled}
+use Rattle.run_model.specs.Answers.{Serves, branch_labelled, directed, found_refused, images_full, in_state, is_marked, journal_full, keys_refused, more_changes, more_locks, needs_unit, operation_act, service, silent, touches, unsettled}
 use Rattle.run_model.specs.Operations.{changes_of, file_full, first_of, form_refused, keys_asked, keys_held, operation_answer, refused_if}
 use Rattle.run_model.specs.World as world
 use Rattle.run_model.specs.World.{File, Label, Node, find_branch, find_file, labelled, next_id, serial_labelled}
@@ -29,7 +30,7 @@ use Rattle.file_requests.specs.Acting.{StaysUp, alone_service, branch_service}
 use Rattle.file_requests.specs.Replying.{IsQuiet}
 use Rattle.file_requests.proofs.Served.{both_none}
 use Rattle.node_table.specs.Serving.{DoesService, ServiceAt, service_at}
-use Rattle.node_table.specs.Standing.{IsUp, StandsUp, Up}
+use Rattle.node_table.specs.Standing.{IsUp, Up, UpRepresents}
 use Rattle.node_requests.specs.Labelled.{branch_at, made_in}
 use Rattle.node_requests.specs.Operating.{DoesUp, OperatesAlone, OperatesFor}
 use Rattle.node_requests.specs.Requests.{DoesRequest, node_up}
@@ -43,7 +44,7 @@ use Rattle.node_requests.proofs.Saying.{IsStillRequest, says_refusal, says_repli
 -- One answer, and nothing is done: what it refuses by is the world's first cause.
 pub refused_request : (x : Unit {0}) (request : Request) (clock : ℕ) (r : Up) (shared : SharedState) (a b : Shown) (l : Line) → IsUp r → Since a b → Emits a (l ∷ []) b → IsQuiet l → IsStillRequest r.stored.volume.catalog.home.node request
     → ((refusal : Line) → refused_by_lines (said_shared shared) (node_up r.stored.volume.catalog.home.node) request ≡ Some refusal → l ≡ refusal) → (refused_by_lines (said_shared shared) (node_up r.stored.volume.catalog.home.node) request ≡ None → is_served l ≡ true)
-    → ((s : world.Shared) (n : Node) → StandsUp clock r n → IsShared shared s → IsKeptNode s n → first_of ((service request).refused_before_reading s n) ((service request).refused_after_reading s n) ≡ Some l)
+    → ((s : world.Shared) (n : Node) → UpRepresents clock r n → IsShared shared s → IsKeptNode s n → first_of ((service request).refused_before_reading s n) ((service request).refused_after_reading s n) ≡ Some l)
     → DoesRequest {T = Unit {0}} (Ok x) request clock r r shared shared a b
 refused_request x request clock r shared a b l up since m quiet still by_lines others refuses = record {
   keeps = keeps_same x clock r a b up since;
@@ -150,23 +151,23 @@ stays_up rows request s n q kept up is = subst (λ z. StaysUp z n) is (λ none.
 
 -- What a service leaves, with what nodes share.
 shared_on : {T : Type 0} (r : Result T Down) (q : ServiceAt) (clock : ℕ) (s : world.Shared) (n : Node) (old new : Up) (shared : SharedState) (a b : Shown) → IsShared shared s → DoesUp r q clock s n old new a b
-    → DoesService r q s n a b (StandsUp clock new n × IsShared shared s) (IsShared shared) (StandsUp clock new) (disk_of new)
-shared_on r q clock s n old new shared a b share h = service_as r q s n a b (StandsUp clock new n) (StandsUp clock new n × IsShared shared s) (λ t. t ≡ s) (IsShared shared) (StandsUp clock new) (StandsUp clock new) (disk_of new)
+    → DoesService r q s n a b (UpRepresents clock new n × IsShared shared s) (IsShared shared) (UpRepresents clock new) (disk_of new)
+shared_on r q clock s n old new shared a b share h = service_as r q s n a b (UpRepresents clock new n) (UpRepresents clock new n × IsShared shared s) (λ t. t ≡ s) (IsShared shared) (UpRepresents clock new) (UpRepresents clock new) (disk_of new)
     (λ x. (x, share)) (λ t e. subst (IsShared shared) (sym e) share) (λ x. x) h
 
 module _ (finds : FindsFiles) (rows : RowsKeepUp) (name : List ℕ) (op : Operation) (clock : ℕ) (old : Up) (shared : SharedState) (a b : Shown) where
   -- a file of the volume in the world
-  file_there : (n : Node) (f : ℕ) (head : FileHead) → StandsUp clock old n → IsNamed old.stored.volume.catalog.heads f head name → (file : File) × IsHeadOf head file × (find_file name n.durable.directory ≡ Some file)
+  file_there : (n : Node) (f : ℕ) (head : FileHead) → UpRepresents clock old n → IsNamed old.stored.volume.catalog.heads f head name → (file : File) × IsHeadOf head file × (find_file name n.durable.directory ≡ Some file)
   file_there n f head stands named = (let x = finds.found stands.stands.kept.content old.stored.volume.catalog.heads n.durable.directory f head name stands.stands.kept.has.files named in (x.0, x.1.head, x.2.found))
 
-  file_absent : (n : Node) → StandsUp clock old n → NoneNamed old.stored.volume.catalog.heads 64 name → find_file name n.durable.directory ≡ None
+  file_absent : (n : Node) → UpRepresents clock old n → NoneNamed old.stored.volume.catalog.heads 64 name → find_file name n.durable.directory ≡ None
   file_absent n stands none = finds.none stands.stands.kept.content old.stored.volume.catalog.heads n.durable.directory name stands.stands.kept.has.files none
 
   -- a label and its branch, in the world
-  label_there : (n : Node) (s : world.Shared) (label : List ℕ) (o : Option Label) → StandsUp clock old n → IsShared shared s → labelled old.stored.volume.catalog.home.node label shared.labels ≡ o → labelled n.name label s.labels ≡ o
+  label_there : (n : Node) (s : world.Shared) (label : List ℕ) (o : Option Label) → UpRepresents clock old n → IsShared shared s → labelled old.stored.volume.catalog.home.node label shared.labels ≡ o → labelled n.name label s.labels ≡ o
   label_there n s label o stands share e = (λ i. labelled (stands.stands.kept.name i) label (share.labels i)) ∙ e
 
-  table_there : (n : Node) → StandsUp clock old n → n.volatile.branches ≡ old.tm.table
+  table_there : (n : Node) → UpRepresents clock old n → n.volatile.branches ≡ old.tm.table
   table_there n stands = ap (λ (t : Tm). t.table) stands.stands.table
 
   module _ (label : List ℕ) where
@@ -193,7 +194,7 @@ module _ (finds : FindsFiles) (rows : RowsKeepUp) (name : List ℕ) (op : Operat
           let own : serial ≡ branch.key.serial = found_serial serial n.volatile.branches branch there in
           let q : IsAsked serial f old.stored.units old.stored.volume n name x.0 branch = record { kept = stands.stands.kept; up = (kept.runs stands.stands.up).0; branch = there; unprepared = active_only branch works; head = head; named = named; found = x.2 } in
           let is : service_at (service asks) s n ≡ branch_service n branch name x.0 op = records_are n name op s label l x.0 branch (label_there n s label (Some l) stands share lab) x.2 (told ∙ ap (λ (i : Id). Some i) own) (subst (λ i. find_branch i n.volatile.branches ≡ Some branch) own there) works in
-          subst (λ z. DoesService r z s n a b (StandsUp clock new n × IsShared shared s) (IsShared shared) (StandsUp clock new) (disk_of new)) (sym is)
+          subst (λ z. DoesService r z s n a b (UpRepresents clock new n × IsShared shared s) (IsShared shared) (UpRepresents clock new) (disk_of new)) (sym is)
           (shared_on r (branch_service n branch name x.0 op) clock s n old new shared a b share (h.acts s n name x.0 branch stands q (stays_up rows asks s n (branch_service n branch name x.0 op) kept stands.stands.up is)));
     }
       where
@@ -211,7 +212,7 @@ module _ (finds : FindsFiles) (rows : RowsKeepUp) (name : List ℕ) (op : Operat
 
       -- behind it, by this line, which no label tells
       behind_label : (l : Label) (x : Line) → labelled old.stored.volume.catalog.home.node label shared.labels ≡ Some l → Emits a (x ∷ []) b → IsQuiet x → is_served x ≡ true
-          → ((s : world.Shared) (n : Node) → StandsUp clock old n → IsShared shared s → IsKeptNode s n → first_of ((service asks).refused_before_reading s n) ((service asks).refused_after_reading s n) ≡ Some x) → DoesRequest {T = Unit {0}} (Ok tt) asks clock old old shared shared a b
+          → ((s : world.Shared) (n : Node) → UpRepresents clock old n → IsShared shared s → IsKeptNode s n → first_of ((service asks).refused_before_reading s n) ((service asks).refused_after_reading s n) ≡ Some x) → DoesRequest {T = Unit {0}} (Ok tt) asks clock old old shared shared a b
       behind_label l x lab m quiet other refuses = refused_request tt asks clock old shared a b x up since m quiet (λ answer said. refl)
           (λ refusal e. absurd (let f : ◌≡◌ {A = Option Line} None (Some refusal) = sym (by_lines ∙ made_by_label (Some l) lab) ∙ e in let no : ⊥ = cc in no))
           (λ e. other) refuses
@@ -251,7 +252,7 @@ module _ (finds : FindsFiles) (rows : RowsKeepUp) (name : List ℕ) (op : Operat
         let x = file_there n f head stands named in
         let q : IsAskedAlone f old.stored.units old.stored.volume n name x.0 = record { kept = stands.stands.kept; up = (kept.runs stands.stands.up).0; head = head; named = named; found = x.2 } in
         let is : service_at (service asks_alone) s n ≡ alone_service n name x.0 op = direct_is n s name op x.0 x.2 in
-        subst (λ z. DoesService r z s n a b (StandsUp clock new n × IsShared shared s) (IsShared shared) (StandsUp clock new) (disk_of new)) (sym is)
+        subst (λ z. DoesService r z s n a b (UpRepresents clock new n × IsShared shared s) (IsShared shared) (UpRepresents clock new) (disk_of new)) (sym is)
         (shared_on r (alone_service n name x.0 op) clock s n old new shared a b share (h.acts s n name x.0 stands q (stays_up rows asks_alone s n (alone_service n name x.0 op) kept stands.stands.up is)));
   }
     where
@@ -260,7 +261,7 @@ module _ (finds : FindsFiles) (rows : RowsKeepUp) (name : List ℕ) (op : Operat
       uses (Err d) = refl
 
   module _ (up : IsUp old) (since : Since a b) where
-    alone_refused : (x : Line) → Emits a (x ∷ []) b → IsQuiet x → is_served x ≡ true → ((s : world.Shared) (n : Node) → StandsUp clock old n → IsShared shared s → IsKeptNode s n → first_of ((service asks_alone).refused_before_reading s n) ((service asks_alone).refused_after_reading s n) ≡ Some x)
+    alone_refused : (x : Line) → Emits a (x ∷ []) b → IsQuiet x → is_served x ≡ true → ((s : world.Shared) (n : Node) → UpRepresents clock old n → IsShared shared s → IsKeptNode s n → first_of ((service asks_alone).refused_before_reading s n) ((service asks_alone).refused_after_reading s n) ≡ Some x)
         → DoesRequest {T = Unit {0}} (Ok tt) asks_alone clock old old shared shared a b
     alone_refused x m quiet other refuses = refused_request tt asks_alone clock old shared a b x up since m quiet (λ answer said. refl)
         (λ refusal e. absurd (let f : ◌≡◌ {A = Option Line} None (Some refusal) = e in let no : ⊥ = cc in no))

@@ -3,6 +3,7 @@ use Rattle.std.proofs.Common.{◌≡◌, ℕ, ◌<◌, ◌+◌, List, [], ◌∷
 use Rattle.std.proofs.lemmas.Bool.{lt-leb}
 use Rattle.std.proofs.lemmas.List.{length-map}
 use Rattle.std.specs.Option.{option_map}
+use Rattle.vms_model.specs.Limits.{label_limit}
 use Rattle.commit_protocol.specs.Rows as rows
 use Rattle.commit_protocol.specs.Table.{branch_serials, record_serials}
 use Rattle.commit_protocol.specs.World.{In}
@@ -15,11 +16,11 @@ use Rattle.run_said.specs.Said.{Said, line_said, new_said, refused_by_lines, req
 use Rattle.said_steps.specs.Answers.{is_served}
 use Rattle.run_model.specs.Operations.{first_of, refused_if}
 use Rattle.run_model.specs.World.{Draws, Label, Node, Shared, acted, find_label}
-use Rattle.run_model.specs.Answers.{label_limit, more_branches, new_label, seconds_refused}
+use Rattle.run_model.specs.Answers.{more_branches, new_label, seconds_refused}
 use Rattle.world_laws.specs.Nodes.{RowsKeepUp}
 use Rattle.run_shared.specs.Sharing.{IsShared, SharedState}
 use Rattle.node_table.specs.Running.{KeepsUp, TellsRows}
-use Rattle.node_table.specs.Standing.{IsUp, StandsUp, Up}
+use Rattle.node_table.specs.Standing.{IsUp, Up, UpRepresents}
 use Rattle.node_requests.specs.Requests.{DoesRequest, node_up}
 use Rattle.node_requests.specs.Running.{name_of}
 use Rattle.node_standing.specs.Telling.{said_label, said_shared}
@@ -71,7 +72,7 @@ module _ (label : List ℕ) (seconds : Option ℕ) (clock : ℕ) (r : Up) (sh : 
     unrefused : refused_by_lines (said_shared sh) (node_up (name_of r)) (StartTrans label seconds) ≡ None
     unrefused = by_lines ∙ made
 
-    behind : (l : Line) (s : Shared) (n : Node) → StandsUp clock r n → IsShared sh s → first_of (seconds_refused seconds) (more_in r) ≡ Some l → first_of (first_of (new_label s label) (seconds_refused seconds)) (more_branches n) ≡ Some l
+    behind : (l : Line) (s : Shared) (n : Node) → UpRepresents clock r n → IsShared sh s → first_of (seconds_refused seconds) (more_in r) ≡ Some l → first_of (first_of (new_label s label) (seconds_refused seconds)) (more_branches n) ≡ Some l
     behind l s n h share no_more = (λ i. first_of (first_of ((new_is clock r sh s n h share label ∙ made) i) (seconds_refused seconds)) (more_is clock r sh s n h share i)) ∙ no_more
 
     -- it is given too many seconds, or none
@@ -94,7 +95,7 @@ module _ (label : List ℕ) (seconds : Option ℕ) (clock : ℕ) (r : Up) (sh : 
       start_taken since shows taken = refuses (StartTrans label seconds) clock r sh a b line.WrongState up since shows (λ s. refl) (λ s. refl) (λ refusal e. absurd (no_line refusal (sym unrefused ∙ e))) (λ e. refl)
           (λ s n h share kept. absurd (next_free clock r sh s n h share kept taken))
 
-      module _ (room : more_in r ≡ None) (rows_keep_up : RowsKeepUp) (draws : (n : Node) → StandsUp clock r n → StandsUp clock (with_drawn r) (acted Draws n)) (new : Up) (after : SharedState) where
+      module _ (room : more_in r ≡ None) (rows_keep_up : RowsKeepUp) (draws : (n : Node) → UpRepresents clock r n → UpRepresents clock (with_drawn r) (acted Draws n)) (new : Up) (after : SharedState) where
         abbrev labelled_so : Id → List ℕ → SharedState
         labelled_so id node = record sh { labels = record { name = label; node = node; tid = id; bid = None; serial = Some id } ∷ sh.labels }
 

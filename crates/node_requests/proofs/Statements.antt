@@ -16,7 +16,7 @@ use Rattle.emitter_model.specs.Emitting.{Emits, Shown, Since}
 use Rattle.transcript_model.specs.Lines as line
 use Rattle.transcript_model.specs.Lines.{Line}
 use Rattle.script_model.specs.Statements.{AbortTrans, ByLabel, BySerial, EndBranch, EndTrans, Inquire, Named, Request}
-use Rattle.log_laws.specs.Slots.{begun}
+use Rattle.log_laws.specs.Slots.{branches_added}
 use Rattle.vms_model.specs.Transactions.{Aborted}
 use Rattle.run_said.specs.Said.{Said, line_said, named_said, refused_by_lines, request_said}
 use Rattle.said_steps.specs.Answers.{is_served}
@@ -27,7 +27,7 @@ use Rattle.run_model.specs.Steps.{node_after_rows}
 use Rattle.world_laws.specs.Nodes.{IsKeptNode, RowsKeepUp}
 use Rattle.run_shared.specs.Sharing.{IsShared, SharedState}
 use Rattle.node_table.specs.Running.{IsNewFor, KeepsUp, TellsRows}
-use Rattle.node_table.specs.Standing.{IsUp, StandsUp, Up}
+use Rattle.node_table.specs.Standing.{IsUp, Up, UpRepresents}
 use Rattle.node_table.specs.Telling.{uses_disk}
 use Rattle.node_requests.specs.Labelled.{branch_at, branch_in, made_in, unsettled_in}
 use Rattle.node_requests.specs.Managers.{made_of}
@@ -39,7 +39,7 @@ use Rattle.node_requests.proofs.Labels.{branch_found, labelled_branch, made_says
 use Rattle.node_requests.proofs.Transacting.{IsToldBy, first_more, first_none, refuses, told_fails, told_serves}
 
 -- The node of the world has the labels and the table that the code keeps.
-module _ (clock : ℕ) (r : Up) (sh : SharedState) (s : Shared) (n : Node) (h : StandsUp clock r n) (share : IsShared sh s) where
+module _ (clock : ℕ) (r : Up) (sh : SharedState) (s : Shared) (n : Node) (h : UpRepresents clock r n) (share : IsShared sh s) where
   pub name_is : n.name ≡ name_of r
   name_is = h.stands.kept.name
 
@@ -80,7 +80,7 @@ made_either node label ls = go (labelled node label ls)
     go (Some l) = inl refl
     go None = inr refl
 
-pub made_name_is : (who : Named) (clock : ℕ) (r : Up) (sh : SharedState) (s : Shared) (n : Node) → StandsUp clock r n → IsShared sh s → made_name s n who ≡ made_of who (name_of r) sh.labels
+pub made_name_is : (who : Named) (clock : ℕ) (r : Up) (sh : SharedState) (s : Shared) (n : Node) → UpRepresents clock r n → IsShared sh s → made_name s n who ≡ made_of who (name_of r) sh.labels
 made_name_is (ByLabel label) clock r sh s n h share = made_is clock r sh s n h share label
 made_name_is (BySerial serial) clock r sh s n h share = refl
 
@@ -108,7 +108,7 @@ pub record AsksBranch (request : Request) (who : Named) (holds : Branch → Bool
   pub lines : (sh : SharedState) (name : List ℕ) → refused_by_lines (said_shared sh) (node_up name) request ≡ named_said (map said_label sh.labels) name who
   pub still : (name : List ℕ) (l : Line) (s : Said) → request_said name request l s ≡ s
   pub quiet : (b : Branch) (n : Node) → IsNewFor n (event b)
-  pub one : (b : Branch) → begun (event b) ≤ 1
+  pub one : (b : Branch) → branches_added (event b) ≤ 1
 
 pub row_of : (s : Shared) (n : Node) (o : Option Branch) (b : Branch) (does : Branch → List Row) → o ≡ Some b → elim o [ Some x ↦ does x | None ↦ [] ] ≡ does b
 row_of s n o b does e = ap (λ (x : Option Branch). elim x [ Some y ↦ does y | None ↦ [] ]) e
@@ -157,7 +157,7 @@ module _ (request : Request) (who : Named) (holds : Branch → Bool) (event : Br
 
   module _ (x : Branch) (made : made_of who (name_of r) sh.labels ≡ None) (found : named_in who sh.labels r ≡ Some x) where
     -- what the state of its branch says of it
-    early_is : (s : Shared) (n : Node) → StandsUp clock r n → IsShared sh s → (service request).refused_before_reading s n ≡ refused_if (not (holds x)) line.WrongState
+    early_is : (s : Shared) (n : Node) → UpRepresents clock r n → IsShared sh s → (service request).refused_before_reading s n ≡ refused_if (not (holds x)) line.WrongState
     early_is s n h share = q.early s n ∙ (λ i. first_of (((made_name_is who clock r sh s n h share) ∙ made) i) (first_of (unsettled ((named_is clock r sh s n h share who ∙ found) i)) (in_state holds ((named_is clock r sh s n h share who ∙ found) i))))
 
     unrefused : refused_by_lines (said_shared sh) (node_up (name_of r)) request ≡ None
@@ -169,7 +169,7 @@ module _ (request : Request) (who : Named) (holds : Branch → Bool) (event : Br
         ap (λ o. first_of o ((service request).refused_after_reading s n)) (early_is s n h share ∙ ap (λ (t : Bool). refused_if (not t) line.WrongState) fails))
 
     module _ (yes : holds x ≡ true) where
-      told_here : (s : Shared) (n : Node) → StandsUp clock r n → IsShared sh s → IsKeptNode s n → IsToldBy request [] (event x) clock r sh s n
+      told_here : (s : Shared) (n : Node) → UpRepresents clock r n → IsShared sh s → IsKeptNode s n → IsToldBy request [] (event x) clock r sh s n
       told_here s n h share kept = record {
         early = early_is s n h share ∙ ap (λ (t : Bool). refused_if (not t) line.WrongState) yes;
         late = q.late s n;
@@ -185,7 +185,7 @@ module _ (request : Request) (who : Named) (holds : Branch → Bool) (event : Br
         asked_fails d touch keeps does = told_fails rows_keep_up request (event x) clock r r new sh sh after a b refl (omega arith, omega arith) (q.one x) refl (λ n. []) told_here d touch unrefused refl keeps does
 
         pub asked_serves : (c : Shown) (l : Line) → Since b c → Emits b (l ∷ []) c → ((s : Said) → line_said l s ≡ s) → is_served l ≡ true → KeepsUp {T = Unit {0}} (Ok tt) (event x) clock r new sh after a b → TellsRows {T = Unit {0}} (Ok tt) (event x) clock r new sh after a b
-            → ((s : Shared) (n : Node) → StandsUp clock r n → IsShared sh s → IsKeptNode s n → StandsUp clock new (node_after_rows ((service request).rows s n) n) → (service request).answer s n ≡ l) → DoesRequest {T = Unit {0}} (Ok tt) request clock r new sh after a c
+            → ((s : Shared) (n : Node) → UpRepresents clock r n → IsShared sh s → IsKeptNode s n → UpRepresents clock new (node_after_rows ((service request).rows s n) n) → (service request).answer s n ≡ l) → DoesRequest {T = Unit {0}} (Ok tt) request clock r new sh after a c
         asked_serves c l since shows quiet other keeps does answer = told_serves rows_keep_up request (event x) clock r r new sh sh after a b refl (omega arith, omega arith) (q.one x) refl (λ n. []) told_here c l since shows quiet other unrefused (λ ws. q.still (name_of r) l _) keeps does answer
 
 -- The branch that is found is that of its serial.

@@ -10,7 +10,7 @@ use Rattle.transcript_model.specs.Lines as line
 use Rattle.transcript_model.specs.Lines.{Line}
 use Rattle.emitter_model.proofs.EmittingLemmas.{emits_nothing, emits_on, since_on}
 use Rattle.script_model.specs.Statements.{Request}
-use Rattle.log_laws.specs.Slots.{begun}
+use Rattle.log_laws.specs.Slots.{branches_added}
 use Rattle.run_said.specs.Said.{Said, line_said, lines_said, refused_by_lines, request_said}
 use Rattle.said_steps.specs.Answers.{is_served}
 use Rattle.run_model.specs.Operations.{first_of, refused_if}
@@ -21,12 +21,12 @@ use Rattle.volume_model.specs.Volumes.{HasDisk}
 use Rattle.world_laws.specs.Nodes.{AreUp, IsKeptNode, RowsKeepUp}
 use Rattle.row_laws.specs.Doing.{DoesRows, WentDown}
 use Rattle.row_laws.proofs.Composing.{does_more}
-use Rattle.recovery_units.specs.Uses.{Caused, Goes, down_of}
+use Rattle.recovery_units.specs.Uses.{Caused, DiskAdvances, down_of}
 use Rattle.run_shared.specs.Sharing.{IsShared, SharedState}
 use Rattle.node_table.specs.Growing.{end_to_come, moment_to_come}
 use Rattle.node_table.specs.Running.{Grown, IsNewFor, KeepsUp, TellsRows}
 use Rattle.node_table.specs.Serving.{WasCut}
-use Rattle.node_table.specs.Standing.{IsUp, StandsUp, Stored, Up}
+use Rattle.node_table.specs.Standing.{IsUp, Stored, Up, UpRepresents}
 use Rattle.node_table.specs.Telling.{IsOfWork, wire_after}
 use Rattle.node_requests.specs.Requests.{DoesRequest, HasMoved, KeepsRequest, node_up, said_up}
 use Rattle.node_requests.specs.Running.{name_of}
@@ -50,7 +50,7 @@ first_none (Some l) y h = let f : ⊥ = cc in absurd f
 -- one line alone was shown, which refuses the request; and nothing was done
 pub refuses : (request : Request) (clock : ℕ) (r : Up) (sh : SharedState) (a b : Shown) (l : Line) → IsUp r → Since a b → Emits a (l ∷ []) b → ((s : Said) → line_said l s ≡ s) → ((s : Said) → request_said (name_of r) request l s ≡ s)
     → ((refusal : Line) → refused_by_lines (said_shared sh) (node_up (name_of r)) request ≡ Some refusal → l ≡ refusal) → (refused_by_lines (said_shared sh) (node_up (name_of r)) request ≡ None → is_served l ≡ true)
-    → ((s : Shared) (n : Node) → StandsUp clock r n → IsShared sh s → IsKeptNode s n → first_of ((service request).refused_before_reading s n) ((service request).refused_after_reading s n) ≡ Some l) → DoesRequest {T = Unit {0}} (Ok tt) request clock r r sh sh a b
+    → ((s : Shared) (n : Node) → UpRepresents clock r n → IsShared sh s → IsKeptNode s n → first_of ((service request).refused_before_reading s n) ((service request).refused_after_reading s n) ≡ Some l) → DoesRequest {T = Unit {0}} (Ok tt) request clock r r sh sh a b
 refuses request clock r sh a b l up since shows quiet still by_lines others refused = record {
   keeps = record {
     up = up;
@@ -94,22 +94,22 @@ pub record IsToldBy (request : Request) (acts : List Act) (e : Event) (clock : �
   pub early : (service request).refused_before_reading s n ≡ None
   pub late : (service request).refused_after_reading s n ≡ None
   pub rows : (service request).rows s n ≡ map silent acts ++ told_rows (all_shared acts s) (all_acted acts n) (just e)
-  pub stands : StandsUp clock mid (all_acted acts n)
+  pub stands : UpRepresents clock mid (all_acted acts n)
   pub shares : IsShared sh (all_shared acts s)
   pub new : IsNewFor (all_acted acts n) e
 
 module _ (rows_keep_up : RowsKeepUp) (request : Request) (e : Event) (clock : ℕ) (old mid new : Up) (before shared after : SharedState) (a b : Shown)
-    (stored : mid.stored ≡ old.stored) (drawn : (old.drawn ≤ mid.drawn) × (mid.drawn ≤ old.drawn + 1)) (one : begun e ≤ 1) (wire : shared.wire ≡ before.wire) (acts : Node → List Act)
-    (told : (s : Shared) (n : Node) → StandsUp clock old n → IsShared before s → IsKeptNode s n → IsToldBy request (acts n) e clock mid shared s n) where
+    (stored : mid.stored ≡ old.stored) (drawn : (old.drawn ≤ mid.drawn) × (mid.drawn ≤ old.drawn + 1)) (one : branches_added e ≤ 1) (wire : shared.wire ≡ before.wire) (acts : Node → List Act)
+    (told : (s : Shared) (n : Node) → UpRepresents clock old n → IsShared before s → IsKeptNode s n → IsToldBy request (acts n) e clock mid shared s n) where
   module _ {T : Type 0} (r : Result T Down) (keeps : KeepsUp r e clock mid new shared after a b) (does : TellsRows r e clock mid new shared after a b) where
-    rows_done : (s : Shared) (n : Node) → StandsUp clock old n → IsShared before s → IsKeptNode s n → DoesRows r ((service request).rows s n) s n a b (IsShared after) (StandsUp clock new) (λ m. HasDisk m (disk_of new))
+    rows_done : (s : Shared) (n : Node) → UpRepresents clock old n → IsShared before s → IsKeptNode s n → DoesRows r ((service request).rows s n) s n a b (IsShared after) (UpRepresents clock new) (λ m. HasDisk m (disk_of new))
     rows_done s n stands share kept =
         let t = told s n stands share kept in
         let before_here : refused_before_reading s n (service request) ≡ None = ap (λ (x : Bool). first_of (refused_if (not (x || (service request).while_down)) line.NodeDown) ((service request).refused_before_reading s n)) stands.stands.up ∙ t.early in
         let ups : AreUp ((service request).rows s n) n = rows_keep_up s n (Serves request) kept stands.stands.up before_here t.late in
         let there : AreUp (told_rows (all_shared (acts n) s) (all_acted (acts n) n) (just e)) (all_acted (acts n) n) = silent_up (acts n) (told_rows (all_shared (acts n) s) (all_acted (acts n) n) (just e)) n (subst (λ rs. AreUp rs n) t.rows ups) in
-        subst (λ rs. DoesRows r rs s n a b (IsShared after) (StandsUp clock new) (λ m. HasDisk m (disk_of new))) (sym t.rows)
-        (silent_does r (acts n) (told_rows (all_shared (acts n) s) (all_acted (acts n) n) (just e)) s n a b (IsShared after) (StandsUp clock new) (λ m. HasDisk m (disk_of new))
+        subst (λ rs. DoesRows r rs s n a b (IsShared after) (UpRepresents clock new) (λ m. HasDisk m (disk_of new))) (sym t.rows)
+        (silent_does r (acts n) (told_rows (all_shared (acts n) s) (all_acted (acts n) n) (just e)) s n a b (IsShared after) (UpRepresents clock new) (λ m. HasDisk m (disk_of new))
         (does (all_shared (acts n) s) (all_acted (acts n) n) t.stands t.new t.shares there))
 
     moment_is : moment_to_come mid.stored ≡ moment_to_come old.stored
@@ -121,7 +121,7 @@ module _ (rows_keep_up : RowsKeepUp) (request : Request) (e : Event) (clock : �
     kept_over : (c : Shown) → Since a c → KeepsRequest r clock old new a c
     kept_over c since = record {
       up = keeps.up;
-      goes = subst (λ (x : Stored). Goes x.volume.store.disk (disk_of new)) stored keeps.goes;
+      goes = subst (λ (x : Stored). DiskAdvances x.volume.store.disk (disk_of new)) stored keeps.goes;
       cause = subst (λ (x : Stored). Caused (down_of r) x.volume.store.disk (disk_of new)) stored keeps.cause;
       pool = keeps.pool ∙ ap (λ (x : Stored). x.volume.store.pool) stored;
       node = keeps.node ∙ ap (λ (x : Stored). x.volume.catalog.home.node) stored;
@@ -171,7 +171,7 @@ module _ (rows_keep_up : RowsKeepUp) (request : Request) (e : Event) (clock : �
   pub told_serves : (c : Shown) (l : Line) → Since b c → Emits b (l ∷ []) c → ((s : Said) → line_said l s ≡ s) → is_served l ≡ true → (refused_by_lines (said_shared before) (node_up (name_of old)) request ≡ None)
       → ((ws : List Message) → request_said (name_of old) request l (record { nodes = node_up (name_of old) ∷ []; shared = record (said_shared before) { wire = ws } }) ≡ record { nodes = node_up (name_of old) ∷ []; shared = record (said_shared shared) { wire = ws } })
       → KeepsUp {T = Unit {0}} (Ok tt) e clock mid new shared after a b → TellsRows {T = Unit {0}} (Ok tt) e clock mid new shared after a b
-      → ((s : Shared) (n : Node) → StandsUp clock old n → IsShared before s → IsKeptNode s n → StandsUp clock new (node_after_rows ((service request).rows s n) n) → (service request).answer s n ≡ l)
+      → ((s : Shared) (n : Node) → UpRepresents clock old n → IsShared before s → IsKeptNode s n → UpRepresents clock new (node_after_rows ((service request).rows s n) n) → (service request).answer s n ≡ l)
       → DoesRequest {T = Unit {0}} (Ok tt) request clock old new before after a c
   told_serves c l since shows quiet other unrefused said keeps does answer = record {
     keeps = kept_over {T = Unit {0}} (Ok tt) keeps does c (since_on a b c keeps.since since);

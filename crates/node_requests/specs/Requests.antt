@@ -1,6 +1,7 @@
 -- What a request to a node that is up comes to.
 use Rattle.std.specs.Prelude.{◌≡◌, ◌≤◌, ◌<◌, ◌+◌, ◌^◌, ℕ, max, List, [], ◌∷◌, ◌++◌, Bool, true, false, Some, None, Result, Ok, Err, OnErr, OnOk, MatchResult, if◌then◌else◌}
 use Rattle.std.specs.List.{AllByRecursion}
+use Rattle.vms_model.specs.Limits.{branch_limit, moment_ceiling}
 use Rattle.careful_write.specs.declared.down.Down.{Down}
 use Rattle.commit_protocol.specs.Table.{Branch, Tm}
 use Rattle.emitter_model.specs.Emitting.{Emits, Shown, Since}
@@ -16,13 +17,13 @@ use Rattle.run_model.specs.World.{Node, Shared, with_changed}
 use Rattle.run_shared.specs.Sharing.{IsShared, SharedState}
 use Rattle.world_laws.specs.Nodes.{IsKeptNode}
 use Rattle.recovery_units.specs.State.{has_changed_by}
-use Rattle.recovery_units.specs.Uses.{Caused, Goes, down_of}
+use Rattle.recovery_units.specs.Uses.{Caused, DiskAdvances, down_of}
 use Rattle.node_standing.specs.Moments.{CanTell}
 use Rattle.file_requests.specs.declared.recovery.Reply.{Reply}
 use Rattle.file_requests.specs.declared.recovery.Reply.TheVariants.{Told, NoMemory}
 use Rattle.node_table.specs.Growing.{end_to_come, moment_to_come}
 use Rattle.node_table.specs.Serving.{DoesService, service_at}
-use Rattle.node_table.specs.Standing.{IsUp, StandsUp, Up}
+use Rattle.node_table.specs.Standing.{IsUp, Up, UpRepresents}
 use Rattle.node_table.specs.Telling.{IsOfWork}
 use Rattle.node_standing.specs.Standing.{disk_of}
 use Rattle.node_standing.specs.Telling.{said_shared}
@@ -30,20 +31,20 @@ use Rattle.node_standing.specs.Telling.{said_shared}
 -- what is asked of a node that is up before a request: numbers that only grow are far from their ends
 pub record MayServe (clock : ℕ) (r : Up) : Type 0 where
   pub up : IsUp r
-  pub moment : moment_to_come r.stored + 1 ≤ 24000001000066
+  pub moment : moment_to_come r.stored + 1 ≤ moment_ceiling
   pub low : end_to_come r.stored + 2 ^ 25 ≤ 2 ^ 62
   pub drawn : r.drawn < 4294967295
-  pub time : clock + 64 ≤ 24000001000066
+  pub time : clock + branch_limit ≤ moment_ceiling
 
 -- such numbers have grown by one statement: the greatest moment with the settlements to come, and the journal's end with the groups to come
 pub record HasMoved (clock : ℕ) (old new : Up) : Type 0 where
-  pub moment : moment_to_come new.stored ≤ max (moment_to_come old.stored + 1) (clock + 64)
+  pub moment : moment_to_come new.stored ≤ max (moment_to_come old.stored + 1) (clock + branch_limit)
   pub end : end_to_come new.stored ≤ end_to_come old.stored + 2 ^ 25
 
 -- What is kept in order over a request, whatever the disk has.
 pub record KeepsRequest {T : Type 0} (r : Result T Down) (clock : ℕ) (old new : Up) (a b : Shown) : Type 0 where
   pub up : OnOk r (IsUp new)
-  pub goes : Goes (disk_of old) (disk_of new)
+  pub goes : DiskAdvances (disk_of old) (disk_of new)
   pub cause : Caused (down_of r) (disk_of old) (disk_of new)
   pub pool : new.stored.volume.store.pool ≡ old.stored.volume.store.pool
   pub node : new.stored.volume.catalog.home.node ≡ old.stored.volume.catalog.home.node
@@ -73,8 +74,8 @@ pub record SaysRequest {T : Type 0} (r : Result T Down) (name : List ℕ) (reque
 
 -- At each node of the world that what is kept stands for, its service was done.
 abbrev pub ServesUp : {T : Type 0} → Result T Down → Service → (clock : ℕ) → (old new : Up) → (before after : SharedState) → (a b : Shown) → Type 0
-ServesUp r e clock old new before after a b = (s : Shared) (n : Node) → StandsUp clock old n → IsShared before s → IsKeptNode s n →
-    DoesService r (service_at e s n) s n a b (StandsUp clock new n × IsShared after s) (IsShared after) (StandsUp clock new) (disk_of new)
+ServesUp r e clock old new before after a b = (s : Shared) (n : Node) → UpRepresents clock old n → IsShared before s → IsKeptNode s n →
+    DoesService r (service_at e s n) s n a b (UpRepresents clock new n × IsShared after s) (IsShared after) (UpRepresents clock new) (disk_of new)
 
 -- All three of a request. The disk goes down in none that uses no disk, and is left as it was where what was said before refuses the request.
 pub record DoesRequest {T : Type 0} (r : Result T Down) (request : Request) (clock : ℕ) (old new : Up) (before after : SharedState) (a b : Shown) : Type 0 where
@@ -93,7 +94,7 @@ pub record LacksMemory (request : Request) (clock : ℕ) (old new : Up) (before 
   pub still : (said : Said) → request_said old.stored.volume.catalog.home.node request line.NoMemory said ≡ said
   pub takes : (n : Node) → (service request).takes_memory n ≡ true
   pub may : may_answer request line.NoMemory ≡ true
-  pub serves : (s : Shared) (n : Node) → StandsUp clock old n → IsShared before s → IsKeptNode s n → ((service_at (service request) s n).early ≡ None) × StandsUp clock new n × IsShared after s
+  pub serves : (s : Shared) (n : Node) → UpRepresents clock old n → IsShared before s → IsKeptNode s n → ((service_at (service request) s n).early ≡ None) × UpRepresents clock new n × IsShared after s
 
 -- The request was answered, or the disk went down; or memory was missing for it.
 abbrev pub AnswersRequest : Result Reply Down → Request → (clock : ℕ) → (old new : Up) → (before after : SharedState) → (a b : Shown) → Type 0

@@ -1,5 +1,6 @@
 -- A node that is up, and what comes to it.
 use Rattle.std.specs.Prelude.{◌≡◌, ◌≤◌, ◌+◌, ◌*◌, ◌^◌, ℕ, List, [], ◌∷◌, Bool, true, Option, Some, None}
+use Rattle.vms_model.specs.Limits.{branch_limit, moment_limit}
 use Rattle.commit_protocol.specs.Rows as rows
 use Rattle.commit_protocol.specs.Rows.{Event}
 use Rattle.emitter_model.specs.Emitting.{Emits, Shown}
@@ -9,7 +10,7 @@ use Rattle.run_shared.specs.Sharing.{SharedState}
 use Rattle.node_table.specs.Growing.{end_to_come, moment_to_come}
 use Rattle.node_table.specs.Standing.{Up}
 use Rattle.node_standing.specs.Keeping.{PerformsTask}
-use Rattle.node_standing.specs.Standing.{Kept, is_up}
+use Rattle.node_standing.specs.Standing.{NodeState, is_up}
 use Rattle.node_standing.specs.Telling.{TellsTask}
 
 -- the name of a node that is up
@@ -18,7 +19,7 @@ name_of r = r.stored.volume.catalog.home.node
 
 -- Numbers that only grow have come no further than a restart and so many statements lead.
 pub record HasGrown (count : ℕ) (r : Up) : Type 0 where
-  pub moment : moment_to_come r.stored ≤ 24000000000064 + count
+  pub moment : moment_to_come r.stored ≤ moment_limit + branch_limit + count
   pub end : end_to_come r.stored ≤ 2 ^ 61 + 2 ^ 32 + count * 2 ^ 25
   pub drawn : r.drawn ≤ count
 
@@ -46,6 +47,6 @@ shown_first up t = []
 
 -- An event came to a node: each task that tells its table this one was done there, with its lines shown from the moment on at which those were begun that it shows
 -- first. Its statement ends with it, or not, where its statement goes on where the disk goes down, or does not.
-abbrev pub TellsEvent : Event → (goes_on ends : Bool) → Kept → SharedState → (a b : Shown) → Kept → SharedState → Type 0
+abbrev pub TellsEvent : Event → (goes_on ends : Bool) → NodeState → SharedState → (a b : Shown) → NodeState → SharedState → Type 0
 TellsEvent e goes_on ends k s a b l t = (task : Task) (first : Shown) → event_told k.clock task ≡ Some e → (task_service task).goes_on ≡ goes_on → Emits first (shown_first (is_up k.place) task) a →
     TellsTask task ends ends k s first b l t × PerformsTask task ends ends k s first b l t

@@ -1,6 +1,7 @@
 -- Statements on a transaction, by the labels and the table of their node.
 use Rattle.std.specs.Prelude.{◌*◌, ◌+◌, ℕ, List, [], ◌∷◌, Option, Some, None, if◌then◌else◌, length, nat_le}
 use Rattle.std.specs.Option.{option_map}
+use Rattle.vms_model.specs.Limits.{branch_limit, label_limit}
 use Rattle.commit_protocol.specs.Effects.{Effect, SettleEffect}
 use Rattle.commit_protocol.specs.Messages.{same_id}
 use Rattle.commit_protocol.specs.Table.{Branch, find_serial}
@@ -9,7 +10,7 @@ use Rattle.vms_model.specs.Transactions.{Abort, Commit, Outcome, Reason}
 use Rattle.transcript_model.specs.Lines as line
 use Rattle.transcript_model.specs.Lines.{Line}
 use Rattle.script_model.specs.Statements.{ByLabel, BySerial, Named}
-use Rattle.run_model.specs.Answers.{branch_limit, label_limit, missing, unreplied, unsettled}
+use Rattle.run_model.specs.Answers.{missing, unreplied, unsettled}
 use Rattle.run_model.specs.Operations.{first_of, refused_if}
 use Rattle.run_model.specs.World.{Label, find_label}
 use Rattle.node_table.specs.Standing.{Up}

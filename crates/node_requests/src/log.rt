@@ -1,5 +1,6 @@
 //! The transaction log of a node that is up, as it is shown.
 ghost use Rattle.std.specs.Prelude.{◌≡◌, ◌≤◌, ◌<◌, ◌+◌, ◌∷◌, [], ℕ, is_some, length, map, option_copied};
+ghost use Rattle.vms_model.specs.Limits.{slot_limit};
 ghost use Rattle.log_laws.specs.Slots.{committed_of, free_slots, prepared_of, records_in, slot_records, waiting_for};
 ghost use Rattle.run_model.specs.Answers.{log_line, owed_line};
 ghost use Rattle.script_model.specs.Statements as said;
@@ -76,7 +77,7 @@ struct LogCounts {
 
 // Counts a slot more, which has this record, or is free.
 fn count_slot(counts: LogCounts, rec: Option<&LogRec>) -> LogCounts
-    requires few { (counts.committed < 512) × (counts.prepared < 512) × (counts.free < 512) }
+    requires few { (counts.committed < slot_limit) × (counts.prepared < slot_limit) × (counts.free < slot_limit) }
     ensures committed { result.committed ≡ counts.committed + length (committed_of (records_in (slot_of (option_copied rec.entry) ∷ []))) }
     ensures prepared { result.prepared ≡ counts.prepared + length (prepared_of (records_in (slot_of (option_copied rec.entry) ∷ []))) }
     ensures free { result.free ≡ counts.free + free_slots (slot_of (option_copied rec.entry) ∷ []) }

@@ -1,10 +1,11 @@
 //! Transactions: what is asked of a node that is up, and what its table then does.
 ghost use Rattle.std.specs.Prelude.{◌≡◌, ◌<◌, ◌≤◌, ◌++◌, ◌∷◌, [], true, false, IfErr, IfOk, IfSome, Some, None, length, map, nat_le};
 ghost use Rattle.std.specs.Option.{option_map};
+ghost use Rattle.vms_model.specs.Limits.{bid_limit, label_limit, moment_ceiling, second_limit};
 ghost use Rattle.commit_protocol.specs.Allowed.{is_prepared as is_prepared_said, may_end as may_end_said};
 ghost use Rattle.commit_protocol.specs.Table.{branch_serials, is_first as is_first_of, record_serials};
 ghost use Rattle.commit_protocol.specs.World.{In};
-ghost use Rattle.run_model.specs.Answers.{bid_limit, is_first_active as is_first_said, label_limit, missing as missing_said, seconds_refused, unreplied as unreplied_said};
+ghost use Rattle.run_model.specs.Answers.{is_first_active as is_first_said, missing as missing_said, seconds_refused, unreplied as unreplied_said};
 ghost use Rattle.run_model.specs.Operations.{first_of};
 ghost use Rattle.run_model.specs.World.{find_label};
 ghost use Rattle.script_lang.specs.Statements.{named_of};
@@ -57,7 +58,7 @@ fn may_make(shared: &Shared, label: &Label) -> bool
 // Whether a transaction may be given so many seconds.
 fn are_seconds(seconds: Option<u32>) -> bool
     ensures yes { result ≡ true → seconds_refused seconds ≡ None }
-    ensures few { result ≡ true → IfSome seconds (λ count. count ≤ 1000000) }
+    ensures few { result ≡ true → IfSome seconds (λ count. count ≤ second_limit) }
     ensures no { result ≡ false → seconds_refused seconds ≡ Some line.BadParameter }
 {
     match seconds {
@@ -93,7 +94,7 @@ fn is_taken<D: Disk, U: RecoveryUnits>(running: &Running<D, U>, serial: &Serial)
 
 // When a transaction is due that begins now.
 fn due_after(clock: Moment, seconds: Option<u32>) -> Option<Moment>
-    requires early { clock.0 ≤ 24000001000066 }
+    requires early { clock.0 ≤ moment_ceiling }
     ensures { option_map moment_of result ≡ due_in clock.0 seconds }
 {
     match seconds {

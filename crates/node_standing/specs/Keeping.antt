@@ -10,7 +10,7 @@ use Rattle.run_model.specs.World.{DiskCounts, Node, Unknown}
 use Rattle.run_model.specs.Answers.{Restarts, Serves, Task}
 use Rattle.run_model.specs.Steps.{NodeStep}
 use Rattle.run_shared.specs.Sharing.{IsShared, SharedState}
-use Rattle.node_standing.specs.Standing.{Kept, StandsFor, counts_of, disk_in}
+use Rattle.node_standing.specs.Standing.{NodeState, RepresentsNode, counts_of, disk_in}
 
 -- What a node does for a task is promised, but for a boot over a disk of which nothing is known, unless the last INIT failed: then it is refused.
 abbrev pub IsPromised : Task → Node → Type 0
@@ -24,7 +24,7 @@ all_shown answers lines answer = if answers then lines ++ answer ∷ [] else lin
 
 -- A task was done at a node, whose disk had these counts, from what nodes share on: its lines were shown, with the answer where this says so, by a step to a node
 -- for which what is kept then stands, and to what is shared then. Its statement ends with it, or not.
-pub record Performs (before : CallLog) (s : world.Shared) (n : Node) (old : DiskCounts) (task : Task) (answers ends : Bool) (a b : Shown) (k : Kept) (after : SharedState) : Type 0 where
+pub record Performs (before : CallLog) (s : world.Shared) (n : Node) (old : DiskCounts) (task : Task) (answers ends : Bool) (a b : Shown) (k : NodeState) (after : SharedState) : Type 0 where
   pub lines : List Line
   pub answer : Line
   pub node : Node
@@ -32,14 +32,14 @@ pub record Performs (before : CallLog) (s : world.Shared) (n : Node) (old : Disk
   pub step : NodeStep s n old task lines answer ends node shared (counts_of (disk_in k.place))
   pub emits : Emits a (all_shown answers lines answer) b
   pub alike : IsShared after shared
-  pub stands : StandsFor before k node
+  pub stands : RepresentsNode before k node
 
 -- so for each node of the world that what was kept stands for, and all that nodes share that is so
-abbrev pub PerformsTask : Task → (answers ends : Bool) → (k : Kept) → (s : SharedState) → (a b : Shown) → (l : Kept) → (t : SharedState) → Type 0
-PerformsTask task answers ends k s a b l t = (log : CallLog) (n : Node) (w : world.Shared) → StandsFor log k n → IsShared s w → IsKeptNode w n → IsPromised task n →
+abbrev pub PerformsTask : Task → (answers ends : Bool) → (k : NodeState) → (s : SharedState) → (a b : Shown) → (l : NodeState) → (t : SharedState) → Type 0
+PerformsTask task answers ends k s a b l t = (log : CallLog) (n : Node) (w : world.Shared) → RepresentsNode log k n → IsShared s w → IsKeptNode w n → IsPromised task n →
     Performs log w n (counts_of (disk_in k.place)) task answers ends a b l t
 
 -- a request, which the node itself answers in any case
-abbrev pub PerformsRequest : said.Request → (k : Kept) → (s : SharedState) → (a b : Shown) → (l : Kept) → (t : SharedState) → Type 0
-PerformsRequest request k s a b l t = (log : CallLog) (n : Node) (w : world.Shared) → StandsFor log k n → IsShared s w → IsKeptNode w n → IsPromised (Serves request) n →
+abbrev pub PerformsRequest : said.Request → (k : NodeState) → (s : SharedState) → (a b : Shown) → (l : NodeState) → (t : SharedState) → Type 0
+PerformsRequest request k s a b l t = (log : CallLog) (n : Node) (w : world.Shared) → RepresentsNode log k n → IsShared s w → IsKeptNode w n → IsPromised (Serves request) n →
     (ends : Bool) × Performs log w n (counts_of (disk_in k.place)) (Serves request) true ends a b l t

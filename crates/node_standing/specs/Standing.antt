@@ -5,7 +5,7 @@ use Rattle.block_disk.specs.declared.disk.DiskCall.TheVariants as disk_call
 use Rattle.run_model.specs.World.{Arm, Call, DiskCounts, Node, Power}
 use Rattle.volume_model.specs.Volumes.{HasDisk}
 use Rattle.recovery_units.specs.Uses.{IsCounted}
-use Rattle.node_table.specs.Standing.{StandsUp, Up}
+use Rattle.node_table.specs.Standing.{Up, UpRepresents}
 
 -- how often a disk failed and was stopped
 abbrev pub counts_of : DiskState → DiskCounts
@@ -18,7 +18,7 @@ noted_all (Arm writes choice ∷ calls) log = noted (disk_call.Arm writes choice
 noted_all (Power stops ∷ calls) log = noted (disk_call.Power stops) (noted_all calls log)
 
 -- a node of the world that is down: what its disk has, and what it reserved where it was up before
-pub record StandsDown (has_parts : Bool) (d : DiskState) (n : Node) : Type 0 where
+pub record DownRepresents (has_parts : Bool) (d : DiskState) (n : Node) : Type 0 where
   pub down : n.up ≡ false
   pub reserved : n.was_up ≡ true → has_parts ≡ true
   pub told : is_some d.seen ≡ true
@@ -42,23 +42,23 @@ abbrev pub is_up : Place → Bool
 is_up (IsDown has_parts d) = false
 is_up (IsRunning r) = true
 
-abbrev pub StandsIn : (clock : ℕ) → Place → Node → Type 0
-StandsIn clock (IsDown has_parts d) n = StandsDown has_parts d n
-StandsIn clock (IsRunning r) n = StandsUp clock r n
+abbrev pub PlaceRepresents : (clock : ℕ) → Place → Node → Type 0
+PlaceRepresents clock (IsDown has_parts d) n = DownRepresents has_parts d n
+PlaceRepresents clock (IsRunning r) n = UpRepresents clock r n
 
 -- what is kept of a node: its name, whether the last INIT that made its disk run failed, its clock, and its place
-pub record Kept : Type 0 where
+pub record NodeState : Type 0 where
   pub name : List ℕ
   pub unmade : Bool
   pub clock : ℕ
   pub place : Place
 
 -- what is kept of a node whose disk noted these calls before the run stands for this node of the world
-pub record StandsFor (before : CallLog) (k : Kept) (n : Node) : Type 0 where
+pub record RepresentsNode (before : CallLog) (k : NodeState) (n : Node) : Type 0 where
   pub name : n.name ≡ k.name
   pub blocks : n.blocks ≡ (disk_in k.place).size
   pub clock : n.clock ≡ k.clock
   pub unmade : n.unmade ≡ k.unmade
-  pub place : StandsIn k.clock k.place n
+  pub place : PlaceRepresents k.clock k.place n
   pub calls : (disk_in k.place).calls ≡ noted_all n.calls before
   pub counts : IsCounted (disk_in k.place)

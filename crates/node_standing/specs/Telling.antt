@@ -20,11 +20,11 @@ use Rattle.recovery_units.specs.Uses.{IsCounted}
 use Rattle.run_shared.specs.Sharing.{SharedState}
 use Rattle.node_standing.specs.Holding.{HoldsAs}
 use Rattle.node_standing.specs.Keeping.{all_shown}
-use Rattle.node_standing.specs.Standing.{Kept, counts_of, disk_in, is_up}
+use Rattle.node_standing.specs.Standing.{NodeState, counts_of, disk_in, is_up}
 
 -- What was said so far, by what is kept.
 
-abbrev pub said_node : Kept → SaidNode
+abbrev pub said_node : NodeState → SaidNode
 said_node k = record { name = k.name; up = is_up k.place; unmade = k.unmade }
 
 abbrev pub said_label : Label → SaidLabel
@@ -34,11 +34,11 @@ abbrev pub said_shared : SharedState → SaidShared
 said_shared s = record { labels = map said_label s.labels; in_use = s.in_use; wire = s.wire }
 
 -- what was said of one node alone
-abbrev pub said_alone : Kept → SharedState → Said
+abbrev pub said_alone : NodeState → SharedState → Said
 said_alone k s = record { nodes = said_node k ∷ []; shared = said_shared s }
 
 -- From one state of a disk to a later one: it has as many blocks, no count falls, and what is told stays told.
-pub record Passes (old new : DiskState) : Type 0 where
+pub record DiskAdvancesOverCalls (old new : DiskState) : Type 0 where
   pub size : new.size ≡ old.size
   pub faults : IsCounted old → old.faults ≤ new.faults
   pub stops : IsCounted old → old.stops ≤ new.stops
@@ -52,7 +52,7 @@ refused_task s n Restarts = None
 refused_task s n task = down_said n
 
 -- what is said once a task showed these lines, and, of a request, was answered so
-abbrev pub task_said : Task → List Line → Line → Kept → SharedState → Said
+abbrev pub task_said : Task → List Line → Line → NodeState → SharedState → Said
 task_said (Serves request) lines answer k s = request_said k.name request answer (lines_said lines (said_alone k s))
 task_said task lines answer k s = lines_said lines (said_alone k s)
 
@@ -79,7 +79,7 @@ calls_after_task task ends answer stops calls = if powered_task task ends answer
 
 -- What the lines of a boot in a settling tell: that the node came up, just where the settling goes on, and is up then; and it is refused for want of a volume just where an INIT
 -- failed.
-pub record RestartTold (k l : Kept) (lines : List Line) (answer : Line) (ends : Bool) : Type 0 where
+pub record RestartTold (k l : NodeState) (lines : List Line) (answer : Line) (ends : Bool) : Type 0 where
   pub shown : shows_boot k.name lines ≡ not ends
   pub up : ends ≡ false → is_up l.place ≡ true
   pub unmade : k.unmade ≡ true → (lines ≡ []) × (answer ≡ line.NotInitializedAt k.name) × (ends ≡ true)
@@ -110,7 +110,7 @@ task_used task ends answer = powered_task task ends answer && not (is_boot_refus
 -- A task was done at a node, with its lines shown, and the answer where this says so. They tell of that node alone; what was said before refuses the task just
 -- where they show that refusal, which leaves the disk; what is kept then is what they say; and they tell which calls armed or powered its disk, of which each failure
 -- that they show raised a count. A node that was down, and whose disk is used neither for a new volume nor to bring it up, is down still, and nothing on that is lost.
-pub record TellsTask (task : Task) (answers ends : Bool) (k : Kept) (s : SharedState) (a b : Shown) (l : Kept) (t : SharedState) : Type 0 where
+pub record TellsTask (task : Task) (answers ends : Bool) (k : NodeState) (s : SharedState) (a b : Shown) (l : NodeState) (t : SharedState) : Type 0 where
   pub lines : List Line
   pub answer : Line
   pub emits : Emits a (all_shown answers lines answer) b
@@ -120,7 +120,7 @@ pub record TellsTask (task : Task) (answers ends : Bool) (k : Kept) (s : SharedS
   pub says : task_said task lines answer k s ≡ said_alone l t
   pub calls : (disk_in l.place).calls ≡ calls_after_task task ends answer (disk_in k.place).stops (disk_in k.place).calls
   pub failures : (cause : Cause) → In (line.Down k.name cause) lines → IsCounted (disk_in k.place) → Rose (count_of cause (counts_of (disk_in k.place))) (count_of cause (counts_of (disk_in l.place)))
-  pub passes : Passes (disk_in k.place) (disk_in l.place)
+  pub passes : DiskAdvancesOverCalls (disk_in k.place) (disk_in l.place)
   pub quiet : (s : Said) → line_said answer s ≡ s
   pub fused : (writes choice : ℕ) → task ≡ Serves (Fuse writes choice) → answer ≡ line.Normal
   pub boots : task ≡ Restarts → RestartTold k l lines answer ends

@@ -16,7 +16,7 @@ use Rattle.run_model.specs.World.{Node, Tables, acted, preparation_after}
 use Rattle.row_laws.specs.May.{IsTold, MayDo}
 use Rattle.row_laws.proofs.MayLemmas.{told_after}
 use Rattle.recovery_units.specs.State.{AreOfBranches, IsInOrder, IsKept, with_prepared, without_unit}
-use Rattle.node_table.specs.Standing.{AreInDoubt, Follows, NamesPrepared, StandsAt, Stored, standing}
+use Rattle.node_table.specs.Standing.{AreInDoubt, Follows, NamesPrepared, Stored, StoredRepresents, unsettled_serials}
 use Rattle.node_table.specs.Telling.{Leads}
 use Rattle.node_table.proofs.Branching.{fewer_units, length_units, prepared_units, put_units}
 use Rattle.node_table.proofs.Doubting.{doubt_left, doubt_prepared, doubt_put, doubt_room, doubt_settled, in_cut, in_put, standing_left, standing_more, standing_put, standing_settled}
@@ -80,10 +80,10 @@ moves_quiet (Undoes k) tm s f is q = absurd is
 
 -- the branches that were prepared stand in the same way
 pub record Names (act : Act) (n : Node) (old new : List Id) : Type 0 where
-  pub doubt : standing (preparation_after act n.volatile.preparation) (table_after act n.volatile.branches) ≡ new
+  pub doubt : unsettled_serials (preparation_after act n.volatile.preparation) (table_after act n.volatile.branches) ≡ new
   pub names : NamesPrepared (preparation_after act n.volatile.preparation) (table_after act n.volatile.branches)
 
-pub stood : (clock moment : ℕ) (act : Act) (tm : Tm) (s t : Stored) (n : Node) → StandsAt clock s tm n → IsKept t.units t.volume (acted (Tables act moment) n) → Names act n s.in_doubt t.in_doubt → StandsAt clock t (after_act act tm) (acted (Tables act moment) n)
+pub stood : (clock moment : ℕ) (act : Act) (tm : Tm) (s t : Stored) (n : Node) → StoredRepresents clock s tm n → IsKept t.units t.volume (acted (Tables act moment) n) → Names act n s.in_doubt t.in_doubt → StoredRepresents clock t (after_act act tm) (acted (Tables act moment) n)
 stood clock moment act tm s t n h kept names = record {
   kept = kept;
   table = ap (after_act act) h.table;
@@ -96,7 +96,7 @@ stood clock moment act tm s t n h kept names = record {
 }
 
 -- what a branch is put for that stays unprepared
-names_put : (b o : Branch) (ks : List Key) (bs : List Branch) (old : List Id) → Distinct (branch_serials bs) → find b.key bs ≡ Some o → is_prepared o.state ≡ false → is_prepared b.state ≡ false → standing ks bs ≡ old → NamesPrepared ks bs → (standing ks (put b bs) ≡ old) × NamesPrepared ks (put b bs)
+names_put : (b o : Branch) (ks : List Key) (bs : List Branch) (old : List Id) → Distinct (branch_serials bs) → find b.key bs ≡ Some o → is_prepared o.state ≡ false → is_prepared b.state ≡ false → unsettled_serials ks bs ≡ old → NamesPrepared ks bs → (unsettled_serials ks (put b bs) ≡ old) × NamesPrepared ks (put b bs)
 names_put b o ks bs old d e un un' same h = (
   standing_put ks b o bs e ∙ same,
   record {
@@ -117,7 +117,7 @@ names_put b o ks bs old d e un un' same h = (
     find_key : (y : Branch) → find b.key bs ≡ Some y → y.key ≡ b.key
     find_key y f = found_key b.key bs y f
 
-pub names_quiet : (act : Act) (n : Node) (old : List Id) → Distinct (branch_serials n.volatile.branches) → IsQuiet act → Stands n.volatile.branches act → standing n.volatile.preparation n.volatile.branches ≡ old → NamesPrepared n.volatile.preparation n.volatile.branches → Names act n old old
+pub names_quiet : (act : Act) (n : Node) (old : List Id) → Distinct (branch_serials n.volatile.branches) → IsQuiet act → Stands n.volatile.branches act → unsettled_serials n.volatile.preparation n.volatile.branches ≡ old → NamesPrepared n.volatile.preparation n.volatile.branches → Names act n old old
 names_quiet (Notes b) n old d is q same h = (let r = names_put b q.old n.volatile.preparation n.volatile.branches old d q.there q.unprepared q.stays same h in record { doubt = r.0; names = r.1 })
 names_quiet (Accepts b c) n old d is q same h = (let r = names_put (record b { accepted = b.accepted ++ c ∷ [] }) q.old n.volatile.preparation n.volatile.branches old d q.there q.unprepared q.stays same h in record { doubt = r.0; names = r.1 })
 names_quiet (Sends m) n old d is q same h = record { doubt = same; names = h }
@@ -130,7 +130,7 @@ names_quiet (Releases i x) n old d is q same h = absurd is
 names_quiet (Undoes k) n old d is q same h = absurd is
 
 -- a branch is prepared
-pub names_prepared : (b o : Branch) (n : Node) (old : List Id) → Distinct (branch_serials n.volatile.branches) → find b.key n.volatile.branches ≡ Some o → is_prepared o.state ≡ false → standing n.volatile.preparation n.volatile.branches ≡ old → NamesPrepared n.volatile.preparation n.volatile.branches → Names (Prepares b) n old (old ++ b.key.serial ∷ [])
+pub names_prepared : (b o : Branch) (n : Node) (old : List Id) → Distinct (branch_serials n.volatile.branches) → find b.key n.volatile.branches ≡ Some o → is_prepared o.state ≡ false → unsettled_serials n.volatile.preparation n.volatile.branches ≡ old → NamesPrepared n.volatile.preparation n.volatile.branches → Names (Prepares b) n old (old ++ b.key.serial ∷ [])
 names_prepared b o n old d e un same h =
     let ks = n.volatile.preparation in
     let bs = n.volatile.branches in
@@ -159,13 +159,13 @@ names_prepared b o n old d e un same h =
 names_cut : (k : Key) (ks : List Key) (bs : List Branch) → NamesPrepared ks bs → NamesPrepared ks (cut k bs)
 names_cut k ks bs h = record { named = λ x i p. h.named x (in_cut k x bs i) p; prepared = λ x i j. h.prepared x (in_cut k x bs i) j }
 
-pub names_settled : (k : Key) (outcome : Outcome) (reason : Reason) (r : Option LogRecord) (o : Branch) (n : Node) (old : List Id) → Distinct (branch_serials n.volatile.branches) → find k n.volatile.branches ≡ Some o → standing n.volatile.preparation n.volatile.branches ≡ old → NamesPrepared n.volatile.preparation n.volatile.branches → Names (Settles k outcome reason r) n old (without k.serial old)
+pub names_settled : (k : Key) (outcome : Outcome) (reason : Reason) (r : Option LogRecord) (o : Branch) (n : Node) (old : List Id) → Distinct (branch_serials n.volatile.branches) → find k n.volatile.branches ≡ Some o → unsettled_serials n.volatile.preparation n.volatile.branches ≡ old → NamesPrepared n.volatile.preparation n.volatile.branches → Names (Settles k outcome reason r) n old (without k.serial old)
 names_settled k outcome reason r o n old d e same h = record {
   doubt = standing_settled n.volatile.preparation k o n.volatile.branches d e ∙ ap (without k.serial) same;
   names = names_cut k n.volatile.preparation n.volatile.branches h;
 }
 
-pub names_left : (k : Key) (o : Branch) (n : Node) (old : List Id) → find k n.volatile.branches ≡ Some o → is_prepared o.state ≡ false → standing n.volatile.preparation n.volatile.branches ≡ old → NamesPrepared n.volatile.preparation n.volatile.branches → Names (Leaves k) n old old
+pub names_left : (k : Key) (o : Branch) (n : Node) (old : List Id) → find k n.volatile.branches ≡ Some o → is_prepared o.state ≡ false → unsettled_serials n.volatile.preparation n.volatile.branches ≡ old → NamesPrepared n.volatile.preparation n.volatile.branches → Names (Leaves k) n old old
 names_left k o n old e un same h = record {
   doubt = standing_left n.volatile.preparation k n.volatile.branches (λ i. let f : true ≡ false = sym (h.prepared o (find_in k n.volatile.branches o e) (subst (λ j. In j n.volatile.preparation) (sym (found_key k n.volatile.branches o e)) i)) ∙ un in cc) ∙ same;
   names = names_cut k n.volatile.preparation n.volatile.branches h;

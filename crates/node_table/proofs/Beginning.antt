@@ -23,7 +23,7 @@ use Rattle.journal_model.specs.Ring.{ring_size}
 use Rattle.recovery_units.specs.Laws.{KeepsNodes}
 use Rattle.recovery_units.specs.State.{IsInOrder, is_begun, owed, unit_of, with_begun}
 use Rattle.world_laws.specs.Nodes as laws
-use Rattle.node_table.specs.Standing.{Follows, StandsAt, Stored}
+use Rattle.node_table.specs.Standing.{Follows, Stored, StoredRepresents}
 use Rattle.node_table.proofs.Acting.{serials_apart}
 use Rattle.node_table.proofs.Branching.{begun_units, length_units, none_begun}
 use Rattle.node_table.proofs.Doubting.{doubt_new, in_put_new, standing_new}
@@ -141,8 +141,8 @@ module _ (b : Branch) (tm : Tm) (s : Stored) (h : Begins b tm s) (f : Follows tm
   }
 
 -- In the world.
-pub stands_new : (laws_hold : KeepsNodes) (b : Branch) (clock : ℕ) (tm : Tm) (s : Stored) (n : Node) → Begins b tm s → Follows tm s → StandsAt clock s tm n → ((k : Key) → In k n.volatile.preparation → k.serial ≡ b.key.serial → ⊥) → laws.IsUp (acted (Tables (Notes b) (next_moment n)) n)
-    → StandsAt clock (with_unit b s) (after_act (Notes b) tm) (acted (Tables (Notes b) (next_moment n)) n)
+pub stands_new : (laws_hold : KeepsNodes) (b : Branch) (clock : ℕ) (tm : Tm) (s : Stored) (n : Node) → Begins b tm s → Follows tm s → StoredRepresents clock s tm n → ((k : Key) → In k n.volatile.preparation → k.serial ≡ b.key.serial → ⊥) → laws.IsUp (acted (Tables (Notes b) (next_moment n)) n)
+    → StoredRepresents clock (with_unit b s) (after_act (Notes b) tm) (acted (Tables (Notes b) (next_moment n)) n)
 stands_new laws_hold b clock tm s n q f h fresh up =
     let q' : Begins b (tm_of n) s = subst (λ x. Begins b x s) (sym h.table) q in
     let f' : Follows (tm_of n) s = subst (λ x. Follows x s) (sym h.table) f in

@@ -28,7 +28,7 @@ use Rattle.recovery_units.specs.Told.{ReopenedTold}
 use Rattle.recovery_units.specs.State.{AreOfBranches, IsInOrder, IsKept}
 use Rattle.world_laws.specs.Nodes as laws
 use Rattle.node_table.specs.Running.{IsBooted}
-use Rattle.node_table.specs.Standing.{AreInDoubt, IsUp, NamesPrepared, StandsUp, Stored, standing}
+use Rattle.node_table.specs.Standing.{AreInDoubt, IsUp, NamesPrepared, Stored, UpRepresents, unsettled_serials}
 use Rattle.node_table.proofs.Doubting.{stands}
 
 pub serials_back : (ps : List LogRecord) → branch_serials (branches_of ps) ≡ record_serials ps
@@ -147,7 +147,7 @@ boot_up name ps cs s order units w d t is doubt drawn = record {
 
 -- And the node of the world.
 
-all_stand : (qs : List LogRecord) (bs : List Branch) → ((r : LogRecord) → In r qs → is_some (find (record_key r) bs) ≡ true) → standing (map record_key qs) bs ≡ record_serials qs
+all_stand : (qs : List LogRecord) (bs : List Branch) → ((r : LogRecord) → In r qs → is_some (find (record_key r) bs) ≡ true) → unsettled_serials (map record_key qs) bs ≡ record_serials qs
 all_stand [] bs h = refl
 all_stand (r ∷ qs) bs h = let e : is_some (find (record_key r) bs) ≡ true = h r (inl refl) in rw e (ap (λ (z : List Id). r.serial ∷ z) (all_stand qs bs (λ q i. h q (inr i))))
 
@@ -158,13 +158,13 @@ names_back ps = record {
 }
 
 pub boot_stands : (clock : ℕ) (name : Name) (ps cs : List LogRecord) (s : Stored) (n : Node) → Distinct (record_serials ps ++ record_serials cs) → s.in_doubt ≡ record_serials ps → IsKept s.units s.volume n → laws.IsUp n → n.name ≡ name → n.volatile.branches ≡ branches_of ps → n.volatile.records ≡ cs → n.volatile.preparation ≡ map record_key ps
-    → n.clock ≡ clock → n.up ≡ true → n.was_up ≡ true → n.under_way ≡ None → n.volatile.drawn ≡ 0 → n.volatile.declared ≡ [] → StandsUp clock (record { stored = s; tm = restarted name ps cs; drawn = 0; declared = [] }) n
+    → n.clock ≡ clock → n.up ≡ true → n.was_up ≡ true → n.under_way ≡ None → n.volatile.drawn ≡ 0 → n.volatile.declared ≡ [] → UpRepresents clock (record { stored = s; tm = restarted name ps cs; drawn = 0; declared = [] }) n
 boot_stands clock name ps cs s n d doubt kept up named bs rs prep clk u was way drawn declared = record {
   stands = record {
     kept = kept;
     table = λ i. record { node = named i; table = bs i; records = rs i };
     clock_is = clk;
-    doubt = (λ i. standing (prep i) (bs i)) ∙ all_stand ps (branches_of ps) there ∙ sym doubt;
+    doubt = (λ i. unsettled_serials (prep i) (bs i)) ∙ all_stand ps (branches_of ps) there ∙ sym doubt;
     names = subst (λ z. NamesPrepared n.volatile.preparation z) (sym bs) (subst (λ z. NamesPrepared z (branches_of ps)) (sym prep) (names_back ps));
     up = u;
     was_up = was;
@@ -192,11 +192,11 @@ module _ (tm : Tm) (name : Name) (ps cs : List LogRec) (told : ReopenedTold) (s 
   booted_up rms none order units = subst (λ (x : List Name). IsUp (record { stored = s; tm = tm; drawn = 0; declared = x })) (sym none) (subst (λ t. IsUp (record { stored = s; tm = t; drawn = 0; declared = [] })) (sym table_is)
       (boot_up name (map log_record_of told.prepared) (map log_record_of told.committed) s order units begins.within begins.apart (begins.tells name) named doubt 0))
 
-  pub booted_stands : (rms : List Name) → rms ≡ [] → (old : Stored) → old.volume ≡ s.volume → old.units ≡ s.units → (clock : ℕ) (n : Node) → IsBooted clock told old n → StandsUp clock (record { stored = s; tm = tm; drawn = 0; declared = rms }) n
+  pub booted_stands : (rms : List Name) → rms ≡ [] → (old : Stored) → old.volume ≡ s.volume → old.units ≡ s.units → (clock : ℕ) (n : Node) → IsBooted clock told old n → UpRepresents clock (record { stored = s; tm = tm; drawn = 0; declared = rms }) n
   booted_stands rms none old volume units clock n b =
       let kept : IsKept s.units s.volume n = subst (λ v. IsKept s.units v n) volume (subst (λ u. IsKept u old.volume n) units b.kept) in
       let node : n.name ≡ name = b.name ∙ ap (λ (v : VolumeState). v.catalog.home.node) volume ∙ sym named in
-      subst (λ (x : List Name). StandsUp clock (record { stored = s; tm = tm; drawn = 0; declared = x }) n) (sym none) (subst (λ t. StandsUp clock (record { stored = s; tm = t; drawn = 0; declared = [] }) n) (sym table_is)
+      subst (λ (x : List Name). UpRepresents clock (record { stored = s; tm = tm; drawn = 0; declared = x }) n) (sym none) (subst (λ t. UpRepresents clock (record { stored = s; tm = t; drawn = 0; declared = [] }) n) (sym table_is)
       (boot_stands clock name (map log_record_of told.prepared) (map log_record_of told.committed) s n begins.apart doubt kept b.is_up node b.branches b.records b.preparation b.clock_is b.up b.was_up b.under_way b.drawn b.declared))
 
 pub restart_as : (ps cs : List LogRec) (told : ReopenedTold) (ss : Slots) → ps ≡ told.prepared → cs ≡ told.committed → MayBegin told ss → MayRestart (map log_record_of ps) (map log_record_of cs)

@@ -11,7 +11,7 @@ use Rattle.commit_protocol.proofs.Lists.{find-cut, find-cut_other, find-put, fin
 use Rattle.commit_protocol.proofs.Serials.{distinct_more, there_serial}
 use Rattle.commit_protocol.proofs.Within.{find_in}
 use Rattle.log_laws.proofs.RowSlots.{among}
-use Rattle.node_table.specs.Standing.{AreInDoubt, standing}
+use Rattle.node_table.specs.Standing.{AreInDoubt, unsettled_serials}
 
 -- A branch is found by its key; and no two keys have one serial.
 
@@ -196,31 +196,31 @@ doubt_room b o bs serials d e un h =
 
 -- Those that stand among the branches that were prepared.
 
-standing_same : (ks : List Key) (bs cs : List Branch) → ((k : Key) → In k ks → is_some (find k bs) ≡ is_some (find k cs)) → standing ks bs ≡ standing ks cs
+standing_same : (ks : List Key) (bs cs : List Branch) → ((k : Key) → In k ks → is_some (find k bs) ≡ is_some (find k cs)) → unsettled_serials ks bs ≡ unsettled_serials ks cs
 standing_same [] bs cs h = refl
 standing_same (k ∷ ks) bs cs h = let more = standing_same ks bs cs (λ j i. h j (inr i)) in let same = h k (inl refl) in λ i. if same i then k.serial ∷ more i else more i
 
-pub standing_put : (ks : List Key) (b o : Branch) (bs : List Branch) → find b.key bs ≡ Some o → standing ks (put b bs) ≡ standing ks bs
+pub standing_put : (ks : List Key) (b o : Branch) (bs : List Branch) → find b.key bs ≡ Some o → unsettled_serials ks (put b bs) ≡ unsettled_serials ks bs
 standing_put ks b o bs e = standing_same ks (put b bs) bs (λ k i. elim (told_key b.key k) [
   | inl q ↦ subst (λ j. is_some (find j (put b bs)) ≡ is_some (find j bs)) q.1 (ap is_some (find-put b bs) ∙ sym (ap is_some e))
   | inr q ↦ ap is_some (find-put_other k b bs q.1)
 ])
 
-pub standing_new : (ks : List Key) (b : Branch) (bs : List Branch) → (In b.key ks → ⊥) → standing ks (put b bs) ≡ standing ks bs
+pub standing_new : (ks : List Key) (b : Branch) (bs : List Branch) → (In b.key ks → ⊥) → unsettled_serials ks (put b bs) ≡ unsettled_serials ks bs
 standing_new ks b bs n = standing_same ks (put b bs) bs (λ k i. ap is_some (find-put_other k b bs (λ q. n (subst (λ j. In j ks) (sym q) i))))
 
-pub standing_left : (ks : List Key) (k : Key) (bs : List Branch) → (In k ks → ⊥) → standing ks (cut k bs) ≡ standing ks bs
+pub standing_left : (ks : List Key) (k : Key) (bs : List Branch) → (In k ks → ⊥) → unsettled_serials ks (cut k bs) ≡ unsettled_serials ks bs
 standing_left ks k bs n = standing_same ks (cut k bs) bs (λ j i. ap is_some (find-cut_other k j bs (λ q. n (subst (λ z. In z ks) (sym q) i))))
 
-pub standing_more : (ks : List Key) (k : Key) (b : Branch) (bs : List Branch) → find k bs ≡ Some b → standing (ks ++ k ∷ []) bs ≡ standing ks bs ++ k.serial ∷ []
+pub standing_more : (ks : List Key) (k : Key) (b : Branch) (bs : List Branch) → find k bs ≡ Some b → unsettled_serials (ks ++ k ∷ []) bs ≡ unsettled_serials ks bs ++ k.serial ∷ []
 standing_more [] k b bs e = let t : is_some (find k bs) ≡ true = ap is_some e in rw t refl
 standing_more (j ∷ ks) k b bs e = go (is_some (find j bs)) (standing_more ks k b bs e)
   where
-    go : (t : Bool) → standing (ks ++ k ∷ []) bs ≡ standing ks bs ++ k.serial ∷ [] → (if t then j.serial ∷ standing (ks ++ k ∷ []) bs else standing (ks ++ k ∷ []) bs) ≡ (if t then j.serial ∷ standing ks bs else standing ks bs) ++ k.serial ∷ []
+    go : (t : Bool) → unsettled_serials (ks ++ k ∷ []) bs ≡ unsettled_serials ks bs ++ k.serial ∷ [] → (if t then j.serial ∷ unsettled_serials (ks ++ k ∷ []) bs else unsettled_serials (ks ++ k ∷ []) bs) ≡ (if t then j.serial ∷ unsettled_serials ks bs else unsettled_serials ks bs) ++ k.serial ∷ []
     go false r = r
     go true r = ap (λ (z : List Id). j.serial ∷ z) r
 
-pub standing_settled : (ks : List Key) (k : Key) (o : Branch) (bs : List Branch) → Distinct (branch_serials bs) → find k bs ≡ Some o → standing ks (cut k bs) ≡ without k.serial (standing ks bs)
+pub standing_settled : (ks : List Key) (k : Key) (o : Branch) (bs : List Branch) → Distinct (branch_serials bs) → find k bs ≡ Some o → unsettled_serials ks (cut k bs) ≡ without k.serial (unsettled_serials ks bs)
 standing_settled [] k o bs d e = refl
 standing_settled (j ∷ ks) k o bs d e = elim (told_key k j) [
   | inl q ↦
@@ -234,7 +234,7 @@ standing_settled (j ∷ ks) k o bs d e = elim (told_key k j) [
     same : (a b : Key) → a ≡ b → same_id a.serial b.serial ≡ true
     same a b p = elim (told_id a.serial b.serial) [ inl t ↦ t.0 | inr t ↦ absurd (t.1 (ap (λ (i : Key). i.serial) p)) ]
 
-    go : (k ≡ j → ⊥) → standing ks (cut k bs) ≡ without k.serial (standing ks bs) → (x : Option Branch) → find j bs ≡ x → standing (j ∷ ks) (cut k bs) ≡ without k.serial (standing (j ∷ ks) bs)
+    go : (k ≡ j → ⊥) → unsettled_serials ks (cut k bs) ≡ without k.serial (unsettled_serials ks bs) → (x : Option Branch) → find j bs ≡ x → unsettled_serials (j ∷ ks) (cut k bs) ≡ without k.serial (unsettled_serials (j ∷ ks) bs)
     go other more None f =
         let g : is_some (find j bs) ≡ false = ap is_some f in
         let h : is_some (find j (cut k bs)) ≡ false = ap is_some (find-cut_other k j bs other) ∙ g in

@@ -14,7 +14,7 @@ use Rattle.commit_protocol.specs.Standing.{BeginsNothing}
 use Rattle.commit_protocol.specs.Table.{Act, Active, Branch, Joining, Key, Notes, Sends, Tm, after, after_act, child, coordinator_of, home_of}
 use Rattle.commit_protocol.specs.World.{In}
 use Rattle.commit_protocol.proofs.WithinRows.{keeps_limits}
-use Rattle.log_laws.specs.Slots.{Slots, begun}
+use Rattle.log_laws.specs.Slots.{Slots, branches_added}
 use Rattle.run_model.specs.Answers.{just, table_rows, told_rows}
 use Rattle.run_model.specs.Steps.{node_after_rows}
 use Rattle.run_model.specs.World as world
@@ -34,12 +34,12 @@ use Rattle.world_laws.specs.Nodes.{AreUp}
 use Rattle.world_laws.specs.Running.{IsDrawn}
 use Rattle.recovery_units.specs.Laws.{KeepsNodes}
 use Rattle.recovery_units.specs.State.{UnitsState, is_begun, with_begun}
-use Rattle.recovery_units.specs.Uses.{Caused, Goes, down_of}
+use Rattle.recovery_units.specs.Uses.{Caused, DiskAdvances, down_of}
 use Rattle.volume.specs.State.{VolumeState}
 use Rattle.node_table.specs.Growing as growing
 use Rattle.node_table.specs.Growing.{Stays, end_to_come, groups_left, moment_to_come}
 use Rattle.node_table.specs.Running.{Grown, IsEarlyFor, IsFreshFor, IsFreshOf, IsNewFor, IsTold, KeepsUp, TellsRows}
-use Rattle.node_table.specs.Standing.{Follows, HasDeclared, IsUp, StandsAt, StandsUp, Stored, Up}
+use Rattle.node_table.specs.Standing.{Follows, HasDeclared, IsUp, Stored, StoredRepresents, Up, UpRepresents}
 use Rattle.node_table.specs.Telling.{MayBegin, MayTellAll, TellsAll, begun_by, uses_disk}
 use Rattle.node_table.proofs.Beginning.{Begins, follows_new, stands_new, unit_new, unit_room, with_unit}
 use Rattle.node_table.proofs.Rows.{up_first}
@@ -53,11 +53,11 @@ quiet_may e tid r up allows none of = record { follows = up.follows; may = may_r
 -- what is kept behind acts of a table, where this is the stored part before them
 kept_up : {T : Type 0} (r : Result T Down) (e : Event) (es : List Effect) (tid : Id) (clock : ℕ) (mid : Stored) (acts : List Act) (tm : Tm) (old new : Up) (x y : SharedState) (a b : Shown) → es ≡ effects_of (row old.tm e) old.tm.records → MayTellAll es tid acts tm mid → mid.volume ≡ old.stored.volume
     → TmWithin (after acts tm) → new.tm ≡ after acts tm → new.drawn ≡ old.drawn → new.declared ≡ old.declared
-    → moment_to_come mid ≤ moment_to_come old.stored + begun e → end_to_come mid ≤ end_to_come old.stored + begun e * 2 ^ 25
+    → moment_to_come mid ≤ moment_to_come old.stored + branches_added e → end_to_come mid ≤ end_to_come old.stored + branches_added e * 2 ^ 25
     → TellsAll old.declared r es tid clock mid new.stored x y a b → KeepsUp r e clock old new x y a b
 kept_up {T} r e es tid clock mid acts tm old new x y a b of_row may same within is ids declared m n t = record {
   up = up r t.follows;
-  goes = subst (λ (v : VolumeState). Goes v.store.disk new.stored.volume.store.disk) same t.stays.goes;
+  goes = subst (λ (v : VolumeState). DiskAdvances v.store.disk new.stored.volume.store.disk) same t.stays.goes;
   cause = subst (λ (v : VolumeState). Caused (down_of r) v.store.disk new.stored.volume.store.disk) same t.stays.cause;
   pool = t.stays.pool ∙ ap (λ (v : VolumeState). v.store.pool) same;
   node = t.stays.node ∙ ap (λ (v : VolumeState). v.catalog.home.node) same;
@@ -87,11 +87,11 @@ kept_up {T} r e es tid clock mid acts tm old new x y a b of_row may same within 
 -- what stands behind acts of it, in the world
 stood_up : (clock : ℕ) (tid : Id) (es : List Effect) (mid : Stored) (acts : List Act) (tm : Tm) (old new : Up) (sw : world.Shared) (n : Node) → MayTellAll es tid acts tm mid → laws.IsUp n → tm_of n ≡ tm → new.tm ≡ after acts tm → new.drawn ≡ old.drawn → n.volatile.drawn ≡ old.drawn → new.declared ≡ old.declared → HasDeclared old.declared n
     → ((k : Key) → In k n.volatile.preparation → IsDrawn n.name n.durable.boot n.volatile.drawn k.serial)
-    → StandsAt clock new.stored (after acts tm) (node_after_rows (table_rows acts sw n) n) → StandsUp clock new (node_after_rows (table_rows acts sw n) n)
+    → StoredRepresents clock new.stored (after acts tm) (node_after_rows (table_rows acts sw n) n) → UpRepresents clock new (node_after_rows (table_rows acts sw n) n)
 stood_up clock tid es mid acts tm old new sw n may up at is ids here declared has prep h =
     let m : Node = node_after_rows (table_rows acts sw n) n in
     record {
-      stands = subst (λ z. StandsAt clock new.stored z m) (sym is) h;
+      stands = subst (λ z. StoredRepresents clock new.stored z m) (sym is) h;
       drawn = drawn_same acts sw n ∙ here ∙ sym ids;
       declared = declared_same acts sw n ∙ has ∙ sym declared;
       preparation = λ k j.
@@ -109,9 +109,9 @@ pub quiet_rows : {T : Type 0} (r : Result T Down) (e : Event) (tid : Id) (clock 
 quiet_rows r e tid clock old new x y a b up allows none of is ids declared t = λ sw n h fresh share ups.
     let z : tm_of n ≡ old.tm = h.stands.table in
     let may : MayTellAll (effects_of (row old.tm e) old.tm.records) tid (row (tm_of n) e) (tm_of n) old.stored = subst (λ q. MayTellAll (effects_of (row old.tm e) old.tm.records) tid (row q e) q old.stored) (sym z) (quiet_may e tid old up allows none of) in
-    let stands : StandsAt clock old.stored (tm_of n) n = subst (λ q. StandsAt clock old.stored q n) (sym z) h.stands in
+    let stands : StoredRepresents clock old.stored (tm_of n) n = subst (λ q. StoredRepresents clock old.stored q n) (sym z) h.stands in
     let is' : new.tm ≡ after (row (tm_of n) e) (tm_of n) = is ∙ ap (λ q. after (row q e) q) (sym z) in
-    does_as r (table_rows (row (tm_of n) e) sw n) sw n a b (IsShared y) (StandsAt clock new.stored (after (row (tm_of n) e) (tm_of n))) (StandsUp clock new) (λ k. HasDisk k new.stored.volume.store.disk)
+    does_as r (table_rows (row (tm_of n) e) sw n) sw n a b (IsShared y) (StoredRepresents clock new.stored (after (row (tm_of n) e) (tm_of n))) (UpRepresents clock new) (λ k. HasDisk k new.stored.volume.store.disk)
     (stood_up clock tid (effects_of (row old.tm e) old.tm.records) old.stored (row (tm_of n) e) (tm_of n) old new sw n may (up_first (table_rows (row (tm_of n) e) sw n) n ups) refl is' ids h.drawn declared h.declared h.preparation)
     (t.does (tm_of n) (row (tm_of n) e) sw n h.declared may stands share ups)
 
@@ -121,7 +121,7 @@ begun_sums : (us : List OpenUnit) (tid serial : Id) → (length (us ++ new_unit 
 begun_sums [] tid serial = (refl, refl)
 begun_sums (u ∷ us) tid serial = (let r = begun_sums us tid serial in (let p = r.0 in omega arith, let p = r.1 in omega arith))
 
-module _ (e : Event) (b : Branch) (rest : List Act) (tid : Id) (old : Up) (row_is : (tm : Tm) → row tm e ≡ Notes b ∷ rest) (one : begun e ≡ 1) (up : IsUp old) (q : Begins b old.tm old.stored) where
+module _ (e : Event) (b : Branch) (rest : List Act) (tid : Id) (old : Up) (row_is : (tm : Tm) → row tm e ≡ Notes b ∷ rest) (one : branches_added e ≡ 1) (up : IsUp old) (q : Begins b old.tm old.stored) where
   after_is : (tm : Tm) → after (row tm e) tm ≡ after rest (after_act (Notes b) tm)
   after_is tm = ap (λ acts. after acts tm) (row_is tm)
 
@@ -138,24 +138,24 @@ module _ (e : Event) (b : Branch) (rest : List Act) (tid : Id) (old : Up) (row_i
         let sums = begun_sums old.stored.units.begun b.key.tid b.key.serial in
         let s1 = sums.0 in
         let s2 = sums.1 in
-        let is1 : 1 ≤ begun e = (let o : begun e ≡ 1 = one in omega arith) in
+        let is1 : 1 ≤ branches_added e = (let o : branches_added e ≡ 1 = one in omega arith) in
         kept_up r e (effects_of (row old.tm e) old.tm.records) tid clock (with_unit b old.stored) rest (after_act (Notes b) old.tm) old new x y a c refl begun_may refl (subst TmWithin (after_is old.tm) within) (is ∙ after_is old.tm) ids declared (omega arith) (omega arith) t
 
     pub begun_rows : (laws_hold : KeepsNodes) {T : Type 0} (r : Result T Down) (clock : ℕ) (new : Up) (x y : SharedState) (a c : Shown) → new.tm ≡ after (row old.tm e) old.tm → new.drawn ≡ old.drawn → new.declared ≡ old.declared
         → TellsAll old.declared r (effects_of (row old.tm e) old.tm.records) tid clock (with_unit b old.stored) new.stored x y a c
-        → (sw : world.Shared) (n : Node) → StandsUp clock old n → ((k : Key) → In k n.volatile.preparation → k.serial ≡ b.key.serial → ⊥) → IsShared x sw → AreUp (told_rows sw n (just e)) n
-        → DoesRows r (told_rows sw n (just e)) sw n a c (IsShared y) (StandsUp clock new) (λ k. HasDisk k new.stored.volume.store.disk)
+        → (sw : world.Shared) (n : Node) → UpRepresents clock old n → ((k : Key) → In k n.volatile.preparation → k.serial ≡ b.key.serial → ⊥) → IsShared x sw → AreUp (told_rows sw n (just e)) n
+        → DoesRows r (told_rows sw n (just e)) sw n a c (IsShared y) (UpRepresents clock new) (λ k. HasDisk k new.stored.volume.store.disk)
     begun_rows laws_hold r clock new x y a c is ids declared t sw n h fresh share ups =
         let at : List Act = row (tm_of n) e in
         let ups' : AreUp (table_rows (Notes b ∷ rest) sw n) n = subst (λ acts. AreUp (table_rows acts sw n) n) (row_is (tm_of n)) ups in
         let m : Node = acted (Tables (Notes b) (next_moment n)) n in
         let first : laws.IsUp m = up_first (table_rows rest sw m) m ups'.1 in
-        let stands : StandsAt clock (with_unit b old.stored) (after_act (Notes b) old.tm) m = stands_new laws_hold b clock old.tm old.stored n q up.follows h.stands fresh first in
-        let d : DoesRows r (table_rows rest sw m) sw m a c (IsShared y) (StandsAt clock new.stored (after rest (after_act (Notes b) old.tm))) (λ k. HasDisk k new.stored.volume.store.disk) = t.does (after_act (Notes b) old.tm) rest sw m h.declared begun_may stands share ups'.1 in
-        let d' : DoesRows r (table_rows rest sw m) sw m a c (IsShared y) (StandsUp clock new) (λ k. HasDisk k new.stored.volume.store.disk) = does_as r (table_rows rest sw m) sw m a c (IsShared y) (StandsAt clock new.stored (after rest (after_act (Notes b) old.tm))) (StandsUp clock new) (λ k. HasDisk k new.stored.volume.store.disk)
+        let stands : StoredRepresents clock (with_unit b old.stored) (after_act (Notes b) old.tm) m = stands_new laws_hold b clock old.tm old.stored n q up.follows h.stands fresh first in
+        let d : DoesRows r (table_rows rest sw m) sw m a c (IsShared y) (StoredRepresents clock new.stored (after rest (after_act (Notes b) old.tm))) (λ k. HasDisk k new.stored.volume.store.disk) = t.does (after_act (Notes b) old.tm) rest sw m h.declared begun_may stands share ups'.1 in
+        let d' : DoesRows r (table_rows rest sw m) sw m a c (IsShared y) (UpRepresents clock new) (λ k. HasDisk k new.stored.volume.store.disk) = does_as r (table_rows rest sw m) sw m a c (IsShared y) (StoredRepresents clock new.stored (after rest (after_act (Notes b) old.tm))) (UpRepresents clock new) (λ k. HasDisk k new.stored.volume.store.disk)
         (stood_up clock tid (effects_of (row old.tm e) old.tm.records) (with_unit b old.stored) rest (after_act (Notes b) old.tm) old new sw m begun_may first (ap (after_act (Notes b)) h.stands.table) (is ∙ after_is old.tm) ids h.drawn declared h.declared h.preparation) d in
-        subst (λ acts. DoesRows r (table_rows acts sw n) sw n a c (IsShared y) (StandsUp clock new) (λ k. HasDisk k new.stored.volume.store.disk)) (sym (row_is (tm_of n)))
-        (does_more (IsShared y) (StandsUp clock new) (λ k. HasDisk k new.stored.volume.store.disk) r (record { act = Some (Tables (Notes b) (next_moment n)); lines = [] }) (table_rows rest sw m) sw n a a c (emits_nothing a) d')
+        subst (λ acts. DoesRows r (table_rows acts sw n) sw n a c (IsShared y) (UpRepresents clock new) (λ k. HasDisk k new.stored.volume.store.disk)) (sym (row_is (tm_of n)))
+        (does_more (IsShared y) (UpRepresents clock new) (λ k. HasDisk k new.stored.volume.store.disk) r (record { act = Some (Tables (Notes b) (next_moment n)); lines = [] }) (table_rows rest sw m) sw n a a c (emits_nothing a) d')
 
 -- By the event.
 
@@ -182,7 +182,7 @@ may_ask tid t s bid tm ss = (record { stands = tt; slot = tt; lawful = (tt, tt);
 -- An event by which this branch begins, with these acts behind it.
 record IsNewOf (e : Event) (b : Branch) (rest : List Act) : Type 0 where
   row_is : (tm : Tm) → row tm e ≡ Notes b ∷ rest
-  one : begun e ≡ 1
+  one : branches_added e ≡ 1
   unit : (s : UnitsState) → begun_by e s ≡ with_begun b.key.tid b.key.serial s
   may_unit : (s : UnitsState) → (length s.begun < 64) × (is_begun b.key.serial s ≡ false) → MayBegin e s
   fresh : (r : Up) → IsFreshFor r e → IsFreshOf r b.key.serial

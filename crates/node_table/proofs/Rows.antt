@@ -33,9 +33,9 @@ use Rattle.volume_model.specs.Volumes.{HasDisk}
 use Rattle.world_laws.specs.Nodes as laws
 use Rattle.world_laws.specs.Nodes.{AreUp}
 use Rattle.recovery_units.specs.Laws.{KeepsNodes}
-use Rattle.recovery_units.specs.Uses.{Caused, Goes, down_of}
+use Rattle.recovery_units.specs.Uses.{Caused, DiskAdvances, down_of}
 use Rattle.node_table.specs.Growing.{Grown, IsEarlyFor, Stays}
-use Rattle.node_table.specs.Standing.{Follows, HasDeclared, StandsAt, Stored}
+use Rattle.node_table.specs.Standing.{Follows, HasDeclared, Stored, StoredRepresents}
 use Rattle.node_table.specs.Telling.{DidOne, IsOfWork, Leads, MayTellAll, MayTellOne, ShowsWork, TellsAll, TellsOne, TellsOneWith, WentDownIn, done, uses_disk, wire_after, wire_behind}
 use Rattle.node_table.proofs.Acting.{Moves, followed, moves_note, names_quiet, serials_apart, stood}
 use Rattle.node_table.proofs.Telling.{work_none}
@@ -43,10 +43,10 @@ use Rattle.node_table.proofs.Viewing.{acknowledge_still, release_still}
 
 -- Calls, one after another.
 
-pub goes_same : (d : DiskState) → Goes d d
+pub goes_same : (d : DiskState) → DiskAdvances d d
 goes_same d = record { size = refl; calls = refl; faults = λ h. omega arith; stops = λ h. omega arith; counted = λ h. h; told = refl }
 
-pub goes_on : (a b c : DiskState) → Goes a b → Goes b c → Goes a c
+pub goes_on : (a b c : DiskState) → DiskAdvances a b → DiskAdvances b c → DiskAdvances a c
 goes_on a b c f g = record {
   size = g.size ∙ f.size;
   calls = g.calls ∙ f.calls;
@@ -56,7 +56,7 @@ goes_on a b c f g = record {
   told = g.told ∙ f.told;
 }
 
-caused_on : (d : Option Down) (a b c : DiskState) → Goes a b → Caused d b c → Caused d a c
+caused_on : (d : Option Down) (a b c : DiskState) → DiskAdvances a b → Caused d b c → Caused d a c
 caused_on None a b c f h = tt
 caused_on (Some down.Failed) a b c f h = λ counted. rose_earlier a.faults b.faults c.faults (f.faults counted) (h (f.counted counted))
 caused_on (Some down.Stopped) a b c f h = λ counted. rose_earlier a.stops b.stops c.stops (f.stops counted) (h (f.counted counted))
@@ -128,7 +128,7 @@ still_leads tid act tm s f m e = followed tid act tm s s f m f.order refl (still
 
 -- What such an act comes to in the world.
 record Passes (act : Act) (clock : ℕ) (tm : Tm) (s : Stored) (n : Node) (sw : world.Shared) : Type 0 where
-  stands : StandsAt clock s (after_act act tm) (acted (Tables act (next_moment n)) n)
+  stands : StoredRepresents clock s (after_act act tm) (acted (Tables act (next_moment n)) n)
   lines : shown_by act (next_moment n) n sw ≡ []
   shares : (sh : SharedState) → IsShared sh sw → IsShared sh (shared_after (Tables act (next_moment n)) sw)
 
@@ -143,9 +143,9 @@ same_released s x moment n e =
     let p : release s x n.volatile.records ≡ n.volatile.records = (release_still s x n.volatile.records e).0 in
     λ i. record n { durable = record n.durable { log = record_effects_in (e i) n.durable.log }; volatile = record n.volatile { records = p i } }
 
-stands_same : (act : Act) (clock : ℕ) (tm : Tm) (s : Stored) (n : Node) → StandsAt clock s tm n → acted (Tables act (next_moment n)) n ≡ n → StandsAt clock s (after_act act tm) (acted (Tables act (next_moment n)) n)
+stands_same : (act : Act) (clock : ℕ) (tm : Tm) (s : Stored) (n : Node) → StoredRepresents clock s tm n → acted (Tables act (next_moment n)) n ≡ n → StoredRepresents clock s (after_act act tm) (acted (Tables act (next_moment n)) n)
 stands_same act clock tm s n h e =
-    let again : StandsAt clock s tm (acted (Tables act (next_moment n)) n) = subst (λ m. StandsAt clock s tm m) (sym e) h in
+    let again : StoredRepresents clock s tm (acted (Tables act (next_moment n)) n) = subst (λ m. StoredRepresents clock s tm m) (sym e) h in
     record {
       kept = again.kept;
       table = ap (after_act act) h.table;
@@ -157,7 +157,7 @@ stands_same act clock tm s n h e =
       under_way = again.under_way;
     }
 
-still_passes : (laws_hold : KeepsNodes) (tid : Id) (act : Act) (clock : ℕ) (tm : Tm) (s : Stored) (n : Node) (sw : world.Shared) → Follows tm s → MayDo tid act tm s.units.log → act_effects act tm.records ≡ [] → StandsAt clock s tm n → Passes act clock tm s n sw
+still_passes : (laws_hold : KeepsNodes) (tid : Id) (act : Act) (clock : ℕ) (tm : Tm) (s : Stored) (n : Node) (sw : world.Shared) → Follows tm s → MayDo tid act tm s.units.log → act_effects act tm.records ≡ [] → StoredRepresents clock s tm n → Passes act clock tm s n sw
 still_passes laws_hold tid (Notes b) clock tm s n sw f m e h = (
     let at : tm_of n ≡ tm = h.table in
     let f' : Follows (tm_of n) s = subst (λ x. Follows x s) (sym at) f in
@@ -208,8 +208,8 @@ module _ (laws_hold : KeepsNodes) (tid : Id) (s : Stored) where
       passed_follows done rest (after_act a tm) u l.follows (subst (λ z. MayDoAll tid (done ++ rest) (after_act a tm) z) (sym l.log) m.1) none.1 then
 
   pub passed_does : {rms : List Name} {T : Type 0} (r : Result T Down) (clock : ℕ) (sh : SharedState) (shares : world.Shared → Type 0) (falls : Node → Type 0) (stands : Tm → Node → Type 0) (a b : Shown) (done rest : List Act) (tm : Tm) (sw : world.Shared) (n : Node) → Follows tm s → MayDoAll tid (done ++ rest) tm s.units.log → effects_of done tm.records ≡ []
-      → StandsAt clock s tm n → HasDeclared rms n → IsShared sh sw → AreUp (table_rows (done ++ rest) sw n) n
-      → ((at : Tm) (sw' : world.Shared) (n' : Node) → at.records ≡ records_after_all done tm.records → Follows at s → MayDoAll tid rest at s.units.log → StandsAt clock s at n' → HasDeclared rms n' → IsShared sh sw' → AreUp (table_rows rest sw' n') n' → DoesRows r (table_rows rest sw' n') sw' n' a b shares (stands (after rest at)) falls)
+      → StoredRepresents clock s tm n → HasDeclared rms n → IsShared sh sw → AreUp (table_rows (done ++ rest) sw n) n
+      → ((at : Tm) (sw' : world.Shared) (n' : Node) → at.records ≡ records_after_all done tm.records → Follows at s → MayDoAll tid rest at s.units.log → StoredRepresents clock s at n' → HasDeclared rms n' → IsShared sh sw' → AreUp (table_rows rest sw' n') n' → DoesRows r (table_rows rest sw' n') sw' n' a b shares (stands (after rest at)) falls)
       → DoesRows r (table_rows (done ++ rest) sw n) sw n a b shares (stands (after (done ++ rest) tm)) falls
   passed_does r clock sh shares falls stands a b [] rest tm sw n f m e h declared share up then = then tm sw n refl f m h declared share up
   passed_does {rms} r clock sh shares falls stands a b (x ∷ done) rest tm sw n f m e h declared share up then =
@@ -242,8 +242,8 @@ all_none {rms} laws_hold tid clock s sh a = record {
   does = λ tm acts sw n declared m h share up.
       let m' : MayDoAll tid (acts ++ []) tm s.units.log = subst (λ z. MayDoAll tid z tm s.units.log) (sym (append-nil acts)) m.may in
       let u' : AreUp (table_rows (acts ++ []) sw n) n = subst (λ z. AreUp (table_rows z sw n) n) (sym (append-nil acts)) up in
-      subst (λ z. DoesRows done (table_rows z sw n) sw n a a (IsShared sh) (StandsAt clock s (after z tm)) (λ m. HasDisk m s.volume.store.disk)) (append-nil acts)
-      (passed_does laws_hold tid s {rms = rms} done clock sh (IsShared sh) (λ m. HasDisk m s.volume.store.disk) (StandsAt clock s) a a acts [] tm sw n m.follows m' m.gives h declared share u'
+      subst (λ z. DoesRows done (table_rows z sw n) sw n a a (IsShared sh) (StoredRepresents clock s (after z tm)) (λ m. HasDisk m s.volume.store.disk)) (append-nil acts)
+      (passed_does laws_hold tid s {rms = rms} done clock sh (IsShared sh) (λ m. HasDisk m s.volume.store.disk) (StoredRepresents clock s) a a acts [] tm sw n m.follows m' m.gives h declared share u'
       (λ at sw' n' e f q h' declared' share' up'. did_none sw' n' a share' h'));
 }
 
@@ -275,16 +275,16 @@ all_more {rms} {T} laws_hold r e es tid clock s t u x y z a b c one all = record
   does = λ tm acts sw n declared m h share up.
       let f = first_act acts tm.records e es m.gives in
       let u' : AreUp (table_rows (f.done ++ f.act ∷ f.rest) sw n) n = subst (λ q. AreUp (table_rows q sw n) n) f.parts up in
-      subst (λ q. DoesRows r (table_rows q sw n) sw n a c (IsShared z) (StandsAt clock u (after q tm)) (λ k. HasDisk k u.volume.store.disk)) (sym f.parts)
-      (passed_does laws_hold tid s {rms = rms} r clock x (IsShared z) (λ k. HasDisk k u.volume.store.disk) (StandsAt clock u) a c f.done (f.act ∷ f.rest) tm sw n m.follows (parts_of e es tid acts tm s m f) f.gave h declared share u'
+      subst (λ q. DoesRows r (table_rows q sw n) sw n a c (IsShared z) (StoredRepresents clock u (after q tm)) (λ k. HasDisk k u.volume.store.disk)) (sym f.parts)
+      (passed_does laws_hold tid s {rms = rms} r clock x (IsShared z) (λ k. HasDisk k u.volume.store.disk) (StoredRepresents clock u) a c f.done (f.act ∷ f.rest) tm sw n m.follows (parts_of e es tid acts tm s m f) f.gave h declared share u'
       (λ at sw' n' same follows may stands declared' share' up'.
       let gives : act_effects f.act at.records ≡ e ∷ [] = subst (λ q. act_effects f.act q ≡ e ∷ []) (sym same) f.gives in
       let left : effects_of f.rest (records_after f.act at.records) ≡ es = subst (λ q. effects_of f.rest (records_after f.act q) ≡ es) (sym same) f.left in
       let m1 : MayTellOne e tid f.act at s = one_of e tid f.act f.rest at s follows may gives in
       let l : Leads f.act at s t = one.leads at f.act m1 in
       let m2 : MayTellAll es tid f.rest (after_act f.act at) t = rest_of es tid f.act f.rest at s t l may left in
-      let d : DidOne f.act sw' n' a b y (StandsAt clock t (after_act f.act at)) = one.does at f.act sw' n' declared' m1 stands share' up'.0 (up_first (table_rows f.rest (shared_after (Tables f.act (next_moment n')) sw') (acted (Tables f.act (next_moment n')) n')) (acted (Tables f.act (next_moment n')) n') up'.1) in
-      does_more (IsShared z) (StandsAt clock u (after f.rest (after_act f.act at))) (λ k. HasDisk k u.volume.store.disk) r (record { act = Some (Tables f.act (next_moment n')); lines = shown_by f.act (next_moment n') n' sw' })
+      let d : DidOne f.act sw' n' a b y (StoredRepresents clock t (after_act f.act at)) = one.does at f.act sw' n' declared' m1 stands share' up'.0 (up_first (table_rows f.rest (shared_after (Tables f.act (next_moment n')) sw') (acted (Tables f.act (next_moment n')) n')) (acted (Tables f.act (next_moment n')) n') up'.1) in
+      does_more (IsShared z) (StoredRepresents clock u (after f.rest (after_act f.act at))) (λ k. HasDisk k u.volume.store.disk) r (record { act = Some (Tables f.act (next_moment n')); lines = shown_by f.act (next_moment n') n' sw' })
       (table_rows f.rest (shared_after (Tables f.act (next_moment n')) sw') (acted (Tables f.act (next_moment n')) n')) sw' n' a b c d.shows
       (all.does (after_act f.act at) f.rest (shared_after (Tables f.act (next_moment n')) sw') (acted (Tables f.act (next_moment n')) n') declared' m2 d.node d.shares up'.1)));
 }
@@ -314,8 +314,8 @@ all_down {rms} {T} laws_hold d e es tid clock s t x y a b one = record {
   does = λ tm acts sw n declared m h share up.
       let f = first_act acts tm.records e es m.gives in
       let u' : AreUp (table_rows (f.done ++ f.act ∷ f.rest) sw n) n = subst (λ q. AreUp (table_rows q sw n) n) f.parts up in
-      subst (λ q. DoesRows {T = T} (Err d) (table_rows q sw n) sw n a b (IsShared y) (StandsAt clock t (after q tm)) (λ k. HasDisk k t.volume.store.disk)) (sym f.parts)
-      (passed_does laws_hold tid s {rms = rms} {T = T} (Err d) clock x (IsShared y) (λ k. HasDisk k t.volume.store.disk) (StandsAt clock t) a b f.done (f.act ∷ f.rest) tm sw n m.follows (parts_of e es tid acts tm s m f) f.gave h declared share u'
+      subst (λ q. DoesRows {T = T} (Err d) (table_rows q sw n) sw n a b (IsShared y) (StoredRepresents clock t (after q tm)) (λ k. HasDisk k t.volume.store.disk)) (sym f.parts)
+      (passed_does laws_hold tid s {rms = rms} {T = T} (Err d) clock x (IsShared y) (λ k. HasDisk k t.volume.store.disk) (StoredRepresents clock t) a b f.done (f.act ∷ f.rest) tm sw n m.follows (parts_of e es tid acts tm s m f) f.gave h declared share u'
       (λ at sw' n' same follows may stands declared' share' up'.
       let gives : act_effects f.act at.records ≡ e ∷ [] = subst (λ q. act_effects f.act q ≡ e ∷ []) (sym same) f.gives in
       let w : WentDownIn f.act sw' n' a b y t.volume.store.disk = one.does at f.act sw' n' declared' (one_of e tid f.act f.rest at s follows may gives) stands share' up'.0

@@ -32,9 +32,9 @@ use Rattle.recovery_units.specs.declared.settled.SettledUnit.{SettledUnit}
 use Rattle.volume.specs.State.{VolumeState}
 use Rattle.recovery_units.specs.Calls.{Broken, Done, ForActs, SettlesOk, SettlesTo, told_settlement}
 use Rattle.recovery_units.specs.State.{AreOfBranches, IsInOrder, IsKept, IsOfBranch, MayLeave, MayLog, MayVote, UnitsState, aborted, are_there, committed, is_begun, unit_of, vote_of, voted, with_prepared, without_begun, without_unit}
-use Rattle.recovery_units.specs.Uses.{Caused, Goes, Grows, ImagesGrow, down_of}
+use Rattle.recovery_units.specs.Uses.{Caused, DiskAdvances, Grows, ImagesGrow, down_of}
 use Rattle.node_table.specs.Growing.{IsEarlyFor}
-use Rattle.node_table.specs.Standing.{AreInDoubt, Follows, NamesPrepared, Stored, standing}
+use Rattle.node_table.specs.Standing.{AreInDoubt, Follows, NamesPrepared, Stored, unsettled_serials}
 use Rattle.node_table.specs.Telling.{IsOfWork, Leads, MayTellOne, ShowsWork, TellsOne, done, uses_disk, wire_behind}
 use Rattle.node_table.proofs.Acting.{Moves, Names, followed, moves_left, moves_prepared, moves_settled, names_left, names_prepared, names_settled, serials_apart}
 use Rattle.node_table.proofs.Branching.{HasUnit, has_unit}
@@ -217,14 +217,14 @@ pub record HasLeft (serial : Id) (told : Id) (s t : Stored) (a b : Shown) : Type
   pub since : Since a b
   pub shows : Emits a (line.ReadOnly told serial ∷ []) b
 
-pub leave_tells : (serial told : Id) (s t : Stored) (a b : Shown) → HasLeft serial told s t a b → Goes s.volume.store.disk s.volume.store.disk → (tid0 : Id) (act0 : Act) (tm0 : Tm) → MayTellOne (ReadOnlyEffect serial) tid0 act0 tm0 s
+pub leave_tells : (serial told : Id) (s t : Stored) (a b : Shown) → HasLeft serial told s t a b → DiskAdvances s.volume.store.disk s.volume.store.disk → (tid0 : Id) (act0 : Act) (tm0 : Tm) → MayTellOne (ReadOnlyEffect serial) tid0 act0 tm0 s
     → (tid : Id) (clock : ℕ) (sh : SharedState) → TellsOne done (ReadOnlyEffect serial) tid clock s t sh sh a b
 leave_tells serial told s t a b c same tid0 act0 tm0 m0 tid clock sh =
     let v0 = leaving serial tid0 act0 tm0 s m0 in
     let begun : t.units.begun ≡ without_unit serial s.units.begun = ap (λ (x : UnitsState). x.begun) c.units in
     record {
       stays = record {
-        goes = subst (λ (x : VolumeState). Goes s.volume.store.disk x.store.disk) (sym c.volume) same;
+        goes = subst (λ (x : VolumeState). DiskAdvances s.volume.store.disk x.store.disk) (sym c.volume) same;
         cause = tt;
         pool = ap (λ (x : VolumeState). x.store.pool) c.volume;
         node = ap (λ (x : VolumeState). x.catalog.home.node) c.volume;
@@ -399,7 +399,7 @@ record_moves (Undoes k) e tm s t is f g us log doubt = absurd is
 record_moves (Sends m) e tm s t is f g us log doubt = absurd is
 record_moves (Prints l) e tm s t is f g us log doubt = absurd is
 
-record_names : (act : Act) (n : Node) (old new : List Id) → IsOfRecords act → standing n.volatile.preparation n.volatile.branches ≡ old → NamesPrepared n.volatile.preparation n.volatile.branches → new ≡ old → Names act n old new
+record_names : (act : Act) (n : Node) (old new : List Id) → IsOfRecords act → unsettled_serials n.volatile.preparation n.volatile.branches ≡ old → NamesPrepared n.volatile.preparation n.volatile.branches → new ≡ old → Names act n old new
 record_names (Acknowledges k) n old new is same h q = record { doubt = same ∙ sym q; names = h }
 record_names (Releases i x) n old new is same h q = record { doubt = same ∙ sym q; names = h }
 record_names (Notes b) n old new is same h q = absurd is

@@ -2,6 +2,7 @@
 use Rattle.std.proofs.Common.{◌≡◌, ◌+◌, ℕ, Bool, true, false, List, [], ◌∷◌, ◌++◌, Option, Some, None, refl, ap, sym, subst, ◌∙◌, length}
 use Rattle.std.specs.Prelude.{IfSome, ◌==◌, nat_lt, if◌then◌else◌}
 use Rattle.std.proofs.lemmas.Bool.{eq-eqb}
+use Rattle.vms_model.specs.Limits.{message_limit}
 use Rattle.commit_protocol.specs.Agreement.{Distinct}
 use Rattle.commit_protocol.specs.Effects.{Effect, SendEffect, TellEffect, JoinedEffect, StartedEffect, EndedEffect}
 use Rattle.commit_protocol.specs.Messages.{Message, Name, RmEvent}
@@ -9,7 +10,7 @@ use Rattle.commit_protocol.specs.Standing.{writes}
 use Rattle.commit_protocol.specs.Table.{Act, Accepts, Acknowledges, Key, Leaves, Notes, Prepares, Prints, Releases, Sends, Settles, Started, Tm, Undoes, after_act, branch_serials}
 use Rattle.run_model.specs.Answers.{sent_line, shown_by}
 use Rattle.run_model.specs.World as world
-use Rattle.run_model.specs.World.{Node, Tables, acted, fallen, message_limit, next_moment, posted, settlement, settlement_of, shared_after, tm_of}
+use Rattle.run_model.specs.World.{Node, Tables, acted, fallen, next_moment, posted, settlement, settlement_of, shared_after, tm_of}
 use Rattle.run_shared.specs.Sharing.{IsShared, SharedState}
 use Rattle.row_laws.specs.May.{MayDo}
 use Rattle.emitter_model.specs.Emitting.{Emits, Shown, Since}
@@ -25,7 +26,7 @@ use Rattle.recovery_units.specs.Calls.{ForActs, Done, Broken}
 use Rattle.recovery_units.specs.Laws.{KeepsNodes}
 use Rattle.recovery_units.specs.State.{IsKept}
 use Rattle.node_table.specs.Growing.{Stays}
-use Rattle.node_table.specs.Standing.{Follows, HasDeclared, StandsAt, Stored}
+use Rattle.node_table.specs.Standing.{Follows, HasDeclared, Stored, StoredRepresents}
 use Rattle.node_table.specs.Telling.{DidOne, IsOfWork, MayTellOne, ShowsWork, TellsOne, TellsOneWith, WentDownIn, done, event_lines, wire_behind}
 use Rattle.participants.specs.Refusing.{is_among}
 use Rattle.node_table.proofs.Acting.{IsQuiet, Names, followed, moves_quiet, names_quiet, serials_apart, stood}
@@ -36,21 +37,21 @@ pub at_some : {A : Type 0} (P : A → Type 0) (o : Option A) (x : A) → o ≡ S
 at_some P o x e h = let h' : IfSome (Some x) P = subst (λ y. IfSome y P) e h in h'
 
 -- the table of a node of the world that stands for it
-pub same_table : (e : Effect) (tid : Id) (act : Act) (tm : Tm) (s : Stored) (clock : ℕ) (n : Node) → StandsAt clock s tm n → MayTellOne e tid act tm s → MayTellOne e tid act (tm_of n) s
+pub same_table : (e : Effect) (tid : Id) (act : Act) (tm : Tm) (s : Stored) (clock : ℕ) (n : Node) → StoredRepresents clock s tm n → MayTellOne e tid act tm s → MayTellOne e tid act (tm_of n) s
 same_table e tid act tm s clock n h m = subst (λ x. MayTellOne e tid act x s) (sym h.table) m
 
 -- what units ask of a node and its act
-pub asked_of : (e : Effect) (tid : Id) (act : Act) (tm : Tm) (s : Stored) (clock : ℕ) (n : Node) → StandsAt clock s tm n → MayTellOne e tid act tm s → laws.IsUp n → laws.IsUp (acted (Tables act (next_moment n)) n) → calls.MayDo n act e
+pub asked_of : (e : Effect) (tid : Id) (act : Act) (tm : Tm) (s : Stored) (clock : ℕ) (n : Node) → StoredRepresents clock s tm n → MayTellOne e tid act tm s → laws.IsUp n → laws.IsUp (acted (Tables act (next_moment n)) n) → calls.MayDo n act e
 asked_of e tid act tm s clock n h m up after = let w = same_table e tid act tm s clock n h m in record { up = up; gives = w.gives; stands = w.may.stands; after = after }
 
 -- Done, and shown.
 
-pub did : (e : Effect) (tid : Id) (act : Act) (tm : Tm) (clock : ℕ) (s t : Stored) (sw : world.Shared) (n : Node) (a b : Shown) (sh : SharedState) → StandsAt clock s tm n → IsKept t.units t.volume (acted (Tables act (next_moment n)) n) → Names act n s.in_doubt t.in_doubt
-    → Emits a (shown_by act (next_moment n) n sw) b → IsShared sh (shared_after (Tables act (next_moment n)) sw) → DidOne act sw n a b sh (StandsAt clock t (after_act act tm))
+pub did : (e : Effect) (tid : Id) (act : Act) (tm : Tm) (clock : ℕ) (s t : Stored) (sw : world.Shared) (n : Node) (a b : Shown) (sh : SharedState) → StoredRepresents clock s tm n → IsKept t.units t.volume (acted (Tables act (next_moment n)) n) → Names act n s.in_doubt t.in_doubt
+    → Emits a (shown_by act (next_moment n) n sw) b → IsShared sh (shared_after (Tables act (next_moment n)) sw) → DidOne act sw n a b sh (StoredRepresents clock t (after_act act tm))
 did e tid act tm clock s t sw n a b sh h kept names shows shares = record { shows = shows; shares = shares; node = stood clock (next_moment n) act tm s t n h kept names }
 
 -- the serials of a node's branches differ
-apart_at : (tm : Tm) (s : Stored) (clock : ℕ) (n : Node) → StandsAt clock s tm n → Follows tm s → Distinct (branch_serials n.volatile.branches)
+apart_at : (tm : Tm) (s : Stored) (clock : ℕ) (n : Node) → StoredRepresents clock s tm n → Follows tm s → Distinct (branch_serials n.volatile.branches)
 apart_at tm s clock n h f = serials_apart (tm_of n) s (subst (λ x. Follows x s) (sym h.table) f)
 
 -- one line that shows no failure

@@ -1,7 +1,8 @@
 -- How a node's numbers grow that only grow: the greatest moment of its settlements, and the ends of its journals.
 use Rattle.std.specs.Prelude.{◌≡◌, ◌≤◌, ◌+◌, ◌*◌, ◌^◌, ℕ, List, [], ◌∷◌, length, max, Result, OnOk, if◌then◌else◌}
+use Rattle.vms_model.specs.Limits.{branch_limit, moment_ceiling}
 use Rattle.careful_write.specs.declared.down.Down.{Down}
-use Rattle.recovery_units.specs.Uses.{Caused, Goes, down_of}
+use Rattle.recovery_units.specs.Uses.{Caused, DiskAdvances, down_of}
 use Rattle.unit_table.specs.Units.{OpenUnit}
 use Rattle.image_room.specs.Room.{images_end}
 use Rattle.volume.specs.State.{VolumeState}
@@ -25,17 +26,17 @@ end_to_come s = furthest s.volume + groups_left s.units.begun * 2 ^ 24
 
 -- they are far from their ends
 pub record IsEarlyFor (s : Stored) : Type 0 where
-  pub moment : moment_to_come s ≤ 24000001000066
+  pub moment : moment_to_come s ≤ moment_ceiling
   pub low : end_to_come s ≤ 2 ^ 62
 
 -- They have not grown by more than settlements at this clock, and not at all by those of the units that there were.
 pub record Grown (clock : ℕ) (old new : Stored) : Type 0 where
-  pub moment : moment_to_come new ≤ max (moment_to_come old) (clock + 64)
+  pub moment : moment_to_come new ≤ max (moment_to_come old) (clock + branch_limit)
   pub end : end_to_come new ≤ end_to_come old
 
 -- What calls leave, up to the first that fails: the volume's node, its boot and its frames; a failure raised its count.
 pub record Stays {T : Type 0} (r : Result T Down) (clock : ℕ) (old new : Stored) : Type 0 where
-  pub goes : Goes old.volume.store.disk new.volume.store.disk
+  pub goes : DiskAdvances old.volume.store.disk new.volume.store.disk
   pub cause : Caused (down_of r) old.volume.store.disk new.volume.store.disk
   pub pool : new.volume.store.pool ≡ old.volume.store.pool
   pub node : new.volume.catalog.home.node ≡ old.volume.catalog.home.node

@@ -1,6 +1,7 @@
 -- What telling a node's table an event comes to.
 use Rattle.std.specs.Prelude.{◌≡◌, [], map, true, ◌≤◌, ◌<◌, length, ◌+◌, ◌*◌, ◌^◌, ℕ, ◌++◌, max, Option, None, Result, OnErr, OnOk}
 use Rattle.std.specs.List.{list_any}
+use Rattle.vms_model.specs.Limits.{branch_limit, moment_ceiling}
 use Rattle.careful_write.specs.declared.down.Down.{Down}
 use Rattle.commit_protocol.specs.Effects.{effects_of}
 use Rattle.commit_protocol.specs.Messages.{Inquire, Message}
@@ -8,12 +9,12 @@ use Rattle.commit_protocol.specs.Rows as rows
 use Rattle.commit_protocol.specs.Rows.{Event, row, up}
 use Rattle.commit_protocol.specs.Table.{Key, Tm, branch_serials, branches_of, record_key, record_serials}
 use Rattle.commit_protocol.specs.World.{In}
-use Rattle.log_laws.specs.Slots.{begun, size}
+use Rattle.log_laws.specs.Slots.{branches_added, size}
 use Rattle.recovery_units.specs.State.{IsKept}
 use Rattle.recovery_units.specs.Told.{ReopenedTold}
 use Rattle.tm_types.specs.Parts.{log_record_of}
 use Rattle.world_laws.specs.Nodes as laws
-use Rattle.recovery_units.specs.Uses.{Caused, Goes, down_of}
+use Rattle.recovery_units.specs.Uses.{Caused, DiskAdvances, down_of}
 use Rattle.row_laws.specs.Doing.{DoesRows}
 use Rattle.run_model.specs.Answers.{just, told_rows}
 use Rattle.run_model.specs.Statements.{answer_in}
@@ -25,7 +26,7 @@ use Rattle.vms_model.specs.Ids.{Id}
 use Rattle.volume_model.specs.Volumes.{HasDisk}
 use Rattle.world_laws.specs.Nodes.{AreUp}
 use Rattle.node_table.specs.Growing.{end_to_come, moment_to_come}
-use Rattle.node_table.specs.Standing.{IsUp, StandsUp, Stored, Up}
+use Rattle.node_table.specs.Standing.{IsUp, Stored, Up, UpRepresents}
 use Rattle.node_table.specs.Telling.{ShowsWork, uses_disk}
 
 -- an event by which a node does what its table says; that a branch has changed something is only noted
@@ -51,18 +52,18 @@ IsNewFor n _ = Unit {0}
 
 -- numbers that only grow are far from their ends, also where a branch begins with the event
 pub record IsEarlyFor (e : Event) (r : Up) : Type 0 where
-  pub moment : moment_to_come r.stored + begun e ≤ 24000001000066
-  pub low : end_to_come r.stored + begun e * 2 ^ 25 ≤ 2 ^ 62
+  pub moment : moment_to_come r.stored + branches_added e ≤ moment_ceiling
+  pub low : end_to_come r.stored + branches_added e * 2 ^ 25 ≤ 2 ^ 62
 
 -- they grow by no more than that
 pub record Grown (e : Event) (clock : ℕ) (old new : Up) : Type 0 where
-  pub moment : moment_to_come new.stored ≤ max (moment_to_come old.stored + begun e) (clock + 64)
-  pub end : end_to_come new.stored ≤ end_to_come old.stored + begun e * 2 ^ 25
+  pub moment : moment_to_come new.stored ≤ max (moment_to_come old.stored + branches_added e) (clock + branch_limit)
+  pub end : end_to_come new.stored ≤ end_to_come old.stored + branches_added e * 2 ^ 25
 
 -- What a node that is up keeps in order, whatever its disk has, and what it shows and sends. Its disk goes down in that only where the row has an effect that uses it.
 pub record KeepsUp {T : Type 0} (r : Result T Down) (e : Event) (clock : ℕ) (old new : Up) (before after : SharedState) (a b : Shown) : Type 0 where
   pub up : OnOk r (IsUp new)
-  pub goes : Goes old.stored.volume.store.disk new.stored.volume.store.disk
+  pub goes : DiskAdvances old.stored.volume.store.disk new.stored.volume.store.disk
   pub cause : Caused (down_of r) old.stored.volume.store.disk new.stored.volume.store.disk
   pub pool : new.stored.volume.store.pool ≡ old.stored.volume.store.pool
   pub node : new.stored.volume.catalog.home.node ≡ old.stored.volume.catalog.home.node
@@ -76,8 +77,8 @@ pub record KeepsUp {T : Type 0} (r : Result T Down) (e : Event) (clock : ℕ) (o
 
 -- The rows of the event were done and shown, or the disk went down in them, at each node of the world that is up before each of them and behind them.
 abbrev pub TellsRows : {T : Type 0} → Result T Down → Event → (clock : ℕ) → (old new : Up) → (before after : SharedState) → (a b : Shown) → Type 0
-TellsRows r e clock old new before after a b = (s : world.Shared) (n : Node) → StandsUp clock old n → IsNewFor n e → IsShared before s → AreUp (told_rows s n (just e)) n →
-    DoesRows r (told_rows s n (just e)) s n a b (IsShared after) (StandsUp clock new) (λ m. HasDisk m new.stored.volume.store.disk)
+TellsRows r e clock old new before after a b = (s : world.Shared) (n : Node) → UpRepresents clock old n → IsNewFor n e → IsShared before s → AreUp (told_rows s n (just e)) n →
+    DoesRows r (told_rows s n (just e)) s n a b (IsShared after) (UpRepresents clock new) (λ m. HasDisk m new.stored.volume.store.disk)
 
 -- what a table answers the question of a branch
 abbrev pub answer_to : Tm → Key → Option Message

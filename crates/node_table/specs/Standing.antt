@@ -46,9 +46,9 @@ pub record IsUp (r : Up) : Type 0 where
   pub within : TmWithin r.tm
 
 -- the serials of keys that stand among branches, in the order of the keys
-abbrev pub standing : List Key → List Branch → List Id
-standing [] bs = []
-standing (k ∷ ks) bs = if is_some (find k bs) then k.serial ∷ standing ks bs else standing ks bs
+abbrev pub unsettled_serials : List Key → List Branch → List Id
+unsettled_serials [] bs = []
+unsettled_serials (k ∷ ks) bs = if is_some (find k bs) then k.serial ∷ unsettled_serials ks bs else unsettled_serials ks bs
 
 -- Just the prepared branches are named by these keys.
 pub record NamesPrepared (ks : List Key) (bs : List Branch) : Type 0 where
@@ -57,11 +57,11 @@ pub record NamesPrepared (ks : List Key) (bs : List Branch) : Type 0 where
 
 -- A node of the world behind some acts of a row, where the disk tells its content: it is these units and this volume, its table is this, at this clock; and the
 -- branches that were prepared, in the order of that, are those in doubt.
-pub record StandsAt (clock : ℕ) (s : Stored) (tm : Tm) (n : Node) : Type 0 where
+pub record StoredRepresents (clock : ℕ) (s : Stored) (tm : Tm) (n : Node) : Type 0 where
   pub kept : IsKept s.units s.volume n
   pub table : tm_of n ≡ tm
   pub clock_is : n.clock ≡ clock
-  pub doubt : standing n.volatile.preparation n.volatile.branches ≡ s.in_doubt
+  pub doubt : unsettled_serials n.volatile.preparation n.volatile.branches ≡ s.in_doubt
   pub names : NamesPrepared n.volatile.preparation n.volatile.branches
   pub up : n.up ≡ true
   pub was_up : n.was_up ≡ true
@@ -72,8 +72,8 @@ abbrev pub HasDeclared : List Name → Node → Type 0
 HasDeclared rms n = n.volatile.declared ≡ rms
 
 -- A node of the world that is up: it drew so many ids, and those of the branches that were prepared are among them; and these resource managers are declared there.
-pub record StandsUp (clock : ℕ) (r : Up) (n : Node) : Type 0 where
-  pub stands : StandsAt clock r.stored r.tm n
+pub record UpRepresents (clock : ℕ) (r : Up) (n : Node) : Type 0 where
+  pub stands : StoredRepresents clock r.stored r.tm n
   pub drawn : n.volatile.drawn ≡ r.drawn
   pub declared : HasDeclared r.declared n
   pub preparation : (k : Key) → In k n.volatile.preparation → IsDrawn n.name n.durable.boot n.volatile.drawn k.serial

@@ -2,6 +2,7 @@
 use Rattle.std.specs.Prelude.{◌≡◌, ◌<◌, ◌+◌, ◌==◌, ℕ, length, List, [], ◌∷◌, ◌++◌, Bool, true, false, Some, Result, Ok, OnErr, OnOk, MatchResult, if◌then◌else◌}
 use Rattle.std.specs.List.{AllByRecursion, list_any}
 use Rattle.block_disk.specs.Disk.{DiskState}
+use Rattle.vms_model.specs.Limits.{branch_limit}
 use Rattle.careful_write.specs.declared.down.Down.{Down as DownSaid}
 use Rattle.commit_protocol.specs.Effects.{Effect, PrepareEffect, SettleEffect, KeepEffect, ForgetEffect, act_effects, effects_of}
 use Rattle.commit_protocol.specs.Messages.{Message, Name, RmEvent}
@@ -25,7 +26,7 @@ use Rattle.commit_protocol.specs.Rows as rows
 use Rattle.commit_protocol.specs.Rows.{Event}
 use Rattle.recovery_units.specs.State.{IsNew, UnitsState, with_begun}
 use Rattle.node_table.specs.Growing.{Stays}
-use Rattle.node_table.specs.Standing.{Follows, HasDeclared, StandsAt, Stored}
+use Rattle.node_table.specs.Standing.{Follows, HasDeclared, Stored, StoredRepresents}
 
 -- whether a line is of what a node does while it is up: it shows no failure of a disk, and no node that goes down or comes up
 abbrev pub is_of_work : Line → Bool
@@ -93,15 +94,15 @@ pub record WentDownIn (act : Act) (s : world.Shared) (n : Node) (a b : Shown) (s
 
 -- so at each node of the world that is up before it and behind it
 abbrev pub DoesOne : {T : Type 0} → Result T DownSaid → Effect → Id → (clock : ℕ) → (old new : Stored) → (before after : SharedState) → (a b : Shown) → Type 0
-DoesOne r effect tid clock old new before after a b = (tm : Tm) (act : Act) (s : world.Shared) (n : Node) → MayTellOne effect tid act tm old → StandsAt clock old tm n → IsShared before s →
+DoesOne r effect tid clock old new before after a b = (tm : Tm) (act : Act) (s : world.Shared) (n : Node) → MayTellOne effect tid act tm old → StoredRepresents clock old tm n → IsShared before s →
     laws.IsUp n → laws.IsUp (acted (Tables act (next_moment n)) n) →
-    MatchResult r (λ _. DidOne act s n a b after (StandsAt clock new (after_act act tm))) (λ _. WentDownIn act s n a b after new.volume.store.disk)
+    MatchResult r (λ _. DidOne act s n a b after (StoredRepresents clock new (after_act act tm))) (λ _. WentDownIn act s n a b after new.volume.store.disk)
 
 -- or at each of them at which these resource managers are declared
 abbrev pub DoesOneWith : {T : Type 0} → List Name → Result T DownSaid → Effect → Id → (clock : ℕ) → (old new : Stored) → (before after : SharedState) → (a b : Shown) → Type 0
-DoesOneWith rms r effect tid clock old new before after a b = (tm : Tm) (act : Act) (s : world.Shared) (n : Node) → HasDeclared rms n → MayTellOne effect tid act tm old → StandsAt clock old tm n → IsShared before s →
+DoesOneWith rms r effect tid clock old new before after a b = (tm : Tm) (act : Act) (s : world.Shared) (n : Node) → HasDeclared rms n → MayTellOne effect tid act tm old → StoredRepresents clock old tm n → IsShared before s →
     laws.IsUp n → laws.IsUp (acted (Tables act (next_moment n)) n) →
-    MatchResult r (λ _. DidOne act s n a b after (StandsAt clock new (after_act act tm))) (λ _. WentDownIn act s n a b after new.volume.store.disk)
+    MatchResult r (λ _. DidOne act s n a b after (StoredRepresents clock new (after_act act tm))) (λ _. WentDownIn act s n a b after new.volume.store.disk)
 
 -- An effect was done and shown, or the disk went down in it, where it uses that: what the table is behind its act is followed, and it is so in the world.
 pub record TellsOne {T : Type 0} (r : Result T DownSaid) (effect : Effect) (tid : Id) (clock : ℕ) (old new : Stored) (before after : SharedState) (a b : Shown) : Type 0 where
@@ -131,8 +132,8 @@ pub record MayTellAll (effects : List Effect) (tid : Id) (acts : List Act) (tm :
 
 -- at each node of the world that is up before each of them and behind them, and at which these resource managers are declared
 abbrev pub DoesAll : {T : Type 0} → List Name → Result T DownSaid → List Effect → Id → (clock : ℕ) → (old new : Stored) → (before shared : SharedState) → (a b : Shown) → Type 0
-DoesAll rms r effects tid clock old new before shared a b = (tm : Tm) (acts : List Act) (s : world.Shared) (n : Node) → HasDeclared rms n → MayTellAll effects tid acts tm old → StandsAt clock old tm n → IsShared before s → AreUp (table_rows acts s n) n →
-    DoesRows r (table_rows acts s n) s n a b (IsShared shared) (StandsAt clock new (after acts tm)) (λ m. HasDisk m new.volume.store.disk)
+DoesAll rms r effects tid clock old new before shared a b = (tm : Tm) (acts : List Act) (s : world.Shared) (n : Node) → HasDeclared rms n → MayTellAll effects tid acts tm old → StoredRepresents clock old tm n → IsShared before s → AreUp (table_rows acts s n) n →
+    DoesRows r (table_rows acts s n) s n a b (IsShared shared) (StoredRepresents clock new (after acts tm)) (λ m. HasDisk m new.volume.store.disk)
 
 pub record TellsAll (rms : List Name) {T : Type 0} (r : Result T DownSaid) (effects : List Effect) (tid : Id) (clock : ℕ) (old new : Stored) (before shared : SharedState) (a b : Shown) : Type 0 where
   pub stays : Stays r clock old new
@@ -145,8 +146,8 @@ pub record TellsAll (rms : List Name) {T : Type 0} (r : Result T DownSaid) (effe
 -- Where an event begins a branch, one more unit may begin, which is its.
 
 abbrev pub MayBegin : Event → UnitsState → Type 0
-MayBegin (rows.Start tid due) s = (length s.begun < 64) × IsNew tid s
-MayBegin (rows.Begin tid serial bid) s = (length s.begun < 64) × IsNew serial s
+MayBegin (rows.Start tid due) s = (length s.begun < branch_limit) × IsNew tid s
+MayBegin (rows.Begin tid serial bid) s = (length s.begun < branch_limit) × IsNew serial s
 MayBegin e s = Unit {0}
 
 abbrev pub begun_by : Event → UnitsState → UnitsState

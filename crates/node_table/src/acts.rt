@@ -1,5 +1,6 @@
 // One effect of a row after another.
 ghost use Rattle.std.specs.Prelude.{◌≡◌, ◌≤◌, ◌+◌, ℕ, List, [], ◌∷◌, None, map, option_copied, vec_capacity};
+ghost use Rattle.vms_model.specs.Limits.{branch_limit, moment_ceiling};
 ghost use Rattle.commit_protocol.specs.Effects.{PrepareEffect, SettleEffect, KeepEffect, ForgetEffect, ReadOnlyEffect};
 ghost use Rattle.commit_protocol.specs.Table.{Act as ActSaid, Tm as TmSaid, without};
 ghost use Rattle.lmcp_log.specs.Log.{slot_of};
@@ -45,7 +46,7 @@ impl<D: Disk, U: RecoveryUnits> Stored<D, U> {
         requires laws { KeepsNodes }
         requires may { (tm : TmSaid) × (acts : List ActSaid) × MayTellAll (map effect_of effects.now) (tid_of tid.now) acts tm (stored_of U.state self.old) }
         requires early { IsEarlyFor (stored_of U.state self.old) }
-        requires clock { clock.0 + 64 ≤ 24000001000066 }
+        requires clock { clock.0 + branch_limit ≤ moment_ceiling }
         ensures place { E.place out.new ≡ E.place out.old }
         ensures tells { TellsAll managers.now result (map effect_of effects.now) (tid_of tid.now) clock.0 (stored_of U.state self.old) (stored_of U.state self.new) shared.old shared.new (E.shows out.old) (E.shows out.new) }
     {
@@ -71,7 +72,7 @@ impl<D: Disk, U: RecoveryUnits> Stored<D, U> {
         requires laws { KeepsNodes }
         requires may { (tm : TmSaid) × (act : ActSaid) × MayTellOne (effect_of effect.now) (tid_of tid.now) act tm (stored_of U.state self.old) }
         requires early { IsEarlyFor (stored_of U.state self.old) }
-        requires clock { clock.0 + 64 ≤ 24000001000066 }
+        requires clock { clock.0 + branch_limit ≤ moment_ceiling }
         ensures place { E.place out.new ≡ E.place out.old }
         ensures tells { TellsOneWith managers.now result (effect_of effect.now) (tid_of tid.now) clock.0 (stored_of U.state self.old) (stored_of U.state self.new) shared.old shared.new (E.shows out.old) (E.shows out.new) }
     {
@@ -169,7 +170,7 @@ impl<D: Disk, U: RecoveryUnits> Stored<D, U> {
     ) -> Result<(), Down>
         requires may { (tid : IdSaid) × (tm : TmSaid) × (act : ActSaid) × (reason : ReasonSaid) × MayTellOne (SettleEffect (serial_of serial) ToCommit reason (slot_of (option_copied logged))) tid act tm (stored_of U.state self.old) }
         requires early { IsEarlyFor (stored_of U.state self.old) }
-        requires clock { clock.0 + 64 ≤ 24000001000066 }
+        requires clock { clock.0 + branch_limit ≤ moment_ceiling }
         ensures place { E.place out.new ≡ E.place out.old }
         ensures tells { (tid : IdSaid) (reason : ReasonSaid) (s : SharedSaid) → TellsOne result (SettleEffect (serial_of serial) ToCommit reason (slot_of (option_copied logged.entry))) tid clock.0 (stored_of U.state self.old) (stored_of U.state self.new) s s (E.shows out.old) (E.shows out.new) }
     {
@@ -193,7 +194,7 @@ impl<D: Disk, U: RecoveryUnits> Stored<D, U> {
     ) -> Result<(), Down>
         requires may { (tid : IdSaid) × (tm : TmSaid) × (act : ActSaid) × MayTellOne (SettleEffect (serial_of serial) ToAbort (reason_of reason) None) tid act tm (stored_of U.state self.old) }
         requires early { IsEarlyFor (stored_of U.state self.old) }
-        requires clock { clock.0 + 64 ≤ 24000001000066 }
+        requires clock { clock.0 + branch_limit ≤ moment_ceiling }
         ensures place { E.place out.new ≡ E.place out.old }
         ensures tells { (tid : IdSaid) (s : SharedSaid) → TellsOne result (SettleEffect (serial_of serial) ToAbort (reason_of reason) None) tid clock.0 (stored_of U.state self.old) (stored_of U.state self.new) s s (E.shows out.old) (E.shows out.new) }
     {

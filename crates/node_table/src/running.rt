@@ -1,6 +1,7 @@
 //! A node that is up: its volume and its units, and its table.
 ghost use Rattle.std.specs.Prelude.{◌≡◌, ◌<◌, ◌≤◌, ◌+◌, ℕ, [], map, true};
 ghost use Rattle.std.specs.Option.{option_map};
+ghost use Rattle.vms_model.specs.Limits.{branch_limit, moment_ceiling};
 ghost use Rattle.commit_protocol.specs.Allowed.{allowed};
 ghost use Rattle.commit_protocol.specs.Effects.{effects_of};
 ghost use Rattle.commit_protocol.specs.Rows.{Changed, row};
@@ -18,7 +19,7 @@ ghost use Rattle.recovery_units.specs.Laws.{KeepsNodes};
 ghost use Rattle.recovery_units.specs.State.{AreOfBranches, IsInOrder};
 ghost use Rattle.node_table.specs.Code.{stored_of, up_of};
 ghost use Rattle.node_table.specs.Running.{IsBooted, IsEarlyFor, IsFreshFor, IsTold, KeepsUp, TellsRows, answer_to};
-ghost use Rattle.node_table.specs.Standing.{IsUp, StandsUp};
+ghost use Rattle.node_table.specs.Standing.{IsUp, UpRepresents};
 
 use crate::stored::Stored;
 use block_disk::Disk;
@@ -79,7 +80,7 @@ impl<D: Disk, U: RecoveryUnits> Running<D, U> {
         requires told { IsTold (event_of event.now) }
         requires fresh { IsFreshFor (up_of U.state self.old) (event_of event.now) }
         requires early { IsEarlyFor (event_of event.now) (up_of U.state self.old) }
-        requires clock { clock.0 + 64 ≤ 24000001000066 }
+        requires clock { clock.0 + branch_limit ≤ moment_ceiling }
         ensures place { E.place out.new ≡ E.place out.old }
         ensures keeps { KeepsUp result (event_of event.now) clock.0 (up_of U.state self.old) (up_of U.state self.new) shared.old shared.new (E.shows out.old) (E.shows out.new) }
         ensures table { self.new.table ≡ after (row self.old.table (event_of event.now)) self.old.table }
@@ -110,7 +111,7 @@ impl<D: Disk, U: RecoveryUnits> Running<D, U> {
         ensures told { self.new.stored.room.told ≡ self.old.stored.room.told }
         ensures drawn { self.new.drawn ≡ 0 }
         ensures declared { self.new.managers ≡ [] }
-        ensures stands { (clock : ℕ) (n : NodeSaid) → IsBooted clock self.old.stored.room.told (stored_of U.state self.old.stored) n → StandsUp clock (up_of U.state self.new) n }
+        ensures stands { (clock : ℕ) (n : NodeSaid) → IsBooted clock self.old.stored.room.told (stored_of U.state self.old.stored) n → UpRepresents clock (up_of U.state self.new) n }
     {
         let node = self.name();
         self.stored.room.recall();

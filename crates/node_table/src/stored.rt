@@ -1,5 +1,6 @@
 //! What a node keeps on its disk and beside it while it is up.
 ghost use Rattle.std.specs.Prelude.{[], IfOk, length, map, vec_capacity, ◌≡◌, ◌≤◌};
+ghost use Rattle.vms_model.specs.Limits.{branch_limit};
 ghost use Rattle.commit_protocol.specs.Table.{record_serials};
 ghost use Rattle.tm_types.specs.Parts.{log_record_of};
 ghost use Rattle.vms_base.specs.Ids.{serial_of};
@@ -20,7 +21,7 @@ pub struct Room {
     pub found: Record,
     pub told: Reopened,
     pub in_doubt: Vec<Serial>,
-    ghost room: { 64 ≤ vec_capacity in_doubt },
+    ghost room: { branch_limit ≤ vec_capacity in_doubt },
 }
 
 impl Room {
@@ -37,7 +38,7 @@ impl Room {
 
     // The prepared branches that a restart told are in doubt, in this order, and no others.
     pub(crate) fn recall(&mut self)
-        requires few { length self.old.told.prepared ≤ 64 }
+        requires few { length self.old.told.prepared ≤ branch_limit }
         ensures serials { map serial_of self.new.in_doubt.items ≡ record_serials (map log_record_of self.old.told.prepared) }
         ensures told { self.new.told ≡ self.old.told }
     {
@@ -47,10 +48,10 @@ impl Room {
 
 // The serials of these records are in doubt, and no others.
 fn recall(in_doubt: &mut Vec<Serial>, prepared: &[LogRec])
-    requires room { 64 ≤ vec_capacity in_doubt.old }
-    requires few { length prepared.now ≤ 64 }
+    requires room { branch_limit ≤ vec_capacity in_doubt.old }
+    requires few { length prepared.now ≤ branch_limit }
     ensures serials { map serial_of in_doubt.new.items ≡ record_serials (map log_record_of prepared.now) }
-    ensures room { 64 ≤ vec_capacity in_doubt.new }
+    ensures room { branch_limit ≤ vec_capacity in_doubt.new }
 {
     in_doubt.clear();
     for record in prepared {

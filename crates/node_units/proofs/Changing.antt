@@ -15,7 +15,7 @@ use Rattle.run_model.specs.Operations.{operation_answer}
 use Rattle.run_model.specs.World.{find_file}
 use Rattle.directory_model.specs.Files.{head_at}
 use Rattle.recovery_units.specs.Calls as calls
-use Rattle.recovery_units.specs.Calls.{IsDone, IsNotDone, IsNumbered, KeepsUp, position_line, unit_act, unit_early, unit_late}
+use Rattle.recovery_units.specs.Calls.{IsDone, IsNotDone, IsNumbered, KeepsUp, position_line, unit_act, unit_refused_after_reading, unit_refused_before_reading}
 use Rattle.rms_units.specs.Calls as rms
 use Rattle.rms_units.specs.State as state
 use Rattle.rms_units.specs.State.{IsEarly, IsInOrder}
@@ -35,8 +35,8 @@ module _ (place : ℕ) (u : OpenUnit) (bytes : List ℕ) (s : state.UnitsState) 
       let there = asked.named.there in
       let is = r h there in
       let found = ap (λ x. find_file x n.durable.directory) asked.named.called ∙ asked.found in
-      let kept_up = subst (λ (x : List ℕ). KeepsUp (unit_early n b x file (Truncate from)) (unit_late n b x file (Truncate from)) (unit_act b x file (Truncate from)) n) (sym asked.named.called) keeps in
-      subst (λ (x : List ℕ). IsDone (unit_early n b x file (Truncate from)) (unit_late n b x file (Truncate from)) (unit_act b x file (Truncate from)) (operation_answer file (Truncate from)) (position_line told) n (seen t log) w) asked.named.called
+      let kept_up = subst (λ (x : List ℕ). KeepsUp (unit_refused_before_reading n b x file (Truncate from)) (unit_refused_after_reading n b x file (Truncate from)) (unit_act b x file (Truncate from)) n) (sym asked.named.called) keeps in
+      subst (λ (x : List ℕ). IsDone (unit_refused_before_reading n b x file (Truncate from)) (unit_refused_after_reading n b x file (Truncate from)) (unit_act b x file (Truncate from)) (operation_answer file (Truncate from)) (position_line told) n (seen t log) w) asked.named.called
       (cut_done s v order at place u at_place n file b h log asked.up asked.unprepared asked.kept f from there found asked.branch is.early low t w (is.cuts f from refl) size kept_up told (is.position ∙ no_position h.organization how.Remove (Number from) (λ e. let never : ⊥ = cc in never)))
 
   cut_err : (f from : ℕ) (e : RecErr) → ((h : FileHead) → head_at v.catalog.heads f ≡ Some h → rms.ChangesErr u h (op.Truncate f from) bytes e s v t w) → calls.ChangesErr u.serial (op.Truncate f from) bytes e (seen s log) v w
@@ -44,9 +44,9 @@ module _ (place : ℕ) (u : OpenUnit) (bytes : List ℕ) (s : state.UnitsState) 
       let h = asked.head in
       let there = asked.named.there in
       let found = ap (λ x. find_file x n.durable.directory) asked.named.called ∙ asked.found in
-      let kept_up = subst (λ (x : List ℕ). KeepsUp (unit_early n b x file (Truncate from)) (unit_late n b x file (Truncate from)) (unit_act b x file (Truncate from)) n) (sym asked.named.called) keeps in
-      subst (λ (x : List ℕ). IsNotDone e (unit_early n b x file (Truncate from)) (unit_late n b x file (Truncate from)) (unit_act b x file (Truncate from)) n w.store.disk) asked.named.called
-      (not_done e (unit_early n b h.name file (Truncate from)) (unit_late n b h.name file (Truncate from)) (unit_act b h.name file (Truncate from)) n w.store.disk
+      let kept_up = subst (λ (x : List ℕ). KeepsUp (unit_refused_before_reading n b x file (Truncate from)) (unit_refused_after_reading n b x file (Truncate from)) (unit_act b x file (Truncate from)) n) (sym asked.named.called) keeps in
+      subst (λ (x : List ℕ). IsNotDone e (unit_refused_before_reading n b x file (Truncate from)) (unit_refused_after_reading n b x file (Truncate from)) (unit_act b x file (Truncate from)) n w.store.disk) asked.named.called
+      (not_done e (unit_refused_before_reading n b h.name file (Truncate from)) (unit_refused_after_reading n b h.name file (Truncate from)) (unit_act b h.name file (Truncate from)) n w.store.disk
       (λ c. rms.ChangeRefused u h (op.Truncate f from) [] c s v × SameVolume v w) (λ down. rms.ChangeBroke u h (op.Truncate f from) [] s v w) (r h there).1
       (λ c k. cut_cause s v order at place u at_place n file b h log asked.up asked.unprepared asked.kept f from there found asked.branch c k.0)
       (λ down k. cut_broken s v order at place u at_place n file b h log asked.up asked.unprepared asked.kept f from there found asked.branch k.allowed low w (k.cut f from refl) kept_up))

@@ -11,7 +11,7 @@ use Rattle.run_model.specs.Operations.{operation_answer}
 use Rattle.run_model.specs.World.{find_file}
 use Rattle.directory_model.specs.Files.{head_at}
 use Rattle.recovery_units.specs.Calls as calls
-use Rattle.recovery_units.specs.Calls.{IsDone, IsNotDone, IsNumbered, KeepsUp, change_said, position_line, unit_act, unit_early, unit_late}
+use Rattle.recovery_units.specs.Calls.{IsDone, IsNotDone, IsNumbered, KeepsUp, change_said, position_line, unit_act, unit_refused_after_reading, unit_refused_before_reading}
 use Rattle.rms_units.specs.Calls as rms
 use Rattle.rms_units.specs.State as state
 use Rattle.rms_units.specs.State.{IsEarly, IsInOrder}
@@ -31,9 +31,9 @@ module _ (place : ℕ) (u : OpenUnit) (o : RecordOp) (bytes : List ℕ) (s : sta
       let is = r h there in
       let done = is.changes one in
       let found = ap (λ x. find_file x n.durable.directory) asked.named.called ∙ asked.found in
-      let kept_up = subst (λ (x : List ℕ). KeepsUp (unit_early n b x file (change_said o bytes)) (unit_late n b x file (change_said o bytes)) (unit_act b x file (change_said o bytes)) n) (sym asked.named.called) keeps in
+      let kept_up = subst (λ (x : List ℕ). KeepsUp (unit_refused_before_reading n b x file (change_said o bytes)) (unit_refused_after_reading n b x file (change_said o bytes)) (unit_act b x file (change_said o bytes)) n) (sym asked.named.called) keeps in
       let now = told_after s v order at place u at_place n file b h log asked.up asked.unprepared asked.kept o bytes there found asked.branch one number low is.early done.early w done.made kept_up in
-      subst (λ (x : List ℕ). IsDone (unit_early n b x file (change_said o bytes)) (unit_late n b x file (change_said o bytes)) (unit_act b x file (change_said o bytes)) (operation_answer file (change_said o bytes)) (position_line told) n (seen t log) w) asked.named.called
+      subst (λ (x : List ℕ). IsDone (unit_refused_before_reading n b x file (change_said o bytes)) (unit_refused_after_reading n b x file (change_said o bytes)) (unit_act b x file (change_said o bytes)) (operation_answer file (change_said o bytes)) (position_line told) n (seen t log) w) asked.named.called
       (key_done s v order at place u at_place n file b h log asked.up asked.unprepared asked.kept o bytes there found asked.branch one number low is.early t w done
       now.0 now.1 size kept_up told is.position)
 
@@ -42,9 +42,9 @@ module _ (place : ℕ) (u : OpenUnit) (o : RecordOp) (bytes : List ℕ) (s : sta
       let h = asked.head in
       let there = asked.named.there in
       let found = ap (λ x. find_file x n.durable.directory) asked.named.called ∙ asked.found in
-      let kept_up = subst (λ (x : List ℕ). KeepsUp (unit_early n b x file (change_said o bytes)) (unit_late n b x file (change_said o bytes)) (unit_act b x file (change_said o bytes)) n) (sym asked.named.called) keeps in
-      subst (λ (x : List ℕ). IsNotDone e (unit_early n b x file (change_said o bytes)) (unit_late n b x file (change_said o bytes)) (unit_act b x file (change_said o bytes)) n w.store.disk) asked.named.called
-      (not_done e (unit_early n b h.name file (change_said o bytes)) (unit_late n b h.name file (change_said o bytes)) (unit_act b h.name file (change_said o bytes)) n w.store.disk
+      let kept_up = subst (λ (x : List ℕ). KeepsUp (unit_refused_before_reading n b x file (change_said o bytes)) (unit_refused_after_reading n b x file (change_said o bytes)) (unit_act b x file (change_said o bytes)) n) (sym asked.named.called) keeps in
+      subst (λ (x : List ℕ). IsNotDone e (unit_refused_before_reading n b x file (change_said o bytes)) (unit_refused_after_reading n b x file (change_said o bytes)) (unit_act b x file (change_said o bytes)) n w.store.disk) asked.named.called
+      (not_done e (unit_refused_before_reading n b h.name file (change_said o bytes)) (unit_refused_after_reading n b h.name file (change_said o bytes)) (unit_act b h.name file (change_said o bytes)) n w.store.disk
       (λ c. rms.ChangeRefused u h o (written o bytes) c s v × SameVolume v w) (λ down. rms.ChangeBroke u h o (written o bytes) s v w) (r h there).1
       (λ c k. key_refused s v order at place u at_place n file b h log asked.up asked.unprepared asked.kept o bytes there found asked.branch one number c k.0)
       (λ down k. key_broken s v order at place u at_place n file b h log asked.up asked.unprepared asked.kept o bytes there found asked.branch one number low k.allowed w (k.key one) kept_up))

@@ -2,6 +2,7 @@
 use Rattle.std.proofs.Common.{◌≡◌, ℕ, ◌+◌, ◌≤◌, ◌==◌, ◌||◌, List, Bool, true, false, Option, None, length, nat_lt, refl, ◌∙◌, ap, arith}
 use Rattle.std.specs.Prelude.{option_map}
 use Rattle.std.proofs.lemmas.Bool.Decides.{nat_tests}
+use Rattle.vms_model.specs.Limits.{change_limit}
 use Rattle.file_base.specs.declared.head.FileHead.{FileHead}
 use Rattle.file_base.specs.declared.head.Organization.{Organization as Kept}
 use Rattle.file_base.specs.declared.head.Organization.TheVariants as kept
@@ -10,7 +11,6 @@ use Rattle.vms_model.specs.Keys.{Key}
 use Rattle.record_operations.specs.Causes.{Cause, Changes, RecordNotFound, cause_if, first_cause}
 use Rattle.record_operations.specs.Forms as form
 use Rattle.record_operations.specs.declared.ops.RecordOp.TheVariants as op
-use Rattle.run_model.specs.Answers.{change_limit}
 use Rattle.run_model.specs.Operations.{changes_of, count_of, data_refused, file_full, first_of, free_buckets, refused_if}
 use Rattle.run_model.specs.World.{File}
 use Rattle.script_model.specs.Statements.{Truncate}

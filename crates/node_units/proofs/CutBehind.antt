@@ -32,7 +32,7 @@ use Rattle.run_model.specs.World.{Node}
 use Rattle.seq_file.specs.Layout as sequential
 use Rattle.seq_file.proofs.RecordLaws.{record_at_past}
 use Rattle.restart_laws.proofs.FoundLemmas.{record_is}
-use Rattle.directory_model.specs.Files.{StandsCarried, head_at}
+use Rattle.directory_model.specs.Files.{AgreesOnCarried, head_at}
 use Rattle.directory_model.proofs.Apart.{off_ring, writes_apart}
 use Rattle.undo_laws.proofs.NoteLemmas.{key_read}
 use Rattle.unit_cuts.proofs.CutEntering.{entries_more, spelled_more}
@@ -200,7 +200,7 @@ ring_on s a b c one two = record { size = two.size ∙ one.size; whole = two.who
 ring_itself : (s : Span) (a : Content) → EachWhole a → SameRing s a a
 ring_itself s a whole = record { size = refl; whole = whole; blocks = λ k from to. refl }
 
-pub ring_carried : (h : FileHead) (a b : Content) → StandsCarried h a b → (side : Side) → is_kept side h ≡ true → SameRing (span_of side h) a b
+pub ring_carried : (h : FileHead) (a b : Content) → AgreesOnCarried h a b → (side : Side) → is_kept side h ≡ true → SameRing (span_of side h) a b
 ring_carried h a b stands After on = stands.after on
 ring_carried h a b stands Before on = stands.before on
 

@@ -25,7 +25,7 @@ use Rattle.image_groups.proofs.Behind.{enters_behind}
 use Rattle.journal_model.specs.Entries.{Entry, spelling}
 use Rattle.journal_model.specs.Ring.{IsJournal, ring_size}
 use Rattle.journal_store.proofs.Journals.{keeps_others, written_behind}
-use Rattle.directory_model.specs.Files.{file_at, head_at, StandsIn}
+use Rattle.directory_model.specs.Files.{AgreesOnFile, file_at, head_at}
 use Rattle.directory_model.proofs.Places.{file_there, within_list}
 use Rattle.run_model.specs.World.{Node, Act, fallen}
 use Rattle.unit_cuts.specs.Truncating.{IsBehindIf, with_entries_if, AllTold, IsBehind, IsBehindAll}
@@ -106,7 +106,7 @@ module _ (n : Node) (k : Catalog) (f : ℕ) (h : FileHead) (there : head_at k.he
     ru_whole = (behind.journal is.volume.journal.entries is.volume.journal.is).ring.whole
 
     -- each file stands
-    pub ru_stands : (g : ℕ) (other : FileHead) → head_at k.heads g ≡ Some other → StandsIn other a p
+    pub ru_stands : (g : ℕ) (other : FileHead) → head_at k.heads g ≡ Some other → AgreesOnFile other a p
     ru_stands = writes_apart.before (data_area (sizes_of k.home)) k.heads a p (fits_in n.name n.blocks k long sound) behind.others.size ru_whole
         (λ i from. let start = sound.ru_start in let blocks = sound.ru_blocks in sym (ru_apart i (inr (omega (arith, from, start, blocks)))))
 

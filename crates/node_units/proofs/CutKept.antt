@@ -28,7 +28,7 @@ use Rattle.directory_model.specs.Files.{file_at, head_at}
 use Rattle.volume_model.specs.Volumes.{HasDisk, HasVolume, IsEitherOf, IsLeftBy}
 use Rattle.careful_write.specs.Content.{content_of}
 use Rattle.volume_laws.proofs.WholeLemmas.{volume_falls}
-use Rattle.recovery_units.specs.Calls.{IsBroken, IsDone, KeepsUp, position_line, unit_act, unit_early, unit_late}
+use Rattle.recovery_units.specs.Calls.{IsBroken, IsDone, KeepsUp, position_line, unit_act, unit_refused_after_reading, unit_refused_before_reading}
 use Rattle.recovery_units.specs.State.{AreLocks, AreOfBranches, IsKept, IsUnitOf, are_there, changed_at, positions_of}
 use Rattle.unit_world.proofs.Leaving.{down}
 use Rattle.unit_world.proofs.Staying.{changed_set}
@@ -165,10 +165,10 @@ each_own tid serial f name (c ∷ cs) all =
     all_append (IsOwn serial f) (entries_for tid serial name cs) (ChangeEntry tid serial name c.key c.before ∷ []) (each_own tid serial f name cs parts.0) ((id_itself serial, own_sized tid serial f name c.key c.before parts.1), tt)
 
 module _ (s : state.UnitsState) (v : VolumeState) (order : IsInOrder s v) (at : AreInOrder s.units.places s.units.order) (place : ℕ) (u : OpenUnit) (at_place : unit_at s.units.places place ≡ Some u) (n : Node) (file : File) (b : Branch) (h : FileHead) (log : Slots) (up : IsUp n) (unprepared : is_prepared b.state ≡ false)
-    (kept : IsKept (seen s log) v n) (f from : ℕ) (there : head_at v.catalog.heads f ≡ Some h) (found : find_file h.name n.durable.directory ≡ Some file) (found_b : find_branch u.serial n.volatile.branches ≡ Some b) (allowed : rms.change_early h (op.Truncate f from) [] ≡ None)
+    (kept : IsKept (seen s log) v n) (f from : ℕ) (there : head_at v.catalog.heads f ≡ Some h) (found : find_file h.name n.durable.directory ≡ Some file) (found_b : find_branch u.serial n.volatile.branches ≡ Some b) (allowed : rms.change_refused_before_reading h (op.Truncate f from) [] ≡ None)
     (low : IsEarly v)
     (t : state.UnitsState) (w : VolumeState) (done : ChangesCut place u f h from s v t w) (size : w.store.disk.size ≡ v.store.disk.size)
-    (keeps : KeepsUp (unit_early n b h.name file (Truncate from)) (unit_late n b h.name file (Truncate from)) (unit_act b h.name file (Truncate from)) n) where
+    (keeps : KeepsUp (unit_refused_before_reading n b h.name file (Truncate from)) (unit_refused_after_reading n b h.name file (Truncate from)) (unit_act b h.name file (Truncate from)) n) where
   abbrev es : List Entry
   es = done.entries.had
 
@@ -303,7 +303,7 @@ module _ (s : state.UnitsState) (v : VolumeState) (order : IsInOrder s v) (at : 
     each = each_after;
   }
 
-  pub cut_done : (told : ℕ) → told ≡ 0 → IsDone (unit_early n b h.name file (Truncate from)) (unit_late n b h.name file (Truncate from)) (unit_act b h.name file (Truncate from)) (operation_answer file (Truncate from)) (position_line told) n (seen t log) w
+  pub cut_done : (told : ℕ) → told ≡ 0 → IsDone (unit_refused_before_reading n b h.name file (Truncate from)) (unit_refused_after_reading n b h.name file (Truncate from)) (unit_act b h.name file (Truncate from)) (operation_answer file (Truncate from)) (position_line told) n (seen t log) w
   cut_done told is = record {
     allowed = (λ i. first_of (made_by.early_none s v order at place u at_place n file b h log up unprepared kept f from there found found_b allowed low done.early w done.late done.entries done.made keeps i) (made_by.late_none s v order at place u at_place n file b h log up unprepared kept f from there found found_b allowed low done.early w done.late done.entries done.made keeps i));
     kept = subst (λ (act : Act). IsKept (seen t log) w (acted act n)) (made_by.act_is s v order at place u at_place n file b h log up unprepared kept f from there found found_b allowed low done.early w done.late done.entries done.made keeps) kept_then;
@@ -312,10 +312,10 @@ module _ (s : state.UnitsState) (v : VolumeState) (order : IsInOrder s v) (at : 
 
 -- The disk went down.
 module _ (s : state.UnitsState) (v : VolumeState) (order : IsInOrder s v) (at : AreInOrder s.units.places s.units.order) (place : ℕ) (u : OpenUnit) (at_place : unit_at s.units.places place ≡ Some u) (n : Node) (file : File) (b : Branch) (h : FileHead) (log : Slots) (up : IsUp n) (unprepared : is_prepared b.state ≡ false)
-    (kept : IsKept (seen s log) v n) (f from : ℕ) (there : head_at v.catalog.heads f ≡ Some h) (found : find_file h.name n.durable.directory ≡ Some file) (found_b : find_branch u.serial n.volatile.branches ≡ Some b) (allowed : rms.change_early h (op.Truncate f from) [] ≡ None)
+    (kept : IsKept (seen s log) v n) (f from : ℕ) (there : head_at v.catalog.heads f ≡ Some h) (found : find_file h.name n.durable.directory ≡ Some file) (found_b : find_branch u.serial n.volatile.branches ≡ Some b) (allowed : rms.change_refused_before_reading h (op.Truncate f from) [] ≡ None)
     (low : IsEarly v)
     (w : VolumeState) (broke : CutBroke u f h from s v w)
-    (keeps : KeepsUp (unit_early n b h.name file (Truncate from)) (unit_late n b h.name file (Truncate from)) (unit_act b h.name file (Truncate from)) n) where
+    (keeps : KeepsUp (unit_refused_before_reading n b h.name file (Truncate from)) (unit_refused_after_reading n b h.name file (Truncate from)) (unit_act b h.name file (Truncate from)) n) where
   abbrev act : Act
   act = unit_act b h.name file (Truncate from)
 
@@ -335,13 +335,13 @@ module _ (s : state.UnitsState) (v : VolumeState) (order : IsInOrder s v) (at : 
     durable_act : is_durable act ≡ true
     durable_act = ap is_durable (sym (made_by.act_is s v order at place u at_place n file b h log up unprepared kept f from there found found_b allowed low broke.early new is.late is.entries is.makes keeps))
 
-    late_then : unit_late n b h.name file (Truncate from) ≡ None
+    late_then : unit_refused_after_reading n b h.name file (Truncate from) ≡ None
     late_then = made_by.late_none s v order at place u at_place n file b h log up unprepared kept f from there found found_b allowed low broke.early new is.late is.entries is.makes keeps
 
-  pub cut_broken : IsBroken (unit_early n b h.name file (Truncate from)) (unit_late n b h.name file (Truncate from)) act n w.store.disk
+  pub cut_broken : IsBroken (unit_refused_before_reading n b h.name file (Truncate from)) (unit_refused_after_reading n b h.name file (Truncate from)) act n w.store.disk
   cut_broken = record { begun = cut_begun s v order at place u at_place n file b h log up unprepared kept f from there found found_b allowed broke.early; disk = go broke.breaks }
     where
       go : BreaksCut h (IsCut u f h from s v) v w →
-          HasDisk (fallen None n) w.store.disk ⊎ ((unit_late n b h.name file (Truncate from) ≡ None) × (is_durable act ≡ true) × HasDisk (fallen (Some act) n) w.store.disk)
+          HasDisk (fallen None n) w.store.disk ⊎ ((unit_refused_after_reading n b h.name file (Truncate from) ≡ None) × (is_durable act ≡ true) × HasDisk (fallen (Some act) n) w.store.disk)
       go (inl old) = inl (disk_sound (fallen None n) w.store.disk kept.has.home.volume (λ image may. let is = old image may in (is.0, inl (cut_left s v order n log kept f h there None (content_of image) is.1))))
       go (inr new) = inr (late_then new.made new.is, durable_act new.made new.is, disk_sound (fallen (Some act) n) w.store.disk kept.has.home.volume (λ image may. let is = new.either image may in (is.0, either_left new.made new.is (content_of image) is.1)))

@@ -62,7 +62,7 @@ use Rattle.restart_laws.specs.Units.{MayChange}
 use Rattle.unit_laws.specs.Units.{is_free}
 use Rattle.volume_laws.proofs.ToldLemmas.{logs_follow}
 use Rattle.script_model.specs.Statements.{Operation, Truncate}
-use Rattle.directory_model.specs.Files.{AreFiles, IsCarried, IsFile, IsFoundAt, IsNamed, StandsIn, file_at, head_at}
+use Rattle.directory_model.specs.Files.{AgreesOnFile, AreFiles, IsCarried, IsFile, IsFoundAt, IsNamed, file_at, head_at}
 use Rattle.directory_model.specs.Laws.{IsChanged, SameBut, carrying, changed_buckets}
 use Rattle.directory_model.specs.Restoring.{AreRestorable}
 use Rattle.directory_model.proofs.Acts.{keeps_files}
@@ -87,7 +87,7 @@ use Rattle.image_appends.specs.Images.{is_kept, span_of}
 use Rattle.image_groups.specs.Groups.{Enters}
 use Rattle.image_groups.specs.Lists.{StandIfKept, images_bytes, moved_ends, moved_if}
 use Rattle.image_groups.proofs.Lists.{enters_moved}
-use Rattle.recovery_units.specs.Calls.{KeepsUp, unit_act, unit_early, unit_late}
+use Rattle.recovery_units.specs.Calls.{KeepsUp, unit_act, unit_refused_after_reading, unit_refused_before_reading}
 use Rattle.recovery_units.specs.State.{IsKept, IsOfBranch}
 use Rattle.rms_units.specs.Calls as rms
 use Rattle.key_changes.specs.Changing as changing
@@ -95,7 +95,7 @@ use Rattle.unit_cuts.specs.Records.{OfRecords}
 use Rattle.rms_units.specs.State as state
 use Rattle.rms_units.specs.State.{IsEarly, IsInOrder}
 use Rattle.rms_units.specs.Truncating as cutting
-use Rattle.rms_units.specs.Truncating.{cut_asked, cut_early, number_refused}
+use Rattle.rms_units.specs.Truncating.{cut_asked, cut_refused_before_reading, number_refused}
 use Rattle.unit_cuts.specs.Truncating.{CutEntries, EntersCut, IsBehind, MakesCut, cut_entries, entry_sizes, head_behind, keys_cut, removed_from, span_behind, span_if, with_entries, with_entries_if}
 use Rattle.unit_cuts.proofs.CutEntering.{entries_long, entries_more, journal_more}
 use Rattle.log_laws.specs.Slots.{Slots}
@@ -186,9 +186,9 @@ ends_behind h new same es after before gone had = λ i. record new { ai = ai_is 
     bi_is = (λ i. moved_if (kept_same Before h new same i) before (span_same Before h new same i)) ∙ moved_span h.marks.bi before h.bi es.images had
 
 module _ (s : state.UnitsState) (v : VolumeState) (order : IsInOrder s v) (at : AreInOrder s.units.places s.units.order) (place : ℕ) (u : OpenUnit) (at_place : unit_at s.units.places place ≡ Some u) (n : Node) (file : File) (b : Branch) (h : FileHead) (log : Slots) (up : IsUp n) (unprepared : is_prepared b.state ≡ false)
-    (kept : IsKept (seen s log) v n) (f from : ℕ) (there : head_at v.catalog.heads f ≡ Some h) (found : find_file h.name n.durable.directory ≡ Some file) (found_b : find_branch u.serial n.volatile.branches ≡ Some b) (allowed : rms.change_early h (op.Truncate f from) [] ≡ None)
-    (low : IsEarly v) (early : cut_early u f h from s.locks ≡ None) (w : VolumeState) (late : OfRecords h v (λ m. cutting.cut_late u f h from s v m ≡ None)) (es : CutEntries) (made : MakesCut u.tid u.serial f h from es v w)
-    (keeps : KeepsUp (unit_early n b h.name file (Truncate from)) (unit_late n b h.name file (Truncate from)) (unit_act b h.name file (Truncate from)) n) where
+    (kept : IsKept (seen s log) v n) (f from : ℕ) (there : head_at v.catalog.heads f ≡ Some h) (found : find_file h.name n.durable.directory ≡ Some file) (found_b : find_branch u.serial n.volatile.branches ≡ Some b) (allowed : rms.change_refused_before_reading h (op.Truncate f from) [] ≡ None)
+    (low : IsEarly v) (early : cut_refused_before_reading u f h from s.locks ≡ None) (w : VolumeState) (late : OfRecords h v (λ m. cutting.cut_refused_after_reading u f h from s v m ≡ None)) (es : CutEntries) (made : MakesCut u.tid u.serial f h from es v w)
+    (keeps : KeepsUp (unit_refused_before_reading n b h.name file (Truncate from)) (unit_refused_after_reading n b h.name file (Truncate from)) (unit_act b h.name file (Truncate from)) n) where
   abbrev said : Operation
   said = Truncate from
 
@@ -227,13 +227,13 @@ module _ (s : state.UnitsState) (v : VolumeState) (order : IsInOrder s v) (at : 
   some : (1 ≤ from) × (1 ≤ removed_from h.count from)
   some = some_position h.count from (none_if (removed_from h.count from == 0) RecordNotFound (first_none (cause_if (removed_from h.count from == 0) RecordNotFound) _ number_none).0)
 
-  late_here : cutting.cut_late u f h from s v (map_of h a) ≡ None
+  late_here : cutting.cut_refused_after_reading u f h from s v (map_of h a) ≡ None
   late_here = late a kept.told file_is.head.form file_is.laid
 
-  pub early_none : unit_early n b h.name file said ≡ None
+  pub early_none : unit_refused_before_reading n b h.name file said ≡ None
   early_none = cut_begun s v order at place u at_place n file b h log up unprepared kept f from there found found_b allowed early
 
-  pub late_none : unit_late n b h.name file said ≡ None
+  pub late_none : unit_refused_after_reading n b h.name file said ≡ None
   late_none = sym (cut_late s v order at place u at_place n file b h log up unprepared kept f from there found found_b allowed)
       ∙ (λ i. option_map cause_line (first_cause (number_none i) (first_cause ((first_none (number_refused (length u.positions) (removed_from h.count from)) (changing.keys_refused f keys s.locks) behind_locks).1 i) (late_here i))))
 
@@ -266,7 +266,7 @@ module _ (s : state.UnitsState) (v : VolumeState) (order : IsInOrder s v) (at : 
   behind_form = (neither (form_refused file said) _ early_none).1
 
   mark_none : file.recovery_units ≡ true
-  mark_none = is_true file.recovery_units (not_refused (not file.recovery_units) line.NotMarked (neither (is_marked file) (keys_refused n (Some b.key.serial) h.name (keys_asked file said)) behind_form).0)
+  mark_none = is_true file.recovery_units (not_refused (not file.recovery_units) line.NotForUnits (neither (is_marked file) (keys_refused n (Some b.key.serial) h.name (keys_asked file said)) behind_form).0)
 
   keys_none : keys_refused n (Some b.key.serial) h.name (keys_asked file said) ≡ None
   keys_none = (neither (is_marked file) (keys_refused n (Some b.key.serial) h.name (keys_asked file said)) behind_form).1
@@ -622,7 +622,7 @@ module _ (s : state.UnitsState) (v : VolumeState) (order : IsInOrder s v) (at : 
     size_d : length d ≡ length I
     size_d = ap length set_is ∙ length-set I 65 (ru_block_of after)
 
-    files_stand : (g : ℕ) (other : FileHead) → head_at H g ≡ Some other → StandsIn other I d
+    files_stand : (g : ℕ) (other : FileHead) → head_at H g ≡ Some other → AgreesOnFile other I d
     files_stand = writes_apart.before (data_area (sizes_of M.home)) H I d (fits_in n.name n.blocks M images_in.fitting.fit.heads_long sound_imaged) size_d whole_d
         (λ k from_k. let start = sound_imaged.ru_start in let blocks = sound_imaged.ru_blocks in sym (stands_at k (λ t. absurd (omega (arith, t, from_k, start, blocks)))))
 

@@ -5,6 +5,7 @@ use Rattle.std.proofs.lemmas.List.{reverse-append}
 use Rattle.std.specs.Prelude.{◌==◌, nat_le, nat_lt, option_map}
 use Rattle.std.specs.List.{AllByRecursion}
 use Rattle.std.specs.FinMap.{entries_sorted, get}
+use Rattle.vms_model.specs.Limits.{change_limit}
 use Rattle.commit_protocol.specs.Table.{Branch}
 use Rattle.file_base.specs.declared.head.FileHead.{FileHead}
 use Rattle.file_base.specs.declared.head.Organization.TheVariants as kept_by
@@ -23,7 +24,7 @@ use Rattle.recovery_model.specs.Room.{changes_length}
 use Rattle.image_room.specs.Room.{images_refused}
 use Rattle.unit_laws.specs.Units.{has_changes}
 use Rattle.record_files.specs.Any.{map_of}
-use Rattle.record_operations.specs.Causes.{Cause, Changes, JournalFull, NotMarked, RecordNotFound, cause_if, first_cause}
+use Rattle.record_operations.specs.Causes.{Cause, Changes, JournalFull, NotForUnits, RecordNotFound, cause_if, first_cause}
 use Rattle.record_operations.specs.Forms as form
 use Rattle.record_operations.specs.declared.ops.RecordOp.TheVariants as op
 use Rattle.unit_journal.specs.Room as room
@@ -33,21 +34,21 @@ use Rattle.unit_laws.proofs.TrimLemmas.{size_append}
 use Rattle.unit_table.specs.Places.{AreInOrder}
 use Rattle.unit_table.specs.Units.{OpenUnit, has_changed, unit_at}
 use Rattle.run_model.specs.Answers as answers
-use Rattle.run_model.specs.Answers.{change_limit, found_refused, images_full, is_marked, journal_full, journal_need, keys_refused, more_changes, more_locks}
+use Rattle.run_model.specs.Answers.{found_refused, images_full, is_marked, journal_full, journal_need, keys_refused, more_changes, more_locks}
 use Rattle.run_model.specs.Operations.{changes_of, data_refused, file_full, first_of, form_refused, free_buckets, in_order, keys_asked, keys_held, refused_if, removed}
 use Rattle.run_model.specs.World.{File, Node, changes_made, find_branch, find_file}
 use Rattle.world_laws.proofs.FoundLemmas.{all_got, dropped, sorted_in}
 use Rattle.script_model.specs.Statements.{Operation, Truncate}
 use Rattle.directory_model.specs.Files.{IsCarried, IsFile, IsFoundAt, IsNamed, file_at, head_at}
 use Rattle.directory_model.proofs.Finding.{finds_files}
-use Rattle.recovery_units.specs.Calls.{cause_line, unit_early, unit_late}
+use Rattle.recovery_units.specs.Calls.{cause_line, unit_refused_after_reading, unit_refused_before_reading}
 use Rattle.recovery_units.specs.State.{IsKept, IsOfBranch, changed_at}
 use Rattle.recovery_units.proofs.FormLemmas.{forms, line_if, lines_first}
 use Rattle.rms_units.specs.Calls as rms
 use Rattle.key_changes.specs.Changing as changing
 use Rattle.rms_units.specs.State as state
 use Rattle.rms_units.specs.State.{IsInOrder}
-use Rattle.rms_units.specs.Truncating.{CutRefused, cut_asked, cut_early, number_refused}
+use Rattle.rms_units.specs.Truncating.{CutRefused, cut_asked, cut_refused_before_reading, number_refused}
 use Rattle.unit_cuts.specs.Truncating.{entry_sizes, keys_cut, removed_from}
 use Rattle.log_laws.specs.Slots.{Slots}
 use Rattle.commit_protocol.specs.Allowed.{is_prepared}
@@ -146,7 +147,7 @@ images_long content h file from is kind one = (
 )
 
 module _ (s : state.UnitsState) (v : VolumeState) (order : IsInOrder s v) (at : AreInOrder s.units.places s.units.order) (place : ℕ) (u : OpenUnit) (at_place : unit_at s.units.places place ≡ Some u) (n : Node) (file : File) (b : Branch) (h : FileHead) (log : Slots) (up : IsUp n) (unprepared : is_prepared b.state ≡ false)
-    (kept : IsKept (seen s log) v n) (f from : ℕ) (there : head_at v.catalog.heads f ≡ Some h) (found : find_file h.name n.durable.directory ≡ Some file) (found_b : find_branch u.serial n.volatile.branches ≡ Some b) (allowed : rms.change_early h (op.Truncate f from) [] ≡ None) where
+    (kept : IsKept (seen s log) v n) (f from : ℕ) (there : head_at v.catalog.heads f ≡ Some h) (found : find_file h.name n.durable.directory ≡ Some file) (found_b : find_branch u.serial n.volatile.branches ≡ Some b) (allowed : rms.change_refused_before_reading h (op.Truncate f from) [] ≡ None) where
   abbrev said : Operation
   said = Truncate from
 
@@ -165,8 +166,8 @@ module _ (s : state.UnitsState) (v : VolumeState) (order : IsInOrder s v) (at : 
   pub cut_own : IsOfBranch u b
   cut_own = branch_is s log v order at n up kept place u at_place b found_b
 
-  parts : (form.truncate_refused h ≡ None) × (cause_if (not h.marks.ru) NotMarked ≡ None)
-  parts = first_none (form.truncate_refused h) (cause_if (not h.marks.ru) NotMarked) allowed
+  parts : (form.truncate_refused h ≡ None) × (cause_if (not h.marks.ru) NotForUnits ≡ None)
+  parts = first_none (form.truncate_refused h) (cause_if (not h.marks.ru) NotForUnits) allowed
 
   pub cut_kind : h.organization ≡ kept_by.Sequential
   cut_kind = sequential h.organization parts.0
@@ -180,7 +181,7 @@ module _ (s : state.UnitsState) (v : VolumeState) (order : IsInOrder s v) (at : 
   form_none = line_none (form.truncate_refused h) (form_refused file said) (forms.changes h file (op.Truncate f from) [] cut_file.head tt) parts.0
 
   mark_none : is_marked file ≡ None
-  mark_none = line_none (cause_if (not h.marks.ru) NotMarked) (is_marked file) (marked_alike h file cut_file.head) parts.1
+  mark_none = line_none (cause_if (not h.marks.ru) NotForUnits) (is_marked file) (marked_alike h file cut_file.head) parts.1
 
   abbrev L : Option Line
   L = keys_refused n (Some b.key.serial) h.name (keys_asked file said)
@@ -190,7 +191,7 @@ module _ (s : state.UnitsState) (v : VolumeState) (order : IsInOrder s v) (at : 
       locks_alike v.catalog.heads once f h there n s.locks kept.locks (Some u.serial) keys
       ∙ (λ i. keys_refused n (Some (sym cut_own.serial i)) h.name (sym (keys_alike kept.content h file cut_file cut_kind from) i))
 
-  early_is : unit_early n b h.name file said ≡ L
+  early_is : unit_refused_before_reading n b h.name file said ≡ L
   early_is = λ i. first_of (form_none i) (first_of (mark_none i) L)
 
   -- The file of this number, with its journals of images.
@@ -288,10 +289,10 @@ module _ (s : state.UnitsState) (v : VolumeState) (order : IsInOrder s v) (at : 
       ((ap (entry_sizes (map_of h kept.content)) (behind_end one) ∙ sym (befores_long (map_of h kept.content) (drop (from - 1) (in_order file)) each_told)) i)))
       ∙ images_alike s log v at n up kept f h.name file found cut_at h cut_carried b.key.serial open_here.0 open_here.1 cs (some_made cs more)
 
-  pub cut_late : option_map cause_line (first_cause (number_refused (length u.positions) count) (first_cause Held (first_cause Room Images))) ≡ unit_late n b h.name file said
+  pub cut_late : option_map cause_line (first_cause (number_refused (length u.positions) count) (first_cause Held (first_cause Room Images))) ≡ unit_refused_after_reading n b h.name file said
   cut_late = go (count == 0) refl
     where
-      go : (t : Bool) → (count == 0) ≡ t → option_map cause_line (first_cause (first_cause Data Many) (first_cause Held (first_cause Room Images))) ≡ unit_late n b h.name file said
+      go : (t : Bool) → (count == 0) ≡ t → option_map cause_line (first_cause (first_cause Data Many) (first_cause Held (first_cause Room Images))) ≡ unit_refused_after_reading n b h.name file said
       go true is =
           ap (λ (t : Bool). option_map cause_line (first_cause (first_cause (cause_if t RecordNotFound) Many) (first_cause Held (first_cause Room Images)))) is
           ∙ sym (first_some (found_refused n (Some b.key.serial) h.name said file) (first_of (more_changes n cs b) (first_of (more_locks n h.name (keys_held file said)) (first_of (file_full file said) (first_of (journal_full n h.name cs b) (images_full b.key.serial cs file))))) line.RecordNotFound
@@ -302,36 +303,36 @@ module _ (s : state.UnitsState) (v : VolumeState) (order : IsInOrder s v) (at : 
           ∙ lines_first Many _ ∙ (λ i. first_of (many_is some.0 i) ((lines_first Held (first_cause Room Images) ∙ (λ j. first_of (held_is j) ((lines_first Room Images ∙ (λ k. first_of (room_is some.0 some.1 k) (images_is some.0 some.1 k))) j))) i))
           ∙ sym (λ i. first_of ((sym data_is ∙ ap (λ (t : Bool). option_map cause_line (cause_if t RecordNotFound)) is) i) (first_of (more_changes n cs b) (first_of (more_locks n h.name (keys_held file said)) (first_of (full_is i) (first_of (journal_full n h.name cs b) (images_full b.key.serial cs file))))))
 
-  pub cut_begun : cut_early u f h from s.locks ≡ None → unit_early n b h.name file said ≡ None
+  pub cut_begun : cut_refused_before_reading u f h from s.locks ≡ None → unit_refused_before_reading n b h.name file said ≡ None
   cut_begun none = early_is ∙ line_none (changing.locks_refuse (Some u.serial) f keys s.locks) L locks_are (first_none (changing.locks_refuse (Some u.serial) f keys s.locks) _ none).0
 
-  pub cut_refused : (c : Cause) → CutRefused u f h from c s v → first_of (unit_early n b h.name file said) (unit_late n b h.name file said) ≡ Some (cause_line c)
+  pub cut_refused : (c : Cause) → CutRefused u f h from c s v → first_of (unit_refused_before_reading n b h.name file said) (unit_refused_after_reading n b h.name file said) ≡ Some (cause_line c)
   cut_refused c (inl early) = go (changing.locks_refuse (Some u.serial) f keys s.locks) refl
     where
-      go : (x : Option Cause) → changing.locks_refuse (Some u.serial) f keys s.locks ≡ x → first_of (unit_early n b h.name file said) (unit_late n b h.name file said) ≡ Some (cause_line c)
+      go : (x : Option Cause) → changing.locks_refuse (Some u.serial) f keys s.locks ≡ x → first_of (unit_refused_before_reading n b h.name file said) (unit_refused_after_reading n b h.name file said) ≡ Some (cause_line c)
       go (Some q) is =
           let same : Some q ≡ Some c = ap (λ x. first_cause x (first_cause (number_refused (length u.positions) count) Held)) (sym is) ∙ early in
-          first_some (unit_early n b h.name file said) (unit_late n b h.name file said) (cause_line c) (early_is ∙ sym locks_are ∙ ap (option_map cause_line) (is ∙ same))
+          first_some (unit_refused_before_reading n b h.name file said) (unit_refused_after_reading n b h.name file said) (cause_line c) (early_is ∙ sym locks_are ∙ ap (option_map cause_line) (is ∙ same))
       go None is =
           let late : first_cause (number_refused (length u.positions) count) Held ≡ Some c = ap (λ x. first_cause x (first_cause (number_refused (length u.positions) count) Held)) (sym is) ∙ early in
-          (λ i. first_of ((early_is ∙ line_none (changing.locks_refuse (Some u.serial) f keys s.locks) L locks_are is) i) (unit_late n b h.name file said))
+          (λ i. first_of ((early_is ∙ line_none (changing.locks_refuse (Some u.serial) f keys s.locks) L locks_are is) i) (unit_refused_after_reading n b h.name file said))
           ∙ sym cut_late ∙ ap (option_map cause_line) (again (number_refused (length u.positions) count) Held (first_cause Room Images) ∙ ap (λ x. first_cause x (first_cause Room Images)) late)
   cut_refused c (inr late) =
       let parts_of = first_none (changing.locks_refuse (Some u.serial) f keys s.locks) _ late.0 in
-      (λ i. first_of (cut_begun late.0 i) (unit_late n b h.name file said)) ∙ sym cut_late
+      (λ i. first_of (cut_begun late.0 i) (unit_refused_after_reading n b h.name file said)) ∙ sym cut_late
       ∙ ap (option_map cause_line) (again (number_refused (length u.positions) count) Held (first_cause Room Images) ∙ ap (λ x. first_cause x (first_cause Room Images)) parts_of.1 ∙ late.1 kept.content kept.told cut_file.head.form cut_file.laid)
 
 -- a truncation is refused by its form, by the file's mark, or late
 pub cut_cause : (s : state.UnitsState) (v : VolumeState) → (order : IsInOrder s v) → AreInOrder s.units.places s.units.order → (place : ℕ) (u : OpenUnit) → unit_at s.units.places place ≡ Some u → (n : Node) (file : File) (b : Branch) (h : FileHead) (log : Slots) → IsUp n → is_prepared b.state ≡ false → IsKept (seen s log) v n →
     (f from : ℕ) → head_at v.catalog.heads f ≡ Some h → find_file h.name n.durable.directory ≡ Some file → find_branch u.serial n.volatile.branches ≡ Some b → (c : Cause) → rms.ChangeRefused u h (op.Truncate f from) [] c s v →
-    first_of (unit_early n b h.name file (Truncate from)) (unit_late n b h.name file (Truncate from)) ≡ Some (cause_line c)
+    first_of (unit_refused_before_reading n b h.name file (Truncate from)) (unit_refused_after_reading n b h.name file (Truncate from)) ≡ Some (cause_line c)
 cut_cause s v order at place u at_place n file b h log up unprepared kept f from there found found_b c (inl early) =
     let is = asked_file kept.content v.catalog.heads n f h file kept.has.files kept.has.units there found in
     let form_is = forms.changes h file (op.Truncate f from) [] is.head tt in
     let mark_is = marked_alike h file is.head in
     let k : first_of (form_refused file (Truncate from)) (is_marked file) ≡ Some (cause_line c) =
-    (λ i. first_of (sym form_is i) (sym mark_is i)) ∙ sym (lines_first (form.truncate_refused h) (cause_if (not h.marks.ru) NotMarked)) ∙ ap (option_map cause_line) early in
+    (λ i. first_of (sym form_is i) (sym mark_is i)) ∙ sym (lines_first (form.truncate_refused h) (cause_if (not h.marks.ru) NotForUnits)) ∙ ap (option_map cause_line) early in
     let rest = keys_refused n (Some b.key.serial) h.name (keys_asked file (Truncate from)) in
-    first_some (unit_early n b h.name file (Truncate from)) (unit_late n b h.name file (Truncate from)) (cause_line c)
+    first_some (unit_refused_before_reading n b h.name file (Truncate from)) (unit_refused_after_reading n b h.name file (Truncate from)) (cause_line c)
     (first_again (form_refused file (Truncate from)) (is_marked file) rest ∙ first_some (first_of (form_refused file (Truncate from)) (is_marked file)) rest (cause_line c) k)
 cut_cause s v order at place u at_place n file b h log up unprepared kept f from there found found_b c (inr late) = cut_refused s v order at place u at_place n file b h log up unprepared kept f from there found found_b late.allowed c (late.cut f from refl)

@@ -5,6 +5,7 @@ use Rattle.std.specs.List.{AllByRecursion, flat_map}
 use Rattle.std.specs.Option.{IfSome}
 use Rattle.std.proofs.lemmas.List.{length-map}
 use Rattle.block_disk.specs.Blocks.{block_at}
+use Rattle.vms_model.specs.Limits.{change_limit}
 use Rattle.change_set.specs.Maps.{empty_map}
 use Rattle.directory_model.specs.Files.{AreFiles, IsFile, IsFoundAt, IsNamed, file_at, head_at}
 use Rattle.directory_model.specs.Laws.{IsChanged, carrying, directly_buckets, spelled_entry}
@@ -35,7 +36,7 @@ use Rattle.record_operations.specs.declared.ops.RecordOp.{RecordOp}
 use Rattle.record_operations.specs.declared.ops.RecordOp.TheVariants as op
 use Rattle.records_model.specs.History.{changed_it}
 use Rattle.records_model.specs.Records.{Change}
-use Rattle.recovery_units.specs.Calls.{IsDone, KeepsUp, alone_early, alone_late, cause_line, change_said, direct_act, position_line}
+use Rattle.recovery_units.specs.Calls.{IsDone, KeepsUp, alone_refused_after_reading, alone_refused_before_reading, cause_line, change_said, direct_act, position_line}
 use Rattle.recovery_units.specs.State.{AreLocks, IsKept}
 use Rattle.restart_laws.proofs.ChangingLemmas.{changes_restorable}
 use Rattle.restart_laws.specs.Units.{MayChange}
@@ -44,7 +45,7 @@ use Rattle.key_changes.specs.Changing.{locks_refuse}
 use Rattle.key_changes.specs.Keys.{change_in, position_by}
 use Rattle.rms_units.specs.State as state
 use Rattle.rms_units.specs.Truncating.{DirectsCut, IsDirectCut, cut_asked, number_refused}
-use Rattle.run_model.specs.Answers.{change_limit, found_refused, images_full, keys_refused}
+use Rattle.run_model.specs.Answers.{found_refused, images_full, keys_refused}
 use Rattle.run_model.specs.Locks.{is_locked}
 use Rattle.run_model.specs.Operations.{changes_of, data_refused, file_full, first_of, in_order, keys_asked, operation_answer, refused_if, removed}
 use Rattle.run_model.specs.World.{Act, Changes, Directs, File, Node, Settlement, acted, directly_changed, fallen, next_id, next_moment, with_images, with_outcome}
@@ -101,7 +102,7 @@ use Rattle.node_units.proofs.SettingFile.{IsOfNode, KeepsRest, keeps_rest}
 abbrev Content : Type 0
 Content = List (List ℕ)
 
-module _ (g from : ℕ) (bytes : List ℕ) (s : state.UnitsState) (log : Slots) (v w : VolumeState) (n : Node) (h : FileHead) (file : File) (asked : IsAskedOf (op.Truncate g from) s log v n h file) (tid : Tid) (clock : ℕ) (early : rms.direct_early h (op.Truncate g from) [] ≡ None) where
+module _ (g from : ℕ) (bytes : List ℕ) (s : state.UnitsState) (log : Slots) (v w : VolumeState) (n : Node) (h : FileHead) (file : File) (asked : IsAskedOf (op.Truncate g from) s log v n h file) (tid : Tid) (clock : ℕ) (early : rms.direct_refused_before_reading h (op.Truncate g from) [] ≡ None) where
   abbrev pub cut_op : RecordOp
   cut_op = op.Truncate g from
 
@@ -147,7 +148,7 @@ module _ (g from : ℕ) (bytes : List ℕ) (s : state.UnitsState) (log : Slots) 
       ∙ images_alike s log v asked.places n asked.up asked.kept g h.name file asked.found (at cut_op bytes s log v n h file asked).there h (carried cut_op bytes s log v n h file asked) (next_id n) open_now.0 open_now.1 (changes_of file cut_said)
       (some_made (changes_of file cut_said) some.1)
 
-  pub cut_late_is : option_map cause_line (first_cause (number_refused 0 (removed_from h.count from)) cut_full) ≡ alone_late n h.name file cut_said
+  pub cut_late_is : option_map cause_line (first_cause (number_refused 0 (removed_from h.count from)) cut_full) ≡ alone_refused_after_reading n h.name file cut_said
   cut_late_is = go (number_refused 0 (removed_from h.count from)) refl
     where
       turned : (a b c d : Option Line) → first_of (first_of a (first_of b c)) d ≡ first_of a (first_of b (first_of c d))
@@ -155,7 +156,7 @@ module _ (g from : ℕ) (bytes : List ℕ) (s : state.UnitsState) (log : Slots) 
       turned None (Some b) c d = refl
       turned None None c d = refl
 
-      go : (x : Option Cause) → number_refused 0 (removed_from h.count from) ≡ x → option_map cause_line (first_cause (number_refused 0 (removed_from h.count from)) cut_full) ≡ alone_late n h.name file cut_said
+      go : (x : Option Cause) → number_refused 0 (removed_from h.count from) ≡ x → option_map cause_line (first_cause (number_refused 0 (removed_from h.count from)) cut_full) ≡ alone_refused_after_reading n h.name file cut_said
       go (Some c) is =
           ap (λ (y : Option Cause). option_map cause_line (first_cause y cut_full)) is
           ∙ sym (ap (λ (l : Option Line). first_of l (images_full (next_id n) (changes_of file cut_said) file)) (sym cut_number ∙ ap (option_map cause_line) is))
@@ -165,7 +166,7 @@ module _ (g from : ℕ) (bytes : List ℕ) (s : state.UnitsState) (log : Slots) 
           ∙ sym (ap (λ (l : Option Line). first_of l (images_full (next_id n) (changes_of file cut_said) file)) (sym cut_number ∙ ap (option_map cause_line) is))
           ∙ turned (found_refused n None h.name cut_said file) (refused_if (nat_lt change_limit (length (changes_of file cut_said))) (line.QuotaExceeded line.Changes change_limit)) (file_full file cut_said) (images_full (next_id n) (changes_of file cut_said) file)
 
-  pub cut_free : locks_refuse None g (cut_asked h from) s.locks ≡ None → alone_early n h.name file cut_said ≡ None
+  pub cut_free : locks_refuse None g (cut_asked h from) s.locks ≡ None → alone_refused_before_reading n h.name file cut_said ≡ None
   cut_free free = early_none cut_op bytes s log v n h file asked (cut_asked h from) (keys_alike asked.kept.content h file cut_file_is sequential from) early free
 
   -- it is made of the volume
@@ -182,8 +183,8 @@ module _ (g from : ℕ) (bytes : List ℕ) (s : state.UnitsState) (log : Slots) 
     full_none : cut_full ≡ None
     full_none = made.late a asked.kept.told cut_file_is.head.form cut_file_is.laid
 
-    pub cut_late_none : alone_late n h.name file cut_said ≡ None
-    cut_late_none = line_none (first_cause (number_refused 0 (removed_from h.count from)) cut_full) (alone_late n h.name file cut_said) cut_late_is (λ i. first_cause (some i) (full_none i))
+    pub cut_late_none : alone_refused_after_reading n h.name file cut_said ≡ None
+    cut_late_none = line_none (first_cause (number_refused 0 (removed_from h.count from)) cut_full) (alone_refused_after_reading n h.name file cut_said) cut_late_is (λ i. first_cause (some i) (full_none i))
 
     first_one : (1 ≤ from) × (1 ≤ length (changes_of file cut_said))
     first_one = cut_some a h file cut_file_is sequential from some
@@ -297,7 +298,7 @@ module _ (g from : ℕ) (bytes : List ℕ) (s : state.UnitsState) (log : Slots) 
     changed_is = cut_changes g 65 from h new held file a2 b before mid file_2 sequential first_one.0 does.cuts.stages cuts_2
 
     module _ (own : tid_of tid ≡ next_id n) (is_id : IsId (tid_of tid)) (ticks : n.clock ≡ clock) (moment : settling.next_moment clock v.catalog.home ≤ 24113056319999) (free : locks_refuse None g (cut_asked h from) s.locks ≡ None)
-        (keeps : KeepsUp (alone_early n h.name file cut_said) (alone_late n h.name file cut_said) (direct_act n h.name file cut_said) n) where
+        (keeps : KeepsUp (alone_refused_before_reading n h.name file cut_said) (alone_refused_after_reading n h.name file cut_said) (direct_act n h.name file cut_said) n) where
       cut_then : IsUp (acted (direct_act n h.name file cut_said) n)
       cut_then = keeps (λ i. first_of (cut_free free i) (cut_late_none i))
 
@@ -586,9 +587,9 @@ module _ (g from : ℕ) (bytes : List ℕ) (s : state.UnitsState) (log : Slots) 
               (direct_kept (seen s log) before n g h h.name file tid clock c more s.units.places b mid w new content.0 kept_2 asked.up of_2 d (cut_then_more c more is) content.1 (size ∙ sym size_before))
 
   pub cut_done : (position : ℕ) → DirectsCut tid clock g h from s v w → tid_of tid ≡ next_id n → IsId (tid_of tid) → n.clock ≡ clock → settling.next_moment clock v.catalog.home ≤ 24113056319999 →
-      KeepsUp (alone_early n h.name file cut_said) (alone_late n h.name file cut_said) (direct_act n h.name file cut_said) n →
+      KeepsUp (alone_refused_before_reading n h.name file cut_said) (alone_refused_after_reading n h.name file cut_said) (direct_act n h.name file cut_said) n →
       w.store.disk.size ≡ v.store.disk.size → position ≡ position_by h.organization (change_in (op.Truncate 0 0)) (Number from) →
-      IsDone (alone_early n h.name file cut_said) (alone_late n h.name file cut_said) (direct_act n h.name file cut_said) (operation_answer file cut_said) (position_line position) n (seen s log) w
+      IsDone (alone_refused_before_reading n h.name file cut_said) (alone_refused_after_reading n h.name file cut_said) (direct_act n h.name file cut_said) (operation_answer file cut_said) (position_line position) n (seen s log) w
   cut_done position d own is_id ticks moment keeps size at_position =
       let both = first_none (locks_refuse None g (cut_asked h from) s.locks) (number_refused 0 (removed_from h.count from)) d.early in
       let before = cut_free both.0 in

@@ -3,6 +3,7 @@ use Rattle.std.proofs.Common.{◌≡◌, ℕ, ◌<◌, ◌≤◌, ◌&&◌, List
 use Rattle.std.specs.Prelude.{is_some, option_map, unwrap_or}
 use Rattle.std.proofs.Common.{false, ◌+◌, ◌-◌, ◌^◌, get_or-set_same}
 use Rattle.std.specs.Option.{IfSome}
+use Rattle.vms_model.specs.Limits.{change_limit}
 use Rattle.file_base.specs.declared.head.Span.{Span}
 use Rattle.file_images.specs.Images.{key_bytes}
 use Rattle.image_appends.specs.declared.side.Side.TheVariants.{After, Before}
@@ -85,14 +86,14 @@ use Rattle.record_operations.specs.Forms as form
 use Rattle.record_operations.specs.declared.ops.RecordOp.{RecordOp}
 use Rattle.record_operations.specs.declared.ops.RecordOp.TheVariants as op
 use Rattle.records_model.specs.Records.{Change}
-use Rattle.run_model.specs.Answers.{change_limit, found_refused, keys_refused, needs_unit}
+use Rattle.run_model.specs.Answers.{found_refused, keys_refused, needs_unit}
 use Rattle.run_model.specs.Locks.{is_locked}
 use Rattle.run_model.specs.Operations.{changes_of, data_refused, first_of, form_refused, is_change, keys_asked, keys_found, operation_answer, record_in, refused_if}
 use Rattle.run_model.specs.World.{Changes, Directs, File, Node, acted, find_file, next_id}
 use Rattle.directory_model.specs.Files.{IsFile, IsFoundAt, IsNamed, head_at}
 use Rattle.directory_model.proofs.Places.{file_there}
 use Rattle.directory_model.proofs.Reading.{reads_files}
-use Rattle.recovery_units.specs.Calls.{IsDone, IsNumbered, KeepsUp, alone_early, alone_late, cause_line, change_said, direct_act, position_line}
+use Rattle.recovery_units.specs.Calls.{IsDone, IsNumbered, KeepsUp, alone_refused_after_reading, alone_refused_before_reading, cause_line, change_said, direct_act, position_line}
 use Rattle.recovery_units.specs.State.{IsKept}
 use Rattle.rms_units.specs.Calls as rms
 use Rattle.key_changes.specs.Changing.{after_change, locks_refuse}
@@ -213,14 +214,14 @@ module _ (o : RecordOp) (bytes : List ℕ) (s : state.UnitsState) (log : Slots) 
       line_if h.marks.ru NeedsUnit ∙ ap (λ (b : Bool). refused_if b line.NeedsUnit) (sym is_file.head.units)
       ∙ ap (λ (b : Bool). refused_if (b && file.recovery_units) line.NeedsUnit) (sym (changes_it o))
 
-  pub early_form : rms.direct_early h o (written o bytes) ≡ None → form.form_refused h o (length (written o bytes)) ≡ None
+  pub early_form : rms.direct_refused_before_reading h o (written o bytes) ≡ None → form.form_refused h o (length (written o bytes)) ≡ None
   early_form none = (first_none (form.form_refused h o (length (written o bytes))) (cause_if h.marks.ru NeedsUnit) none).0
 
-  pub form_none : rms.direct_early h o (written o bytes) ≡ None → form_refused file (change_said o bytes) ≡ None
+  pub form_none : rms.direct_refused_before_reading h o (written o bytes) ≡ None → form_refused file (change_said o bytes) ≡ None
   form_none none = line_none (form.form_refused h o (length (written o bytes))) (form_refused file (change_said o bytes)) form_is (early_form none)
 
   -- nothing refuses it then
-  pub early_none : (ks : List Key) → keys_asked file (change_said o bytes) ≡ ks → rms.direct_early h o (written o bytes) ≡ None → locks_refuse None f ks s.locks ≡ None → alone_early n h.name file (change_said o bytes) ≡ None
+  pub early_none : (ks : List Key) → keys_asked file (change_said o bytes) ≡ ks → rms.direct_refused_before_reading h o (written o bytes) ≡ None → locks_refuse None f ks s.locks ≡ None → alone_refused_before_reading n h.name file (change_said o bytes) ≡ None
   early_none ks asks none free =
       let both = first_none (form.form_refused h o (length (written o bytes))) (cause_if h.marks.ru NeedsUnit) none in
       let one = line_none (form.form_refused h o (length (written o bytes))) (form_refused file (change_said o bytes)) form_is both.0 in
@@ -231,7 +232,7 @@ module _ (o : RecordOp) (bytes : List ℕ) (s : state.UnitsState) (log : Slots) 
 -- Refusals before a record is read, where one is.
 module _ (o : RecordOp) (bytes : List ℕ) (s : state.UnitsState) (log : Slots) (v : VolumeState) (n : Node) (h : FileHead) (file : File) (asked : IsAskedOf o s log v n h file) where
   -- by the form, or by the file's mark
-  pub early_refused : (c : Cause) → rms.direct_early h o (written o bytes) ≡ Some c → alone_early n h.name file (change_said o bytes) ≡ Some (cause_line c)
+  pub early_refused : (c : Cause) → rms.direct_refused_before_reading h o (written o bytes) ≡ Some c → alone_refused_before_reading n h.name file (change_said o bytes) ≡ Some (cause_line c)
   early_refused c refused =
       let formed = form_refused file (change_said o bytes) in
       let needs = needs_unit (change_said o bytes) file in
@@ -241,7 +242,7 @@ module _ (o : RecordOp) (bytes : List ℕ) (s : state.UnitsState) (log : Slots) 
       ((λ i. first_of (sym (form_is o bytes s log v n h file asked) i) (sym (needs_is o bytes s log v n h file asked) i)) ∙ sym (lines_first (form.form_refused h o (length (written o bytes))) (cause_if h.marks.ru NeedsUnit)) ∙ ap (option_map cause_line) refused)
 
   -- by a lock
-  pub early_locked : (ks : List Key) → keys_asked file (change_said o bytes) ≡ ks → rms.direct_early h o (written o bytes) ≡ None → (c : Cause) → locks_refuse None (file_in o) ks s.locks ≡ Some c → alone_early n h.name file (change_said o bytes) ≡ Some (cause_line c)
+  pub early_locked : (ks : List Key) → keys_asked file (change_said o bytes) ≡ ks → rms.direct_refused_before_reading h o (written o bytes) ≡ None → (c : Cause) → locks_refuse None (file_in o) ks s.locks ≡ Some c → alone_refused_before_reading n h.name file (change_said o bytes) ≡ Some (cause_line c)
   early_locked ks asks none c locked =
       let both = first_none (form.form_refused h o (length (written o bytes))) (cause_if h.marks.ru NeedsUnit) none in
       let one = line_none (form.form_refused h o (length (written o bytes))) (form_refused file (change_said o bytes)) (form_is o bytes s log v n h file asked) both.0 in
@@ -266,10 +267,10 @@ found_is n name file o bytes = ap (λ ks. first_of (data_refused file (change_sa
     alone None = refl
 
 -- what stands does not refuse it, and no key does
-pub passed_data : (n : Node) (name : List ℕ) (file : File) (o : RecordOp) (bytes : List ℕ) → alone_late n name file (change_said o bytes) ≡ None → data_refused file (change_said o bytes) ≡ None
+pub passed_data : (n : Node) (name : List ℕ) (file : File) (o : RecordOp) (bytes : List ℕ) → alone_refused_after_reading n name file (change_said o bytes) ≡ None → data_refused file (change_said o bytes) ≡ None
 passed_data n name file o bytes none = sym (found_is n name file o bytes) ∙ (neither (found_refused n None name (change_said o bytes) file) _ none).0
 
-pub passed_keys : (n : Node) (name : List ℕ) (file : File) (op : Operation) → alone_early n name file op ≡ None → keys_refused n None name (keys_asked file op) ≡ None
+pub passed_keys : (n : Node) (name : List ℕ) (file : File) (op : Operation) → alone_refused_before_reading n name file op ≡ None → keys_refused n None name (keys_asked file op) ≡ None
 passed_keys n name file op none = (neither (needs_unit op file) _ (neither (form_refused file op) _ none).1).1
 
 -- A change of one key.
@@ -292,7 +293,7 @@ module _ (o : RecordOp) (bytes : List ℕ) (s : state.UnitsState) (log : Slots) 
   abbrev pub below : h.organization ≡ kept.Sequential → h.count < 4294967295
   below = few o bytes s log v n h file asked
 
-  module _ (early : rms.direct_early h o value ≡ None) where
+  module _ (early : rms.direct_refused_before_reading h o value ≡ None) where
     abbrev pub formed : form.form_refused h o (length value) ≡ None
     formed = early_form o bytes s log v n h file asked early
 
@@ -305,7 +306,7 @@ module _ (o : RecordOp) (bytes : List ℕ) (s : state.UnitsState) (log : Slots) 
     pub keys_are : keys_asked file (change_said o bytes) ≡ keys_by.keys_asked h (change_in o) key
     keys_are = asks.asked
 
-    pub key_early : locks_refuse None (file_in o) (keys_by.keys_asked h (change_in o) key) s.locks ≡ None → alone_early n h.name file (change_said o bytes) ≡ None
+    pub key_early : locks_refuse None (file_in o) (keys_by.keys_asked h (change_in o) key) s.locks ≡ None → alone_refused_before_reading n h.name file (change_said o bytes) ≡ None
     key_early free = early_none o bytes s log v n h file asked (keys_by.keys_asked h (change_in o) key) keys_are early free
 
     abbrev had : Option (List ℕ)
@@ -345,7 +346,7 @@ module _ (o : RecordOp) (bytes : List ℕ) (s : state.UnitsState) (log : Slots) 
         ∙ ap (λ (cs : List Change). images_full (next_id n) cs file) (sym changes_are)
 
     -- what refuses it comes
-    pub late_is : option_map cause_line (rms.direct_late (file_in o) h (change_in o) key value s told) ≡ alone_late n h.name file (change_said o bytes)
+    pub late_is : option_map cause_line (rms.direct_refused_after_reading (file_in o) h (change_in o) key value s told) ≡ alone_refused_after_reading n h.name file (change_said o bytes)
     late_is = go why refl
       where
         found : option_map cause_line why ≡ found_refused n None h.name (change_said o bytes) file
@@ -354,7 +355,7 @@ module _ (o : RecordOp) (bytes : List ℕ) (s : state.UnitsState) (log : Slots) 
         many : refused_if (nat_lt change_limit (length (changes_of file (change_said o bytes)))) (line.QuotaExceeded line.Changes change_limit) ≡ None
         many = ap (λ (cs : List Change). refused_if (nat_lt change_limit (length cs)) (line.QuotaExceeded line.Changes change_limit)) changes_are
 
-        go : (x : Option Cause) → why ≡ x → option_map cause_line (first_cause why (first_cause full full_images)) ≡ alone_late n h.name file (change_said o bytes)
+        go : (x : Option Cause) → why ≡ x → option_map cause_line (first_cause why (first_cause full full_images)) ≡ alone_refused_after_reading n h.name file (change_said o bytes)
         go (Some c) is =
             ap (λ y. option_map cause_line (first_cause y (first_cause full full_images))) is
             ∙ sym (first_some (found_refused n None h.name (change_said o bytes) file) (first_of (refused_if (nat_lt change_limit (length (changes_of file (change_said o bytes)))) (line.QuotaExceeded line.Changes change_limit))
@@ -364,11 +365,11 @@ module _ (o : RecordOp) (bytes : List ℕ) (s : state.UnitsState) (log : Slots) 
 
     -- it is made of the volume
     module _ (made : rms.CommitsChange tid clock (file_in o) h (change_in o) key value s v w) where
-      pub late_none : rms.direct_late (file_in o) h (change_in o) key value s told ≡ None
+      pub late_none : rms.direct_refused_after_reading (file_in o) h (change_in o) key value s told ≡ None
       late_none = made.late told asked.kept.told file_is.head.form file_is.laid
 
-      pub late_is_none : alone_late n h.name file (change_said o bytes) ≡ None
-      late_is_none = line_none (rms.direct_late (file_in o) h (change_in o) key value s told) (alone_late n h.name file (change_said o bytes)) late_is late_none
+      pub late_is_none : alone_refused_after_reading n h.name file (change_said o bytes) ≡ None
+      late_is_none = line_none (rms.direct_refused_after_reading (file_in o) h (change_in o) key value s told) (alone_refused_after_reading n h.name file (change_said o bytes)) late_is late_none
 
       takes : Suits h key (after_change (change_in o) value) × Takes h told key (after_change (change_in o) value)
       takes =
@@ -401,7 +402,7 @@ module _ (o : RecordOp) (bytes : List ℕ) (s : state.UnitsState) (log : Slots) 
 
       module _ (own : tid_of tid ≡ next_id n) (is_id : IsId (tid_of tid)) (ticks : n.clock ≡ clock) (moment : settling.next_moment clock v.catalog.home ≤ 24113056319999)
           (free : locks_refuse None (file_in o) (keys_by.keys_asked h (change_in o) key) s.locks ≡ None)
-          (keeps : KeepsUp (alone_early n h.name file (change_said o bytes)) (alone_late n h.name file (change_said o bytes)) (direct_act n h.name file (change_said o bytes)) n) where
+          (keeps : KeepsUp (alone_refused_before_reading n h.name file (change_said o bytes)) (alone_refused_after_reading n h.name file (change_said o bytes)) (direct_act n h.name file (change_said o bytes)) n) where
         pub comes : IsUp (acted (Directs h.name (change ∷ []) (own_settlement n)) n)
         comes = subst (λ (cs : List Change). IsUp (acted (Directs h.name cs (own_settlement n)) n)) changes_are (keeps (λ i. first_of (key_early free i) (late_is_none i)))
 
@@ -662,9 +663,9 @@ module _ (o : RecordOp) (bytes : List ℕ) (s : state.UnitsState) (log : Slots) 
 
     -- it is done
     pub key_done : (position : ℕ) → rms.DirectsKey tid clock (file_in o) h (change_in o) key value s v w → tid_of tid ≡ next_id n → IsId (tid_of tid) → n.clock ≡ clock → settling.next_moment clock v.catalog.home ≤ 24113056319999 →
-        KeepsUp (alone_early n h.name file (change_said o bytes)) (alone_late n h.name file (change_said o bytes)) (direct_act n h.name file (change_said o bytes)) n →
+        KeepsUp (alone_refused_before_reading n h.name file (change_said o bytes)) (alone_refused_after_reading n h.name file (change_said o bytes)) (direct_act n h.name file (change_said o bytes)) n →
         w.store.disk.size ≡ v.store.disk.size → position ≡ position_by h.organization (change_in o) key →
-        IsDone (alone_early n h.name file (change_said o bytes)) (alone_late n h.name file (change_said o bytes)) (direct_act n h.name file (change_said o bytes)) (operation_answer file (change_said o bytes)) (position_line position) n (seen s log) w
+        IsDone (alone_refused_before_reading n h.name file (change_said o bytes)) (alone_refused_after_reading n h.name file (change_said o bytes)) (direct_act n h.name file (change_said o bytes)) (operation_answer file (change_said o bytes)) (position_line position) n (seen s log) w
     key_done position d own is_id ticks moment keeps size at_position =
         let before = key_early d.early in
         let after = late_is_none d.made in

@@ -23,7 +23,7 @@ use Rattle.run_model.specs.Operations.{first_of}
 use Rattle.volume_model.specs.Volumes.{HasDisk, IsEitherOf, IsLeftBy}
 use Rattle.unit_journal.specs.Groups.{LeavesEither, LeavesOld}
 use Rattle.unit_table.specs.Units.{OpenUnit}
-use Rattle.recovery_units.specs.Calls.{IsBroken, KeepsUp, alone_early, alone_late, cause_line, change_said, direct_act}
+use Rattle.recovery_units.specs.Calls.{IsBroken, KeepsUp, alone_refused_after_reading, alone_refused_before_reading, cause_line, change_said, direct_act}
 use Rattle.run_model.specs.World.{is_durable}
 use Rattle.rms_units.specs.Calls as rms
 use Rattle.key_changes.specs.Changing as keys_by
@@ -70,12 +70,12 @@ module _ (o : RecordOp) (bytes : List ℕ) (s : state.UnitsState) (log : Slots) 
       ))
 
 -- A change of one key.
-module _ (o : RecordOp) (bytes : List ℕ) (s : state.UnitsState) (log : Slots) (v w : VolumeState) (n : Node) (h : FileHead) (file : File) (asked : IsAskedOf o s log v n h file) (one : is_of_key o ≡ true) (tid : Tid) (clock : ℕ) (early : rms.direct_early h o (written o bytes) ≡ None) where
+module _ (o : RecordOp) (bytes : List ℕ) (s : state.UnitsState) (log : Slots) (v w : VolumeState) (n : Node) (h : FileHead) (file : File) (asked : IsAskedOf o s log v n h file) (one : is_of_key o ≡ true) (tid : Tid) (clock : ℕ) (early : rms.direct_refused_before_reading h o (written o bytes) ≡ None) where
   abbrev now_early : Option Line
-  now_early = alone_early n h.name file (change_said o bytes)
+  now_early = alone_refused_before_reading n h.name file (change_said o bytes)
 
   abbrev now_late : Option Line
-  now_late = alone_late n h.name file (change_said o bytes)
+  now_late = alone_refused_after_reading n h.name file (change_said o bytes)
 
   pub key_refused : (c : Cause) → rms.DirectKeyRefused (file_in o) h (change_in o) (key_in h o (written o bytes)) (written o bytes) c s v → first_of now_early now_late ≡ Some (cause_line c)
   key_refused c (inl locked) =
@@ -107,12 +107,12 @@ module _ (o : RecordOp) (bytes : List ℕ) (s : state.UnitsState) (log : Slots) 
       )
 
 -- A truncation.
-module _ (g from : ℕ) (bytes : List ℕ) (s : state.UnitsState) (log : Slots) (v w : VolumeState) (n : Node) (h : FileHead) (file : File) (asked : IsAskedOf (op.Truncate g from) s log v n h file) (tid : Tid) (clock : ℕ) (early : rms.direct_early h (op.Truncate g from) [] ≡ None) where
+module _ (g from : ℕ) (bytes : List ℕ) (s : state.UnitsState) (log : Slots) (v w : VolumeState) (n : Node) (h : FileHead) (file : File) (asked : IsAskedOf (op.Truncate g from) s log v n h file) (tid : Tid) (clock : ℕ) (early : rms.direct_refused_before_reading h (op.Truncate g from) [] ≡ None) where
   abbrev cut_early_now : Option Line
-  cut_early_now = alone_early n h.name file (Truncate from)
+  cut_early_now = alone_refused_before_reading n h.name file (Truncate from)
 
   abbrev cut_late_now : Option Line
-  cut_late_now = alone_late n h.name file (Truncate from)
+  cut_late_now = alone_refused_after_reading n h.name file (Truncate from)
 
   abbrev cut_act : Act
   cut_act = direct_act n h.name file (Truncate from)

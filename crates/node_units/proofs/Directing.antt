@@ -14,7 +14,7 @@ use Rattle.run_model.specs.Operations.{first_of, operation_answer}
 use Rattle.run_model.specs.World.{File, Node, find_file, next_id}
 use Rattle.directory_model.specs.Files.{NoneNamed, head_at}
 use Rattle.recovery_units.specs.Calls as calls
-use Rattle.recovery_units.specs.Calls.{IsAskedAlone, IsBroken, IsDone, IsNotDone, IsNumbered, KeepsUp, alone_early, alone_late, cause_line, change_said, direct_act, position_line}
+use Rattle.recovery_units.specs.Calls.{IsAskedAlone, IsBroken, IsDone, IsNotDone, IsNumbered, KeepsUp, alone_refused_after_reading, alone_refused_before_reading, cause_line, change_said, direct_act, position_line}
 use Rattle.log_laws.specs.Slots.{Slots}
 use Rattle.unit_table.specs.Places.{AreInOrder}
 use Rattle.unit_journal.specs.Settling as settling
@@ -63,16 +63,16 @@ module _ (tid : Tid) (clock : ℕ) (o : RecordOp) (s : state.UnitsState) (log : 
   }
 
 -- a file is called so
-renamed : (o : RecordOp) (bytes : List ℕ) (n : Node) (name : List ℕ) (file : File) (h : FileHead) → h.name ≡ name → KeepsUp (alone_early n name file (change_said o bytes)) (alone_late n name file (change_said o bytes)) (direct_act n name file (change_said o bytes)) n →
-    KeepsUp (alone_early n h.name file (change_said o bytes)) (alone_late n h.name file (change_said o bytes)) (direct_act n h.name file (change_said o bytes)) n
-renamed o bytes n name file h called keeps = subst (λ (x : List ℕ). KeepsUp (alone_early n x file (change_said o bytes)) (alone_late n x file (change_said o bytes)) (direct_act n x file (change_said o bytes)) n) (sym called) keeps
+renamed : (o : RecordOp) (bytes : List ℕ) (n : Node) (name : List ℕ) (file : File) (h : FileHead) → h.name ≡ name → KeepsUp (alone_refused_before_reading n name file (change_said o bytes)) (alone_refused_after_reading n name file (change_said o bytes)) (direct_act n name file (change_said o bytes)) n →
+    KeepsUp (alone_refused_before_reading n h.name file (change_said o bytes)) (alone_refused_after_reading n h.name file (change_said o bytes)) (direct_act n h.name file (change_said o bytes)) n
+renamed o bytes n name file h called keeps = subst (λ (x : List ℕ). KeepsUp (alone_refused_before_reading n x file (change_said o bytes)) (alone_refused_after_reading n x file (change_said o bytes)) (direct_act n x file (change_said o bytes)) n) (sym called) keeps
 
 -- It was done.
 
 done_by : (tid : Tid) (clock : ℕ) (o : RecordOp) (bytes : List ℕ) (position : ℕ) (s : state.UnitsState) (log : Slots) (v w : VolumeState) (n : Node) (h : FileHead) (file : File) → IsAskedOf o s log v n h file → rms.DirectsOk tid clock h o bytes position s v w → tid_of tid ≡ next_id n →
     IsId (tid_of tid) → n.clock ≡ clock → settling.next_moment clock v.catalog.home ≤ 24113056319999 →
-    KeepsUp (alone_early n h.name file (change_said o bytes)) (alone_late n h.name file (change_said o bytes)) (direct_act n h.name file (change_said o bytes)) n → w.store.disk.size ≡ v.store.disk.size →
-    IsDone (alone_early n h.name file (change_said o bytes)) (alone_late n h.name file (change_said o bytes)) (direct_act n h.name file (change_said o bytes)) (operation_answer file (change_said o bytes)) (position_line position) n (seen s log) w
+    KeepsUp (alone_refused_before_reading n h.name file (change_said o bytes)) (alone_refused_after_reading n h.name file (change_said o bytes)) (direct_act n h.name file (change_said o bytes)) n → w.store.disk.size ≡ v.store.disk.size →
+    IsDone (alone_refused_before_reading n h.name file (change_said o bytes)) (alone_refused_after_reading n h.name file (change_said o bytes)) (direct_act n h.name file (change_said o bytes)) (operation_answer file (change_said o bytes)) (position_line position) n (seen s log) w
 done_by tid clock (op.Put g key) bytes position s log v w n h file asked r own is_id ticks moment keeps size = key_done (op.Put g key) bytes s log v w n h file asked refl tid clock r.early position (r.changes refl) own is_id ticks moment keeps size r.position
 done_by tid clock (op.Update g key) bytes position s log v w n h file asked r own is_id ticks moment keeps size = key_done (op.Update g key) bytes s log v w n h file asked refl tid clock r.early position (r.changes refl) own is_id ticks moment keeps size r.position
 done_by tid clock (op.Delete g key) bytes position s log v w n h file asked r own is_id ticks moment keeps size = key_done (op.Delete g key) bytes s log v w n h file asked refl tid clock r.early position (r.changes refl) own is_id ticks moment keeps size r.position
@@ -82,7 +82,7 @@ pub directs_ok : (tid : Tid) (clock : ℕ) (o : RecordOp) (bytes : List ℕ) (po
     ((h : FileHead) → head_at v.catalog.heads (file_in o) ≡ Some h → rms.DirectsOk tid clock h o bytes position s v w) → calls.DirectsOk (tid_of tid) clock o bytes position moment (seen s log) v w
 directs_ok tid clock o bytes position moment s log v w may size told r n name file asked own ticks keeps =
     let said = change_said o bytes in (
-      subst (λ (x : List ℕ). IsDone (alone_early n x file said) (alone_late n x file said) (direct_act n x file said) (operation_answer file said) (position_line position) n (seen s log) w) asked.named.called
+      subst (λ (x : List ℕ). IsDone (alone_refused_before_reading n x file said) (alone_refused_after_reading n x file said) (direct_act n x file said) (operation_answer file said) (position_line position) n (seen s log) w) asked.named.called
           (done_by tid clock o bytes position s log v w n asked.head file (asked_of tid clock o s log v may n name file asked) (r asked.head asked.named.there) (sym own) may.is_id ticks (moment_low tid clock o s log v may) (renamed o bytes n name file asked.head asked.named.called keeps) size),
       told ∙ sym (moment_of n clock v.catalog.home ticks asked.kept.has.home.greatest),
     )
@@ -90,9 +90,9 @@ directs_ok tid clock o bytes position moment s log v w may size told r n name fi
 -- It was not done.
 
 refused_by : (tid : Tid) (clock : ℕ) (o : RecordOp) (bytes : List ℕ) (s : state.UnitsState) (log : Slots) (v w : VolumeState) (n : Node) (h : FileHead) (file : File) → IsAskedOf o s log v n h file → (c : Cause) → rms.DirectRefused h o (written o bytes) c s v →
-    first_of (alone_early n h.name file (change_said o bytes)) (alone_late n h.name file (change_said o bytes)) ≡ Some (cause_line c)
+    first_of (alone_refused_before_reading n h.name file (change_said o bytes)) (alone_refused_after_reading n h.name file (change_said o bytes)) ≡ Some (cause_line c)
 refused_by tid clock o bytes s log v w n h file asked c (inl early) =
-    first_some (alone_early n h.name file (change_said o bytes)) (alone_late n h.name file (change_said o bytes)) (cause_line c) (early_refused o bytes s log v n h file asked c early)
+    first_some (alone_refused_before_reading n h.name file (change_said o bytes)) (alone_refused_after_reading n h.name file (change_said o bytes)) (cause_line c) (early_refused o bytes s log v n h file asked c early)
 refused_by tid clock (op.Put g key) bytes s log v w n h file asked c (inr late) = key_refused (op.Put g key) bytes s log v w n h file asked refl tid clock late.allowed c (late.key refl)
 refused_by tid clock (op.Update g key) bytes s log v w n h file asked c (inr late) = key_refused (op.Update g key) bytes s log v w n h file asked refl tid clock late.allowed c (late.key refl)
 refused_by tid clock (op.Delete g key) bytes s log v w n h file asked c (inr late) = key_refused (op.Delete g key) bytes s log v w n h file asked refl tid clock late.allowed c (late.key refl)
@@ -100,8 +100,8 @@ refused_by tid clock (op.Truncate g from) bytes s log v w n h file asked c (inr 
 
 broken_by : (tid : Tid) (clock : ℕ) (o : RecordOp) (bytes : List ℕ) (s : state.UnitsState) (log : Slots) (v w : VolumeState) (n : Node) (h : FileHead) (file : File) → IsAskedOf o s log v n h file → rms.DirectBroke tid clock h o (written o bytes) s v w → tid_of tid ≡ next_id n → IsId (tid_of tid) →
     n.clock ≡ clock → settling.next_moment clock v.catalog.home ≤ 24113056319999 →
-    KeepsUp (alone_early n h.name file (change_said o bytes)) (alone_late n h.name file (change_said o bytes)) (direct_act n h.name file (change_said o bytes)) n →
-    IsBroken (alone_early n h.name file (change_said o bytes)) (alone_late n h.name file (change_said o bytes)) (direct_act n h.name file (change_said o bytes)) n w.store.disk
+    KeepsUp (alone_refused_before_reading n h.name file (change_said o bytes)) (alone_refused_after_reading n h.name file (change_said o bytes)) (direct_act n h.name file (change_said o bytes)) n →
+    IsBroken (alone_refused_before_reading n h.name file (change_said o bytes)) (alone_refused_after_reading n h.name file (change_said o bytes)) (direct_act n h.name file (change_said o bytes)) n w.store.disk
 broken_by tid clock (op.Put g key) bytes s log v w n h file asked broke own is_id ticks moment keeps = key_broken (op.Put g key) bytes s log v w n h file asked refl tid clock broke.allowed (broke.key refl) own is_id ticks moment keeps
 broken_by tid clock (op.Update g key) bytes s log v w n h file asked broke own is_id ticks moment keeps = key_broken (op.Update g key) bytes s log v w n h file asked refl tid clock broke.allowed (broke.key refl) own is_id ticks moment keeps
 broken_by tid clock (op.Delete g key) bytes s log v w n h file asked broke own is_id ticks moment keeps = key_broken (op.Delete g key) bytes s log v w n h file asked refl tid clock broke.allowed (broke.key refl) own is_id ticks moment keeps
@@ -113,6 +113,6 @@ directs_err tid clock o bytes e s log v w may r n name file asked own ticks keep
     let said = change_said o bytes in
     let h = asked.head in
     let of = asked_of tid clock o s log v may n name file asked in
-    subst (λ (x : List ℕ). IsNotDone e (alone_early n x file said) (alone_late n x file said) (direct_act n x file said) n w.store.disk) asked.named.called
-    (not_done e (alone_early n h.name file said) (alone_late n h.name file said) (direct_act n h.name file said) n w.store.disk (λ c. rms.DirectRefused h o (written o bytes) c s v × SameVolume v w) (λ down. rms.DirectBroke tid clock h o (written o bytes) s v w) (r h asked.named.there)
+    subst (λ (x : List ℕ). IsNotDone e (alone_refused_before_reading n x file said) (alone_refused_after_reading n x file said) (direct_act n x file said) n w.store.disk) asked.named.called
+    (not_done e (alone_refused_before_reading n h.name file said) (alone_refused_after_reading n h.name file said) (direct_act n h.name file said) n w.store.disk (λ c. rms.DirectRefused h o (written o bytes) c s v × SameVolume v w) (λ down. rms.DirectBroke tid clock h o (written o bytes) s v w) (r h asked.named.there)
     (λ c k. refused_by tid clock o bytes s log v w n h file of c k.0) (λ down broke. broken_by tid clock o bytes s log v w n h file of broke (sym own) may.is_id ticks (moment_low tid clock o s log v may) (renamed o bytes n name file asked.head asked.named.called keeps)))

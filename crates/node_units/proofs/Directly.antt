@@ -38,7 +38,7 @@ use Rattle.world_laws.proofs.RunningLemmas.{end_is_free_for}
 use Rattle.world_laws.proofs.ServedLemmas.{undrawn}
 use Rattle.world_laws.proofs.TableLemmas.{in_serials}
 use Rattle.world_laws.proofs.UpLemmas.{branch_drawn}
-use Rattle.directory_model.specs.Files.{AreFiles, IsFile, IsFoundAt, IsNamed, file_at, StandsCarried, IsCarried}
+use Rattle.directory_model.specs.Files.{AreFiles, IsFile, IsFoundAt, IsNamed, file_at, AgreesOnCarried, IsCarried}
 use Rattle.directory_model.specs.Laws.{AreFree, IsChanged, SameBut, carrying, directly_buckets}
 use Rattle.directory_model.proofs.Acts.{layout_after, same_there}
 use Rattle.directory_model.proofs.Finding.{finds_files}
@@ -128,7 +128,7 @@ applied_on m keys cs key same = ap (λ (x : Map). x key) (agree.applied_alike cs
     all = λ i k. same k i
 
 pub files_directed : (a b : List (List ℕ)) (heads : List (Option FileHead)) (n : Node) (f : ℕ) (h new : FileHead) (name : List ℕ) (file : File) (cs : List Change) (s : Settlement) → AreFiles a heads n.durable.directory → AreUnitsOf n → s.outcome ≡ Commit →
-    IsNamed heads f h name → file_at n.durable.directory f ≡ Some file → AreFree s.serial file cs → Found cs (current file.history) → IsChanged (is_locked n.volatile.locks name) cs a h b new → StandsCarried h a b → SameBut f heads a b →
+    IsNamed heads f h name → file_at n.durable.directory f ≡ Some file → AreFree s.serial file cs → Found cs (current file.history) → IsChanged (is_locked n.volatile.locks name) cs a h b new → AgreesOnCarried h a b → SameBut f heads a b →
     AreFiles b (slice_set heads f (Some new)) (directly_buckets (is_locked n.volatile.locks name) s cs f file n.durable.directory)
 files_directed a b heads n f h new name file cs s are units commit named there free found is stands same =
     let directory = n.durable.directory in

@@ -15,7 +15,7 @@ use Rattle.volume.specs.declared.catalog.Catalog.{Catalog}
 use Rattle.volume.specs.Catalogs.{IsSound, TellsCatalog, TellsEntry}
 use Rattle.volume_format.specs.Home.{HasHome, HasRu, ru_block_of, ru_rows, sizes_of}
 use Rattle.volume_format.proofs.Splices.{laid_again, laid_stand, length-laid}
-use Rattle.directory_model.specs.Files.{StandsIn, head_at}
+use Rattle.directory_model.specs.Files.{AgreesOnFile, head_at}
 use Rattle.directory_model.proofs.Apart.{writes_apart}
 use Rattle.volume.specs.Limits.{data_area}
 use Rattle.file_images.proofs.Rings.{journal_stands}
@@ -69,7 +69,7 @@ module _ (node : List ℕ) (size : ℕ) (v : Catalog) (sound : IsSound node size
   }
 
   -- the files stand
-  pub entered_files : (f : ℕ) (h : FileHead) → head_at v.heads f ≡ Some h → StandsIn h b c
+  pub entered_files : (f : ℕ) (h : FileHead) → head_at v.heads f ≡ Some h → AgreesOnFile h b c
   entered_files = writes_apart.before (data_area (sizes_of v.home)) v.heads b c (fit node size v sound long) (ap length is ∙ length-set put 65 (ru_block_of after) ∙ others.size) whole
       (λ k from. let start = sound.ru_start in let blocks = sound.ru_blocks in sym (stands_at k (λ t. absurd (omega (arith, t, from))) (inr (omega (arith, from, start, blocks)))))
 

@@ -16,7 +16,7 @@ use Rattle.vms_base.specs.declared.protocol.LogRec.{LogRec}
 use Rattle.volume.specs.State.{VolumeState}
 use Rattle.rms_units.specs.State as rms
 use Rattle.node_units.specs.declared.begun.BegunUnit.{BegunUnit}
-use Rattle.node_units.specs.Tokens.{StandFor, is_held, is_waiting, place_in, tokens_for}
+use Rattle.node_units.specs.Tokens.{TokensRepresent, is_held, is_waiting, place_in, tokens_for}
 use Rattle.node_units.proofs.Beginning.{long_kinds, long_records}
 
 tokens_places : (rs : List LogRec) (ps : List ℕ) → length ps ≡ length rs → map (λ (t : BegunUnit). place_in t.token) (tokens_for rs ps) ≡ ps
@@ -68,7 +68,7 @@ module _ (clock : ℕ) (v w : VolumeState) (found log : Slots) (units : Units) (
       omega (arith, many, each, long, places)
 
   -- and the tokens are those of the units
-  pub stand_returned : AreInOrder units.places units.order → StandFor (tokens_for told.prepared told.units) (record { units = units; locks = locks })
+  pub stand_returned : AreInOrder units.places units.order → TokensRepresent (tokens_for told.prepared told.units) (record { units = units; locks = locks })
   stand_returned at =
       let long = places_many at in
       record {
@@ -87,6 +87,6 @@ module _ (clock : ℕ) (v w : VolumeState) (found log : Slots) (units : Units) (
       omega (arith, long, kinds, records, few)
 
 -- no token stands for no unit
-pub no_tokens : (ts : List BegunUnit) (s : rms.UnitsState) → StandFor ts s → s ≡ rms.nothing_begun → ts ≡ []
+pub no_tokens : (ts : List BegunUnit) (s : rms.UnitsState) → TokensRepresent ts s → s ≡ rms.nothing_begun → ts ≡ []
 no_tokens [] s stand none = refl
 no_tokens (t ∷ ts) s stand none = let never : ◌≡◌ {A = List ℕ} (place_in t.token ∷ map (λ (t : BegunUnit). place_in t.token) ts) [] = stand.places ∙ ap (λ (x : rms.UnitsState). x.units.order) none in let no : ⊥ = cc in absurd no

@@ -14,13 +14,13 @@ use Rattle.recovery_units.specs.State.{UnitsState, aborted, committed, without_b
 use Rattle.rms_units.specs.State as rms
 use Rattle.node_units.specs.declared.begun.BegunUnit.{BegunUnit}
 use Rattle.node_units.specs.Seen.{seen}
-use Rattle.node_units.specs.Tokens.{StandFor, is_of, place_in}
+use Rattle.node_units.specs.Tokens.{TokensRepresent, is_of, place_in}
 use Rattle.node_units.proofs.Committing.{MaySettle}
 use Rattle.node_units.proofs.Seeing.{early_unseen, order_seen, order_unseen}
 use Rattle.node_units.proofs.TokenLemmas.{HasUnit, own_unit, seen_less, stand_then}
 
 pub record Handles (ts : List BegunUnit) (s : rms.UnitsState) (log : Slots) (v : VolumeState) (x : Id) (i : ℕ) (b : BegunUnit) (was : UnitsState) (clock : ℕ) : Type 0 where
-  pub stand : StandFor ts s
+  pub stand : TokensRepresent ts s
   pub places : AreInOrder s.units.places s.units.order
   pub found : position (is_of x) ts ≡ Some i
   pub at : b ≡ get_or ts i b
@@ -52,8 +52,8 @@ module _ (ts : List BegunUnit) (s : rms.UnitsState) (log : Slots) (v : VolumeSta
   }
 
   -- what is left
-  pub stand_without : (t : rms.UnitsState) → t ≡ rms.without_place (place_in b.token) own_at.unit.serial s → StandFor (remove ts i) t
-  stand_without t spent = subst (StandFor (remove ts i)) (sym spent) (stand_then ts s k.stand k.places x i b k.found k.at own_at.unit.serial own_at.serial)
+  pub stand_without : (t : rms.UnitsState) → t ≡ rms.without_place (place_in b.token) own_at.unit.serial s → TokensRepresent (remove ts i) t
+  stand_without t spent = subst (TokensRepresent (remove ts i)) (sym spent) (stand_then ts s k.stand k.places x i b k.found k.at own_at.unit.serial own_at.serial)
 
   pub gone_with : (rec : Option LogRecord) (t : rms.UnitsState) (us : Slots) → t ≡ rms.without_place (place_in b.token) own_at.unit.serial s → us ≡ settled_in own_at.unit.serial rec log → seen t us ≡ committed x rec was
   gone_with rec t us spent slots =

@@ -5,7 +5,7 @@ use Rattle.file_base.specs.declared.head.FileHead.{FileHead}
 use Rattle.file_images.specs.Files.{SameRing}
 use Rattle.careful_write.specs.State.{EachWhole}
 use Rattle.file_base.specs.declared.head.Span.{Span}
-use Rattle.directory_model.specs.Files.{AreFiles, StandsIn, file_at, head_at}
+use Rattle.directory_model.specs.Files.{AgreesOnFile, AreFiles, file_at, head_at}
 use Rattle.directory_model.specs.Restoring.{AreRestorable, CanRestore, IsPlaceRestorable}
 use Rattle.restart_laws.specs.Restorable.{SameLive}
 use Rattle.restart_laws.proofs.StayLemmas.{keeps_restorable}
@@ -82,13 +82,13 @@ live_set (p ∷ directory) (suc f) (suc g) one other same = live_set directory f
 
 -- All that a file has stands in the same content, and in a third where it does in a second.
 
-pub stands_same : (h : FileHead) (a : List (List ℕ)) → EachWhole a → StandsIn h a a
+pub stands_same : (h : FileHead) (a : List (List ℕ)) → EachWhole a → AgreesOnFile h a a
 stands_same h a whole = record { own = λ n inside. refl; carried = record { after = λ on. ring; before = λ on. ring; save = λ on n inside. refl } }
   where
     ring : {s : Span} → SameRing s a a
     ring = record { size = refl; whole = whole; blocks = λ k from to. refl }
 
-pub stands_on : (h : FileHead) (a b c : List (List ℕ)) → StandsIn h a b → StandsIn h b c → StandsIn h a c
+pub stands_on : (h : FileHead) (a b c : List (List ℕ)) → AgreesOnFile h a b → AgreesOnFile h b c → AgreesOnFile h a c
 stands_on h a b c first second = record {
   own = λ n inside. first.own n inside ∙ second.own n inside;
   carried = record {

@@ -35,7 +35,7 @@ use Rattle.volume_model.specs.Volumes.{HasDisk, HasVolume, IsEitherOf, IsLeftBy}
 use Rattle.careful_write.specs.Content.{content_of}
 use Rattle.script_model.specs.Statements.{Operation}
 use Rattle.volume_laws.proofs.WholeLemmas.{volume_falls}
-use Rattle.recovery_units.specs.Calls.{IsBroken, IsDone, IsNumbered, KeepsUp, change_said, position_line, unit_act, unit_early, unit_late}
+use Rattle.recovery_units.specs.Calls.{IsBroken, IsDone, IsNumbered, KeepsUp, change_said, position_line, unit_act, unit_refused_after_reading, unit_refused_before_reading}
 use Rattle.recovery_units.specs.State.{AreLocks, AreOfBranches, IsKept, IsUnitOf, changed_at, positions_of}
 use Rattle.unit_world.proofs.Leaving.{down}
 use Rattle.unit_world.proofs.Staying.{changed_set}
@@ -71,9 +71,9 @@ still_changed x y c h other = ap (λ (ds : List Change). elim ds [ [] ↦ false 
 
 module _ (s : state.UnitsState) (v : VolumeState) (order : IsInOrder s v) (at : AreInOrder s.units.places s.units.order) (place : ℕ) (u : OpenUnit) (at_place : unit_at s.units.places place ≡ Some u) (n : Node) (file : File) (b : Branch) (h : FileHead) (log : Slots) (up : IsUp n) (unprepared : is_prepared b.state ≡ false)
     (kept : IsKept (seen s log) v n) (o : RecordOp) (bytes : List ℕ) (there : head_at v.catalog.heads (file_in o) ≡ Some h) (found : find_file h.name n.durable.directory ≡ Some file) (found_b : find_branch u.serial n.volatile.branches ≡ Some b)
-    (one : is_of_key o ≡ true) (number : IsNumbered o) (low : IsEarly v) (allowed : rms.change_early h o (written o bytes) ≡ None)
+    (one : is_of_key o ≡ true) (number : IsNumbered o) (low : IsEarly v) (allowed : rms.change_refused_before_reading h o (written o bytes) ≡ None)
     (t : state.UnitsState) (w : VolumeState) (done : rms.ChangesKey place u (file_in o) h (change_in o) (key_in h o (written o bytes)) (written o bytes) s v t w) (d : Content) (now : w.store.current ≡ Some d) (size : w.store.disk.size ≡ v.store.disk.size)
-    (keeps : KeepsUp (unit_early n b h.name file (change_said o bytes)) (unit_late n b h.name file (change_said o bytes)) (unit_act b h.name file (change_said o bytes)) n) where
+    (keeps : KeepsUp (unit_refused_before_reading n b h.name file (change_said o bytes)) (unit_refused_after_reading n b h.name file (change_said o bytes)) (unit_act b h.name file (change_said o bytes)) n) where
   abbrev f : ℕ
   f = file_in o
 
@@ -197,7 +197,7 @@ module _ (s : state.UnitsState) (v : VolumeState) (order : IsInOrder s v) (at : 
   kept_after = subst (λ (act : Act). IsKept (seen t log) w (acted act n)) (made_by.act_is s v order at place u at_place n file b h log up unprepared kept o bytes there found found_b one number low allowed locks w made keeps) kept_then
 
   -- the call is the world's
-  pub key_done : (told : ℕ) → told ≡ position_by h.organization (change_in o) key → IsDone (unit_early n b h.name file (change_said o bytes)) (unit_late n b h.name file (change_said o bytes)) (unit_act b h.name file (change_said o bytes))
+  pub key_done : (told : ℕ) → told ≡ position_by h.organization (change_in o) key → IsDone (unit_refused_before_reading n b h.name file (change_said o bytes)) (unit_refused_after_reading n b h.name file (change_said o bytes)) (unit_act b h.name file (change_said o bytes))
       (operation_answer file (change_said o bytes)) (position_line told) n (seen t log) w
   key_done told is = record {
     allowed = (λ i. first_of (made_by.early_is_none s v order at place u at_place n file b h log up unprepared kept o bytes there found found_b one number low allowed locks w made keeps i) (made_by.late_is_none s v order at place u at_place n file b h log up unprepared kept o bytes there found found_b one number low allowed locks w made keeps i));
@@ -208,9 +208,9 @@ module _ (s : state.UnitsState) (v : VolumeState) (order : IsInOrder s v) (at : 
 -- The disk went down.
 module _ (s : state.UnitsState) (v : VolumeState) (order : IsInOrder s v) (at : AreInOrder s.units.places s.units.order) (place : ℕ) (u : OpenUnit) (at_place : unit_at s.units.places place ≡ Some u) (n : Node) (file : File) (b : Branch) (h : FileHead) (log : Slots) (up : IsUp n) (unprepared : is_prepared b.state ≡ false)
     (kept : IsKept (seen s log) v n) (o : RecordOp) (bytes : List ℕ) (there : head_at v.catalog.heads (file_in o) ≡ Some h) (found : find_file h.name n.durable.directory ≡ Some file) (found_b : find_branch u.serial n.volatile.branches ≡ Some b)
-    (one : is_of_key o ≡ true) (number : IsNumbered o) (low : IsEarly v) (allowed : rms.change_early h o (written o bytes) ≡ None)
+    (one : is_of_key o ≡ true) (number : IsNumbered o) (low : IsEarly v) (allowed : rms.change_refused_before_reading h o (written o bytes) ≡ None)
     (w : VolumeState) (broke : rms.KeyBroke u (file_in o) h (change_in o) (key_in h o (written o bytes)) (written o bytes) s v w)
-    (keeps : KeepsUp (unit_early n b h.name file (change_said o bytes)) (unit_late n b h.name file (change_said o bytes)) (unit_act b h.name file (change_said o bytes)) n) where
+    (keeps : KeepsUp (unit_refused_before_reading n b h.name file (change_said o bytes)) (unit_refused_after_reading n b h.name file (change_said o bytes)) (unit_act b h.name file (change_said o bytes)) n) where
   abbrev said : Operation
   said = change_said o bytes
 
@@ -239,13 +239,13 @@ module _ (s : state.UnitsState) (v : VolumeState) (order : IsInOrder s v) (at : 
     durable_act : is_durable act ≡ true
     durable_act = ap is_durable (sym (made_by.act_is s v order at place u at_place n file b h log up unprepared kept o bytes there found found_b one number low allowed none_held new made keeps))
 
-    late_then : unit_late n b h.name file said ≡ None
+    late_then : unit_refused_after_reading n b h.name file said ≡ None
     late_then = made_by.late_is_none s v order at place u at_place n file b h log up unprepared kept o bytes there found found_b one number low allowed none_held new made keeps
 
-  pub key_broken : IsBroken (unit_early n b h.name file said) (unit_late n b h.name file said) act n w.store.disk
+  pub key_broken : IsBroken (unit_refused_before_reading n b h.name file said) (unit_refused_after_reading n b h.name file said) act n w.store.disk
   key_broken = record { begun = early_none s v order at place u at_place n file b h log up unprepared kept o bytes there found found_b one number allowed broke.early; disk = go broke.breaks }
     where
       go : Breaks (rms.MakesKey u (file_in o) h (change_in o) (key_in h o (written o bytes)) (written o bytes) s v) v w →
-          HasDisk (fallen None n) w.store.disk ⊎ ((unit_late n b h.name file said ≡ None) × (is_durable act ≡ true) × HasDisk (fallen (Some act) n) w.store.disk)
+          HasDisk (fallen None n) w.store.disk ⊎ ((unit_refused_after_reading n b h.name file said ≡ None) × (is_durable act ≡ true) × HasDisk (fallen (Some act) n) w.store.disk)
       go (inl old) = inl (disk_sound (fallen None n) w.store.disk kept.has.home.volume (λ image may. let is = old image may in (is.0, inl (old_left (content_of image) is.1 None))))
       go (inr new) = inr (late_then new.made new.is, durable_act new.made new.is, disk_sound (fallen (Some act) n) w.store.disk kept.has.home.volume (λ image may. let is = new.either image may in (is.0, either_left new.made new.is (content_of image) is.1)))

@@ -58,7 +58,7 @@ use Rattle.restart_laws.specs.Units.{MayChange}
 use Rattle.unit_laws.specs.Units.{is_free}
 use Rattle.lmcp_log.specs.Keeping.{SameSlots}
 use Rattle.volume_laws.proofs.ToldLemmas.{logs_follow}
-use Rattle.directory_model.specs.Files.{AreFiles, IsCarried, IsFile, IsFoundAt, IsNamed, IsWithin, StandsIn, file_at, head_at, organized_by}
+use Rattle.directory_model.specs.Files.{AgreesOnFile, AreFiles, IsCarried, IsFile, IsFoundAt, IsNamed, IsWithin, file_at, head_at, organized_by}
 use Rattle.directory_model.specs.Laws.{IsChanged, carrying, changed_buckets, spelled_entry}
 use Rattle.directory_model.specs.Restoring.{AreRestorable}
 use Rattle.directory_model.proofs.Acts.{keeps_files}
@@ -72,7 +72,7 @@ use Rattle.volume_model.specs.Entries.{entry_for}
 use Rattle.volume_model.specs.Laws.{KeepsNames}
 use Rattle.volume_model.specs.Volumes.{HasJournal, HasLog, HasVolume}
 use Rattle.volume_laws.proofs.FollowLemmas.{follow}
-use Rattle.recovery_units.specs.Calls.{IsNumbered, KeepsUp, change_said, unit_act, unit_early, unit_late}
+use Rattle.recovery_units.specs.Calls.{IsNumbered, KeepsUp, change_said, unit_act, unit_refused_after_reading, unit_refused_before_reading}
 use Rattle.recovery_units.specs.State.{AreLocks, IsKept, IsOfBranch}
 use Rattle.unit_world.proofs.Blocks.{same_names}
 use Rattle.rms_units.specs.Calls as rms
@@ -215,10 +215,10 @@ same_file x y e = cc
 
 module _ (s : state.UnitsState) (v : VolumeState) (order : IsInOrder s v) (at : AreInOrder s.units.places s.units.order) (place : ℕ) (u : OpenUnit) (at_place : unit_at s.units.places place ≡ Some u) (n : Node) (file : File) (b : Branch) (h : FileHead) (log : Slots) (up : IsUp n) (unprepared : is_prepared b.state ≡ false)
     (kept : IsKept (seen s log) v n) (o : RecordOp) (bytes : List ℕ) (there : head_at v.catalog.heads (file_in o) ≡ Some h) (found : find_file h.name n.durable.directory ≡ Some file) (found_b : find_branch u.serial n.volatile.branches ≡ Some b)
-    (one : is_of_key o ≡ true) (number : IsNumbered o) (low : IsEarly v) (allowed : rms.change_early h o (written o bytes) ≡ None)
+    (one : is_of_key o ≡ true) (number : IsNumbered o) (low : IsEarly v) (allowed : rms.change_refused_before_reading h o (written o bytes) ≡ None)
     (locks : changing.locks_refuse (Some u.serial) (file_in o) (changing.keys_asked h (change_in o) (key_in h o (written o bytes))) s.locks ≡ None) (w : VolumeState)
     (made : rms.MakesKey u (file_in o) h (change_in o) (key_in h o (written o bytes)) (written o bytes) s v w)
-    (keeps : KeepsUp (unit_early n b h.name file (change_said o bytes)) (unit_late n b h.name file (change_said o bytes)) (unit_act b h.name file (change_said o bytes)) n) where
+    (keeps : KeepsUp (unit_refused_before_reading n b h.name file (change_said o bytes)) (unit_refused_after_reading n b h.name file (change_said o bytes)) (unit_act b h.name file (change_said o bytes)) n) where
   abbrev f : ℕ
   f = file_in o
 
@@ -252,13 +252,13 @@ module _ (s : state.UnitsState) (v : VolumeState) (order : IsInOrder s v) (at : 
   pub asking : AsksKey a h file o bytes
   asking = asks s v order at place u at_place n file b h log up unprepared kept o bytes there found found_b one number allowed
 
-  late : rms.change_late u f h (change_in o) key value s v a ≡ None
+  late : rms.change_refused_after_reading u f h (change_in o) key value s v a ≡ None
   late = made.late a kept.told file_is.head.form file_is.laid
 
-  pub early_is_none : unit_early n b h.name file said ≡ None
+  pub early_is_none : unit_refused_before_reading n b h.name file said ≡ None
   early_is_none = early_none s v order at place u at_place n file b h log up unprepared kept o bytes there found found_b one number allowed locks
 
-  pub late_is_none : unit_late n b h.name file said ≡ None
+  pub late_is_none : unit_refused_after_reading n b h.name file said ≡ None
   late_is_none = late_none s v order at place u at_place n file b h log up unprepared kept o bytes there found found_b one number allowed late
 
   form_none : form.form_refused h o (length value) ≡ None
@@ -366,7 +366,7 @@ module _ (s : state.UnitsState) (v : VolumeState) (order : IsInOrder s v) (at : 
   once = once_of v.catalog.home.node v.store.disk.size v.catalog order.sound order.heads
 
   mark_none : file.recovery_units ≡ true
-  mark_none = is_true file.recovery_units (not_refused (not file.recovery_units) line.NotMarked (neither (is_marked file) (keys_refused n (Some b.key.serial) h.name (keys_asked file said)) (neither (form_refused file said) _ early_is_none).1).0)
+  mark_none = is_true file.recovery_units (not_refused (not file.recovery_units) line.NotForUnits (neither (is_marked file) (keys_refused n (Some b.key.serial) h.name (keys_asked file said)) (neither (form_refused file said) _ early_is_none).1).0)
 
   keys_none : keys_refused n (Some b.key.serial) h.name keys ≡ None
   keys_none = sym (ap (keys_refused n (Some b.key.serial) h.name) asking.asked) ∙ (neither (is_marked file) _ (neither (form_refused file said) _ early_is_none).1).1
@@ -621,7 +621,7 @@ module _ (s : state.UnitsState) (v : VolumeState) (order : IsInOrder s v) (at : 
     entered_is : d ≡ entered M.ru (spelling e) I
     entered_is = one_content d (entered M.ru (spelling e) I) (sym now ∙ enters.current ∙ ap (option_map (entered v.catalog.ru (spelling e))) imaged_now ∙ (λ i. Some (entered (sym rest.ring i) (spelling e) I)))
 
-    files_stand : (g : ℕ) (other : FileHead) → head_at H g ≡ Some other → StandsIn other I d
+    files_stand : (g : ℕ) (other : FileHead) → head_at H g ≡ Some other → AgreesOnFile other I d
     files_stand = entered_files n.name n.blocks M sound_imaged long_imaged I d e entered_is journal_imaged.0.entries journal_imaged.0.is enters.entry room_is
 
     called : head_imaged.0.name ≡ h.name

@@ -2,6 +2,7 @@
 use Rattle.std.proofs.Common.{◌≡◌, ℕ, ◌+◌, ◌*◌, ◌<◌, ◌≤◌, List, [], ◌∷◌, true, not, Option, Some, None, length, refl, sym, ◌∙◌, ap, subst, arith, inl, inr, false}
 use Rattle.std.proofs.lemmas.Nat.{mul-le}
 use Rattle.std.specs.Prelude.{option_map, is_some, nat_lt, unwrap_or}
+use Rattle.vms_model.specs.Limits.{change_limit}
 use Rattle.file_base.specs.declared.head.FileHead.{FileHead}
 use Rattle.file_base.specs.declared.head.Organization.TheVariants as kept_by
 use Rattle.transcript_model.specs.Lines as line
@@ -14,7 +15,7 @@ use Rattle.records_model.specs.Records.{Change}
 use Rattle.records_model.specs.Slots.{size_of}
 use Rattle.record_files.specs.Any.{map_of}
 use Rattle.record_operations.specs.Asking.{file_in, is_of_key, written}
-use Rattle.record_operations.specs.Causes.{Cause, Changes, JournalFull, NotMarked, cause_if, first_cause}
+use Rattle.record_operations.specs.Causes.{Cause, Changes, JournalFull, NotForUnits, cause_if, first_cause}
 use Rattle.record_operations.specs.Forms as form
 use Rattle.record_operations.specs.declared.ops.RecordOp.{RecordOp}
 use Rattle.unit_journal.specs.Entries as spelled
@@ -24,7 +25,7 @@ use Rattle.unit_laws.specs.Journal.{RecoveryUnit, find_unit, is_settled_in, unit
 use Rattle.unit_table.specs.Places.{AreInOrder}
 use Rattle.unit_table.specs.Units.{OpenUnit, has_changed, unit_at}
 use Rattle.run_model.specs.Answers as answers
-use Rattle.run_model.specs.Answers.{change_limit, found_refused, free_journal, images_full, is_marked, journal_full, journal_need, keys_refused, more_changes, more_locks}
+use Rattle.run_model.specs.Answers.{found_refused, free_journal, images_full, is_marked, journal_full, journal_need, keys_refused, more_changes, more_locks}
 use Rattle.run_model.specs.Operations.{changes_of, data_refused, file_full, first_of, form_refused, keys_asked, keys_held, refused_if, set_in}
 use Rattle.run_model.specs.World.{File, Node, changes_made, find_branch, find_file}
 use Rattle.directory_model.specs.Files.{IsCarried, IsFile, IsFoundAt, IsNamed, file_at, head_at}
@@ -45,7 +46,7 @@ use Rattle.node_units.proofs.ImagesAlike.{images_alike, left_open}
 use Rattle.node_units.proofs.Looking.{first_again, first_some}
 use Rattle.node_units.proofs.ReadLemmas.{asked_file, first_none, line_none}
 use Rattle.node_units.proofs.UnitCounts.{branch_is, counted, free_is, is_there, unit_is}
-use Rattle.recovery_units.specs.Calls.{IsNumbered, cause_line, change_said, unit_early, unit_late}
+use Rattle.recovery_units.specs.Calls.{IsNumbered, cause_line, change_said, unit_refused_after_reading, unit_refused_before_reading}
 use Rattle.recovery_units.specs.State.{IsKept, IsOfBranch, are_there}
 use Rattle.recovery_units.proofs.FormLemmas.{forms, line_if, lines_first}
 use Rattle.rms_units.specs.Calls as rms
@@ -161,15 +162,15 @@ module _ (s : state.UnitsState) (v : VolumeState) (order : IsInOrder s v) (at : 
   form_is : option_map cause_line (form.form_refused h o (length value)) ≡ form_refused file op
   form_is = forms.changes h file o bytes is_file.head number
 
-  mark_is : option_map cause_line (cause_if (not h.marks.ru) NotMarked) ≡ is_marked file
+  mark_is : option_map cause_line (cause_if (not h.marks.ru) NotForUnits) ≡ is_marked file
   mark_is = marked_alike h file is_file.head
 
-  passes : rms.change_early h o value ≡ None → (form.form_refused h o (length value) ≡ None) × (form_refused file op ≡ None) × (is_marked file ≡ None)
+  passes : rms.change_refused_before_reading h o value ≡ None → (form.form_refused h o (length value) ≡ None) × (form_refused file op ≡ None) × (is_marked file ≡ None)
   passes none =
-      let both = first_none (form.form_refused h o (length value)) (cause_if (not h.marks.ru) NotMarked) none in
-      (both.0, line_none (form.form_refused h o (length value)) (form_refused file op) form_is both.0, line_none (cause_if (not h.marks.ru) NotMarked) (is_marked file) mark_is both.1)
+      let both = first_none (form.form_refused h o (length value)) (cause_if (not h.marks.ru) NotForUnits) none in
+      (both.0, line_none (form.form_refused h o (length value)) (form_refused file op) form_is both.0, line_none (cause_if (not h.marks.ru) NotForUnits) (is_marked file) mark_is both.1)
 
-  module _ (allowed : rms.change_early h o value ≡ None) where
+  module _ (allowed : rms.change_refused_before_reading h o value ≡ None) where
     pub asks : AsksKey kept.content h file o bytes
     asks = asks_key kept.content h file is_file few o bytes one (passes allowed).0 number
 
@@ -182,10 +183,10 @@ module _ (s : state.UnitsState) (v : VolumeState) (order : IsInOrder s v) (at : 
         ∙ (λ i. keys_refused n (Some (sym own.serial i)) h.name (sym asks.asked i))
 
     -- before records are looked at
-    early_is : unit_early n b h.name file op ≡ L
+    early_is : unit_refused_before_reading n b h.name file op ≡ L
     early_is = let p = passes allowed in λ i. first_of (p.1 i) (first_of (p.2 i) L)
 
-    pub early_none : changing.locks_refuse (Some u.serial) f keys s.locks ≡ None → unit_early n b h.name file op ≡ None
+    pub early_none : changing.locks_refuse (Some u.serial) f keys s.locks ≡ None → unit_refused_before_reading n b h.name file op ≡ None
     early_none none = early_is ∙ line_none (changing.locks_refuse (Some u.serial) f keys s.locks) L locks_are none
 
     abbrev had : Option (List ℕ)
@@ -262,10 +263,10 @@ module _ (s : state.UnitsState) (v : VolumeState) (order : IsInOrder s v) (at : 
     abbrev full : Option Cause
     full = changing.file_refused h (need_of h kept.content (change_in o) (length value))
 
-    pub late_is : option_map cause_line (rms.change_late u f h (change_in o) key value s v kept.content) ≡ unit_late n b h.name file op
+    pub late_is : option_map cause_line (rms.change_refused_after_reading u f h (change_in o) key value s v kept.content) ≡ unit_refused_after_reading n b h.name file op
     late_is = go why refl
       where
-        go : (x : Option Cause) → why ≡ x → option_map cause_line (first_cause why (first_cause (changing.changes_refused 1 u) (first_cause (changing.keys_refused f keys s.locks) (first_cause full (first_cause bytes_refused full_images))))) ≡ unit_late n b h.name file op
+        go : (x : Option Cause) → why ≡ x → option_map cause_line (first_cause why (first_cause (changing.changes_refused 1 u) (first_cause (changing.keys_refused f keys s.locks) (first_cause full (first_cause bytes_refused full_images))))) ≡ unit_refused_after_reading n b h.name file op
         go (Some c) is =
             ap (λ y. option_map cause_line (first_cause y (first_cause (changing.changes_refused 1 u) (first_cause (changing.keys_refused f keys s.locks) (first_cause full (first_cause bytes_refused full_images)))))) is
             ∙ sym (first_some (found_refused n (Some b.key.serial) h.name op file) (first_of (more_changes n (changes_of file op) b) (first_of (more_locks n h.name (keys_held file op)) (first_of (file_full file op) (first_of (journal_full n h.name (changes_of file op) b) (images_full b.key.serial (changes_of file op) file)))))
@@ -273,19 +274,19 @@ module _ (s : state.UnitsState) (v : VolumeState) (order : IsInOrder s v) (at : 
         go None is =
             lines_first why _ ∙ (λ i. first_of (A i) ((lines_first (changing.changes_refused 1 u) _ ∙ (λ j. first_of (B j) ((lines_first (changing.keys_refused f keys s.locks) _ ∙ (λ k. first_of (C k) ((lines_first full _ ∙ (λ l. first_of (asks.full l) ((lines_first bytes_refused full_images ∙ (λ q. first_of (E is q) (I is q))) l))) k))) j))) i))
 
-    pub late_none : rms.change_late u f h (change_in o) key value s v kept.content ≡ None → unit_late n b h.name file op ≡ None
-    late_none none = line_none (rms.change_late u f h (change_in o) key value s v kept.content) (unit_late n b h.name file op) late_is none
+    pub late_none : rms.change_refused_after_reading u f h (change_in o) key value s v kept.content ≡ None → unit_refused_after_reading n b h.name file op ≡ None
+    late_none none = line_none (rms.change_refused_after_reading u f h (change_in o) key value s v kept.content) (unit_refused_after_reading n b h.name file op) late_is none
 
-    refused_late : (c : Cause) → rms.KeyRefused u f h (change_in o) key value c s v → first_of (unit_early n b h.name file op) (unit_late n b h.name file op) ≡ Some (cause_line c)
-    refused_late c (inl locks) = first_some (unit_early n b h.name file op) (unit_late n b h.name file op) (cause_line c) (early_is ∙ sym locks_are ∙ ap (option_map cause_line) locks)
+    refused_late : (c : Cause) → rms.KeyRefused u f h (change_in o) key value c s v → first_of (unit_refused_before_reading n b h.name file op) (unit_refused_after_reading n b h.name file op) ≡ Some (cause_line c)
+    refused_late c (inl locks) = first_some (unit_refused_before_reading n b h.name file op) (unit_refused_after_reading n b h.name file op) (cause_line c) (early_is ∙ sym locks_are ∙ ap (option_map cause_line) locks)
     refused_late c (inr late) =
-        (λ i. first_of (early_none late.0 i) (unit_late n b h.name file op)) ∙ sym late_is ∙ ap (option_map cause_line) (late.1 kept.content kept.told is_file.head.form is_file.laid)
+        (λ i. first_of (early_none late.0 i) (unit_refused_after_reading n b h.name file op)) ∙ sym late_is ∙ ap (option_map cause_line) (late.1 kept.content kept.told is_file.head.form is_file.laid)
 
-  pub key_refused : (c : Cause) → rms.ChangeRefused u h o value c s v → first_of (unit_early n b h.name file op) (unit_late n b h.name file op) ≡ Some (cause_line c)
+  pub key_refused : (c : Cause) → rms.ChangeRefused u h o value c s v → first_of (unit_refused_before_reading n b h.name file op) (unit_refused_after_reading n b h.name file op) ≡ Some (cause_line c)
   key_refused c (inl early) =
       let k : first_of (form_refused file op) (is_marked file) ≡ Some (cause_line c) =
-      (λ i. first_of (sym form_is i) (sym mark_is i)) ∙ sym (lines_first (form.form_refused h o (length value)) (cause_if (not h.marks.ru) NotMarked)) ∙ ap (option_map cause_line) early in
+      (λ i. first_of (sym form_is i) (sym mark_is i)) ∙ sym (lines_first (form.form_refused h o (length value)) (cause_if (not h.marks.ru) NotForUnits)) ∙ ap (option_map cause_line) early in
       let rest = keys_refused n (Some b.key.serial) h.name (keys_asked file op) in
-      first_some (unit_early n b h.name file op) (unit_late n b h.name file op) (cause_line c)
+      first_some (unit_refused_before_reading n b h.name file op) (unit_refused_after_reading n b h.name file op) (cause_line c)
       (first_again (form_refused file op) (is_marked file) rest ∙ first_some (first_of (form_refused file op) (is_marked file)) rest (cause_line c) k)
   key_refused c (inr late) = refused_late late.allowed c (late.key one)

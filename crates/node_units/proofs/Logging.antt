@@ -31,7 +31,7 @@ use Rattle.volume.specs.Catalogs.{IsSound, TellsCatalog, TellsEntry}
 use Rattle.volume.specs.Limits.{data_area}
 use Rattle.volume.specs.State.{VolumeState}
 use Rattle.volume_format.specs.Home.{HasHome, HasRu, sizes_of}
-use Rattle.directory_model.specs.Files.{StandsIn, head_at}
+use Rattle.directory_model.specs.Files.{AgreesOnFile, head_at}
 use Rattle.directory_model.proofs.Apart.{writes_apart}
 use Rattle.file_images.specs.Files.{SameRing}
 use Rattle.unit_votes.specs.Logging.{SetsRecord, nothing, written}
@@ -187,6 +187,6 @@ module _ (ss ts : Slots) (a b : List (List ℕ)) (re : IsRelogged ss ts a b) (k 
   pub ring_relogged : SameRing k.ru a b
   ring_relogged = record { size = re.size; whole = re.whole; blocks = λ i from to. re.others i (inr (omega (arith, before, from))) }
 
-  pub files_relogged : (node : List ℕ) (size : ℕ) → IsSound node size k → length k.heads ≡ 64 → (f : ℕ) (h : FileHead) → head_at k.heads f ≡ Some h → StandsIn h a b
+  pub files_relogged : (node : List ℕ) (size : ℕ) → IsSound node size k → length k.heads ≡ 64 → (f : ℕ) (h : FileHead) → head_at k.heads f ≡ Some h → AgreesOnFile h a b
   files_relogged node size sound long = writes_apart.before (data_area (sizes_of k.home)) k.heads a b (fit node size k sound long) re.size re.whole
       (λ i from. sym (re.others i (inr (let start = sound.ru_start in let blocks = sound.ru_blocks in omega (arith, before, from, start, blocks)))))

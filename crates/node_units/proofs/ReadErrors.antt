@@ -2,6 +2,7 @@
 use Rattle.std.proofs.Common.{◌≡◌, ℕ, List, [], ◌∷◌, not, Option, Some, None, length, nat_lt, refl, sym, ◌∙◌, ap, subst, inl, inr}
 use Rattle.std.specs.Prelude.{option_map}
 use Rattle.block_disk.specs.Disk.{DiskState}
+use Rattle.vms_model.specs.Limits.{change_limit}
 use Rattle.careful_write.specs.declared.down.Down.{Down}
 use Rattle.file_base.specs.declared.head.FileHead.{FileHead}
 use Rattle.transcript_model.specs.Lines as line
@@ -12,19 +13,19 @@ use Rattle.volume.specs.State.{SameVolume, VolumeState}
 use Rattle.log_laws.specs.Slots.{Slots}
 use Rattle.unit_table.specs.Units.{OpenUnit}
 use Rattle.record_operations.specs.Asking.{read_file_in}
-use Rattle.record_operations.specs.Causes.{Cause, IfRefused, NotMarked, cause_if}
+use Rattle.record_operations.specs.Causes.{Cause, IfRefused, NotForUnits, cause_if}
 use Rattle.record_operations.specs.Forms as form
 use Rattle.record_operations.specs.declared.errors.RecErr.{RecErr}
 use Rattle.record_operations.specs.declared.ops.ReadOp.{ReadOp}
 use Rattle.record_operations.specs.declared.ops.ReadOp.TheVariants as read
 use Rattle.record_files.specs.Any.{map_of}
-use Rattle.run_model.specs.Answers.{change_limit, found_refused, images_full, is_marked, journal_full, keys_refused, more_changes, more_locks}
+use Rattle.run_model.specs.Answers.{found_refused, images_full, is_marked, journal_full, keys_refused, more_changes, more_locks}
 use Rattle.run_model.specs.Operations.{changes_of, file_full, first_of, form_refused, keys_asked, keys_held, refused_if}
 use Rattle.run_model.specs.World.{Act, File, Node, find_file, next_id}
 use Rattle.world_laws.proofs.FindLemmas.{found_serial}
 use Rattle.directory_model.specs.Files.{IsFile, head_at}
 use Rattle.recovery_units.specs.Calls as calls
-use Rattle.recovery_units.specs.Calls.{IsAsked, IsBroken, IsNotDone, alone_early, alone_late, cause_line, read_said, unit_act, unit_early, unit_late}
+use Rattle.recovery_units.specs.Calls.{IsAsked, IsBroken, IsNotDone, alone_refused_after_reading, alone_refused_before_reading, cause_line, read_said, unit_act, unit_refused_after_reading, unit_refused_before_reading}
 use Rattle.recovery_units.specs.State.{IsKept}
 use Rattle.recovery_units.proofs.FormLemmas.{forms, lines_first}
 use Rattle.volume_model.specs.Volumes.{HasDisk}
@@ -72,7 +73,7 @@ module _ (u : OpenUnit) (op : ReadOp) (e : RecErr) (s : state.UnitsState) (v w :
   form_is : option_map cause_line (form.read_form_refused h op) ≡ form_refused file (read_said op)
   form_is = forms.reads h file op is_file.head
 
-  mark_is : option_map cause_line (cause_if (not h.marks.ru) NotMarked) ≡ is_marked file
+  mark_is : option_map cause_line (cause_if (not h.marks.ru) NotForUnits) ≡ is_marked file
   mark_is = marked_alike h file is_file.head
 
   abbrev E3 : Option Line
@@ -85,16 +86,16 @@ module _ (u : OpenUnit) (op : ReadOp) (e : RecErr) (s : state.UnitsState) (v w :
   rest = first_of (more_changes n (changes_of file (read_said op)) b) (first_of (more_locks n h.name (keys_held file (read_said op))) (first_of (file_full file (read_said op)) (first_of (journal_full n h.name (changes_of file (read_said op)) b) (images_full b.key.serial (changes_of file (read_said op)) file))))
 
   -- before the keys are looked at nothing refuses it
-  passes : rms.read_early h op ≡ None → (form_refused file (read_said op) ≡ None) × (is_marked file ≡ None)
+  passes : rms.read_refused_before_reading h op ≡ None → (form_refused file (read_said op) ≡ None) × (is_marked file ≡ None)
   passes none =
-      let both = first_none (form.read_form_refused h op) (cause_if (not h.marks.ru) NotMarked) none in
-      (line_none (form.read_form_refused h op) (form_refused file (read_said op)) form_is both.0, line_none (cause_if (not h.marks.ru) NotMarked) (is_marked file) mark_is both.1)
+      let both = first_none (form.read_form_refused h op) (cause_if (not h.marks.ru) NotForUnits) none in
+      (line_none (form.read_form_refused h op) (form_refused file (read_said op)) form_is both.0, line_none (cause_if (not h.marks.ru) NotForUnits) (is_marked file) mark_is both.1)
 
-  refused : (c : Cause) → rms.ReadRefused u h op c s v → first_of (unit_early n b h.name file (read_said op)) (unit_late n b h.name file (read_said op)) ≡ Some (cause_line c)
+  refused : (c : Cause) → rms.ReadRefused u h op c s v → first_of (unit_refused_before_reading n b h.name file (read_said op)) (unit_refused_after_reading n b h.name file (read_said op)) ≡ Some (cause_line c)
   refused c (inl early) =
       let k : first_of (form_refused file (read_said op)) (is_marked file) ≡ Some (cause_line c) =
-      (λ i. first_of (sym form_is i) (sym mark_is i)) ∙ sym (lines_first (form.read_form_refused h op) (cause_if (not h.marks.ru) NotMarked)) ∙ ap (option_map cause_line) early in
-      first_some (unit_early n b h.name file (read_said op)) (first_of F rest) (cause_line c)
+      (λ i. first_of (sym form_is i) (sym mark_is i)) ∙ sym (lines_first (form.read_form_refused h op) (cause_if (not h.marks.ru) NotForUnits)) ∙ ap (option_map cause_line) early in
+      first_some (unit_refused_before_reading n b h.name file (read_said op)) (first_of F rest) (cause_line c)
       (first_again (form_refused file (read_said op)) (is_marked file) E3 ∙ first_some (first_of (form_refused file (read_said op)) (is_marked file)) E3 (cause_line c) k)
   refused c (inr (inl none)) =
       let p = passes none.0 in
@@ -112,7 +113,7 @@ module _ (u : OpenUnit) (op : ReadOp) (e : RecErr) (s : state.UnitsState) (v w :
       ap (more_locks n h.name) reads.held ∙ sym (more_alike v.catalog.heads once (read_file_in op) h there n s.locks kept.locks (key ∷ [])) ∙ ap (option_map cause_line) many.1.3 in
       λ i. first_of (first_of (p.0 i) (first_of (p.1 i) (reads.asked i))) (first_of (reads.found i) (first_of (few i) (first_of (full i) (first_of (file_full file (read_said op)) (first_of (journal_full n h.name (changes_of file (read_said op)) b) (images_full b.key.serial (changes_of file (read_said op)) file))))))
 
-  broken : (down : Down) → MayRead u h op s × FellIn down v w → IsBroken (unit_early n b h.name file (read_said op)) (unit_late n b h.name file (read_said op)) (unit_act b h.name file (read_said op)) n w.store.disk
+  broken : (down : Down) → MayRead u h op s × FellIn down v w → IsBroken (unit_refused_before_reading n b h.name file (read_said op)) (unit_refused_after_reading n b h.name file (read_said op)) (unit_act b h.name file (read_said op)) n w.store.disk
   broken down fell =
       let p = passes fell.0.0 in
       let locks = ap (keys_refused n (Some b.key.serial) h.name) (keys_are file op)
@@ -121,15 +122,15 @@ module _ (u : OpenUnit) (op : ReadOp) (e : RecErr) (s : state.UnitsState) (v w :
       record { begun = (λ i. first_of (p.0 i) (first_of (p.1 i) (locks i))); disk = inl (fell_kept (seen s log) v w n down kept order.sound order.holds order.idle fell.1) }
 
   pub read_not_done : IfRefused e (λ c. rms.ReadRefused u h op c s v × SameVolume v w) (λ down. MayRead u h op s × FellIn down v w) →
-      IsNotDone e (unit_early n b h.name file (read_said op)) (unit_late n b h.name file (read_said op)) (unit_act b h.name file (read_said op)) n w.store.disk
+      IsNotDone e (unit_refused_before_reading n b h.name file (read_said op)) (unit_refused_after_reading n b h.name file (read_said op)) (unit_act b h.name file (read_said op)) n w.store.disk
   read_not_done r =
-      not_done e (unit_early n b h.name file (read_said op)) (unit_late n b h.name file (read_said op)) (unit_act b h.name file (read_said op)) n w.store.disk (λ c. rms.ReadRefused u h op c s v × SameVolume v w) (λ down. MayRead u h op s × FellIn down v w) r
+      not_done e (unit_refused_before_reading n b h.name file (read_said op)) (unit_refused_after_reading n b h.name file (read_said op)) (unit_act b h.name file (read_said op)) n w.store.disk (λ c. rms.ReadRefused u h op c s v × SameVolume v w) (λ down. MayRead u h op s × FellIn down v w) r
       (λ c k. refused c k.0) broken
 
 pub reads_err : (u : OpenUnit) (op : ReadOp) (e : RecErr) (s : state.UnitsState) (v w : VolumeState) (log : Slots) → IsInOrder s v →
     ((h : FileHead) → head_at v.catalog.heads (read_file_in op) ≡ Some h → IfRefused e (λ c. rms.ReadRefused u h op c s v × SameVolume v w) (λ down. MayRead u h op s × FellIn down v w)) → calls.ReadsErr u.serial op e (seen s log) v w
 reads_err u op e s v w log order r n name file b asked =
-    subst (λ (x : List ℕ). IsNotDone e (unit_early n b x file (read_said op)) (unit_late n b x file (read_said op)) (unit_act b x file (read_said op)) n w.store.disk) asked.named.called
+    subst (λ (x : List ℕ). IsNotDone e (unit_refused_before_reading n b x file (read_said op)) (unit_refused_after_reading n b x file (read_said op)) (unit_act b x file (read_said op)) n w.store.disk) asked.named.called
     (read_not_done u op e s v w log order n file b asked.head asked.kept asked.named.there (ap (λ x. find_file x n.durable.directory) asked.named.called ∙ asked.found) (found_serial u.serial n.volatile.branches b asked.branch)
     (r asked.head asked.named.there))
 
@@ -140,7 +141,7 @@ LookBy early late broken o = elim o [ Some l ↦ first_of early late ≡ Some l 
 pub looks_err : (op : ReadOp) (e : RecErr) (s : state.UnitsState) (v w : VolumeState) (log : Slots) → IsInOrder s v →
     ((h : FileHead) → head_at v.catalog.heads (read_file_in op) ≡ Some h → IfRefused e (λ c. rms.LookRefused h op c s v × SameVolume v w) (λ down. MayLook h op s × FellIn down v w)) → calls.LooksErr op e (seen s log) v w
 looks_err op e s v w log order r n name file asked =
-    subst (λ (x : List ℕ). LookBy (alone_early n x file (read_said op)) (alone_late n x file (read_said op)) ((alone_early n x file (read_said op) ≡ None) × HasDisk (fallen None n) w.store.disk) (calls.refusal_of e)) asked.named.called here
+    subst (λ (x : List ℕ). LookBy (alone_refused_before_reading n x file (read_said op)) (alone_refused_after_reading n x file (read_said op)) ((alone_refused_before_reading n x file (read_said op) ≡ None) × HasDisk (fallen None n) w.store.disk) (calls.refusal_of e)) asked.named.called here
   where
     h : FileHead
     h = asked.head
@@ -152,7 +153,7 @@ looks_err op e s v w log order r n name file asked =
     once = once_of v.catalog.home.node v.store.disk.size v.catalog order.sound order.heads
 
     early : Option Line
-    early = alone_early n h.name file (read_said op)
+    early = alone_refused_before_reading n h.name file (read_said op)
 
     E3 : Option Line
     E3 = keys_refused n None h.name (keys_asked file (read_said op))

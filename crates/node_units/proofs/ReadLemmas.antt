@@ -2,6 +2,7 @@
 use Rattle.std.proofs.Common.{◌≡◌, ℕ, ◌+◌, ◌≤◌, List, [], ◌∷◌, Bool, false, not, Option, Some, None, length, nat_lt, refl, sym, ◌∙◌, ap, subst, arith}
 use Rattle.std.proofs.lemmas.Bool.Decides.{nat_tests}
 use Rattle.std.specs.Prelude.{option_map}
+use Rattle.vms_model.specs.Limits.{change_limit}
 use Rattle.file_base.specs.declared.head.FileHead.{FileHead}
 use Rattle.file_base.specs.declared.head.Organization.{Organization}
 use Rattle.record_files.specs.Any.{reads_by}
@@ -16,11 +17,11 @@ use Rattle.unit_table.specs.Units.{OpenUnit}
 use Rattle.log_laws.specs.Slots.{Slots}
 use Rattle.record_locks.specs.Locks as table
 use Rattle.record_operations.specs.Asking.{read_file_in}
-use Rattle.record_operations.specs.Causes.{Cause, cause_if, first_cause, NotMarked}
+use Rattle.record_operations.specs.Causes.{Cause, cause_if, first_cause, NotForUnits}
 use Rattle.record_operations.specs.Forms as form
 use Rattle.record_operations.specs.declared.ops.ReadOp.{ReadOp}
 use Rattle.record_operations.specs.declared.ops.ReadOp.TheVariants as read
-use Rattle.run_model.specs.Answers.{change_limit, free_journal, is_marked, journal_full, more_changes, more_locks, needs_unit, images_full}
+use Rattle.run_model.specs.Answers.{free_journal, is_marked, journal_full, more_changes, more_locks, needs_unit, images_full}
 use Rattle.run_model.specs.Operations.{changes_of, file_full, first_of, form_refused, free_buckets, keys_held, need_of, operation_answer, refused_if}
 use Rattle.run_model.specs.World.{Act, AreUnitsOf, File, Holds, Node, acted, changes_made, find_file, next_id}
 use Rattle.world_laws.proofs.FindLemmas.{found_serial}
@@ -28,7 +29,7 @@ use Rattle.world_laws.proofs.FewLemmas.{few_in}
 use Rattle.directory_model.specs.Files.{AreFiles, IsFile, head_at}
 use Rattle.directory_model.proofs.Places.{file_there}
 use Rattle.recovery_units.specs.Calls as calls
-use Rattle.recovery_units.specs.Calls.{IsAsked, IsAskedAlone, IsDone, IsSeen, alone_early, alone_late, cause_line, read_said, record_line, unit_act, unit_early, unit_late}
+use Rattle.recovery_units.specs.Calls.{IsAsked, IsAskedAlone, IsDone, IsSeen, alone_refused_after_reading, alone_refused_before_reading, cause_line, read_said, record_line, unit_act, unit_refused_after_reading, unit_refused_before_reading}
 use Rattle.recovery_units.specs.State.{IsKept, UnitsState}
 use Rattle.recovery_units.proofs.FormLemmas.{forms}
 use Rattle.recovery_units.proofs.ReadLemmas.{kept_read}
@@ -116,17 +117,17 @@ module _ (place : ℕ) (u : OpenUnit) (op : ReadOp) (key : Key) (bytes : List �
   reads = subst (λ (x : Id). ReadsIn n (Some x) h.name file op key bytes) own
       (reads_in v.catalog.heads once (read_file_in op) h there n s.locks kept.locks kept.content file is_file (Some u.serial) op key bytes refl (r.finds kept.content kept.told is_file.head.form is_file.laid))
 
-  early : unit_early n b h.name file (read_said op) ≡ None
+  early : unit_refused_before_reading n b h.name file (read_said op) ≡ None
   early =
-      let both = first_none (form.read_form_refused h op) (cause_if (not h.marks.ru) NotMarked) r.early in
+      let both = first_none (form.read_form_refused h op) (cause_if (not h.marks.ru) NotForUnits) r.early in
       let one = line_none (form.read_form_refused h op) (form_refused file (read_said op)) (forms.reads h file op is_file.head) both.0 in
-      let two = line_none (cause_if (not h.marks.ru) NotMarked) (is_marked file) (marked_alike h file is_file.head) both.1 in
+      let two = line_none (cause_if (not h.marks.ru) NotForUnits) (is_marked file) (marked_alike h file is_file.head) both.1 in
       λ i. first_of (one i) (first_of (two i) (reads.asked i))
 
   few : more_locks n h.name (key ∷ []) ≡ None
   few = line_none _ (more_locks n h.name (key ∷ [])) (more_alike v.catalog.heads once (read_file_in op) h there n s.locks kept.locks (key ∷ [])) r.few
 
-  late : unit_late n b h.name file (read_said op) ≡ None
+  late : unit_refused_after_reading n b h.name file (read_said op) ≡ None
   late =
       let none = changes_none file op in
       let two = ap (λ cs. more_changes n cs b) none ∙ changes_few n b (few_in n.durable.units.entries kept.has.order.few).changes in
@@ -145,13 +146,13 @@ module _ (place : ℕ) (u : OpenUnit) (op : ReadOp) (key : Key) (bytes : List �
       (subst (λ (x : UnitsState). IsKept x v (acted (unit_act b h.name file (read_said op)) n)) units
       (subst (λ (a : Act). IsKept (record (seen s log) { locks = table.with_locks b.key.serial (read_file_in op) (key ∷ []) s.locks }) v (acted a n)) act after))
 
-  pub read_done : IsDone (unit_early n b h.name file (read_said op)) (unit_late n b h.name file (read_said op)) (unit_act b h.name file (read_said op)) (operation_answer file (read_said op)) (record_line op key bytes) n (seen t log) w
+  pub read_done : IsDone (unit_refused_before_reading n b h.name file (read_said op)) (unit_refused_after_reading n b h.name file (read_said op)) (unit_act b h.name file (read_said op)) (operation_answer file (read_said op)) (record_line op key bytes) n (seen t log) w
   read_done = record { allowed = (λ i. first_of (early i) (late i)); kept = held; answers = reads.answers }
 
 pub reads_ok : (place : ℕ) (u : OpenUnit) (op : ReadOp) (key : Key) (bytes : List ℕ) (s : state.UnitsState) (v : VolumeState) (t : state.UnitsState) (w : VolumeState) (log : Slots) → IsInOrder s v →
     ((h : FileHead) → head_at v.catalog.heads (read_file_in op) ≡ Some h → rms.ReadsOk u h op key bytes s v t w) → calls.ReadsOk u.serial op key bytes (seen s log) v (seen t log) w
 reads_ok place u op key bytes s v t w log order r n name file b asked =
-    subst (λ (x : List ℕ). IsDone (unit_early n b x file (read_said op)) (unit_late n b x file (read_said op)) (unit_act b x file (read_said op)) (operation_answer file (read_said op)) (record_line op key bytes) n (seen t log) w) asked.named.called
+    subst (λ (x : List ℕ). IsDone (unit_refused_before_reading n b x file (read_said op)) (unit_refused_after_reading n b x file (read_said op)) (unit_act b x file (read_said op)) (operation_answer file (read_said op)) (record_line op key bytes) n (seen t log) w) asked.named.called
     (read_done place u op key bytes s v t w log order n file b asked.head (r asked.head asked.named.there) asked.kept asked.named.there (ap (λ x. find_file x n.durable.directory) asked.named.called ∙ asked.found)
     (found_serial u.serial n.volatile.branches b asked.branch))
 
@@ -164,7 +165,7 @@ reads_few (read.Next f after) v w few = tt
 pub looks_ok : (op : ReadOp) (key : Key) (bytes : List ℕ) (s : state.UnitsState) (v w : VolumeState) (log : Slots) → IsInOrder s v → ((h : FileHead) → head_at v.catalog.heads (read_file_in op) ≡ Some h → rms.LooksOk h op key bytes s v w) →
     calls.LooksOk op key bytes (seen s log) v
 looks_ok op key bytes s v w log order r n name file asked =
-    subst (λ (x : List ℕ). IsSeen (alone_early n x file (read_said op)) (alone_late n x file (read_said op)) (operation_answer file (read_said op)) (record_line op key bytes)) asked.named.called here
+    subst (λ (x : List ℕ). IsSeen (alone_refused_before_reading n x file (read_said op)) (alone_refused_after_reading n x file (read_said op)) (operation_answer file (read_said op)) (record_line op key bytes)) asked.named.called here
   where
     h : FileHead
     h = asked.head
@@ -179,7 +180,7 @@ looks_ok op key bytes s v w log order r n name file asked =
     reads = reads_in v.catalog.heads (once_of v.catalog.home.node v.store.disk.size v.catalog order.sound order.heads) (read_file_in op) h asked.named.there n s.locks asked.kept.locks asked.kept.content file is_file None op key bytes refl
         (is.finds asked.kept.content asked.kept.told is_file.head.form is_file.laid)
 
-    here : IsSeen (alone_early n h.name file (read_said op)) (alone_late n h.name file (read_said op)) (operation_answer file (read_said op)) (record_line op key bytes)
+    here : IsSeen (alone_refused_before_reading n h.name file (read_said op)) (alone_refused_after_reading n h.name file (read_said op)) (operation_answer file (read_said op)) (record_line op key bytes)
     here =
         let one = line_none (form.read_form_refused h op) (form_refused file (read_said op)) (forms.reads h file op is_file.head) is.early in
         let few = ap (λ cs. refused_if (nat_lt change_limit (length cs)) (line.QuotaExceeded line.Changes change_limit)) (changes_none file op) in

@@ -1,6 +1,7 @@
 -- Refusals by causes, and as the world says them.
 use Rattle.std.proofs.Common.{◌≡◌, ℕ, ◌+◌, List, [], ◌∷◌, Bool, true, false, not, Option, Some, None, length, nat_lt, refl, sym, ◌∙◌, ap, if◌then◌else◌}
 use Rattle.std.specs.Prelude.{option_map}
+use Rattle.vms_model.specs.Limits.{lock_limit}
 use Rattle.file_base.specs.declared.head.FileHead.{FileHead}
 use Rattle.transcript_model.specs.Lines as line
 use Rattle.transcript_model.specs.Lines.{Line}
@@ -8,8 +9,8 @@ use Rattle.vms_model.specs.Ids.{Id}
 use Rattle.vms_model.specs.Keys.{Key}
 use Rattle.records_model.specs.History.{same_id}
 use Rattle.record_locks.specs.Locks as table
-use Rattle.record_operations.specs.Causes.{Locked, Locks, NotMarked, cause_if}
-use Rattle.run_model.specs.Answers.{held_against, is_marked, keys_refused, lock_limit, more_locks}
+use Rattle.record_operations.specs.Causes.{Locked, Locks, NotForUnits, cause_if}
+use Rattle.run_model.specs.Answers.{held_against, is_marked, keys_refused, more_locks}
 use Rattle.run_model.specs.Operations.{first_of, refused_if}
 use Rattle.run_model.specs.Locks.{holder}
 use Rattle.run_model.specs.World.{File, Node}
@@ -30,8 +31,8 @@ held_alike (Some serial) (Some by) = go (same_id serial by)
     go true = refl
     go false = refl
 
-pub marked_alike : (h : FileHead) (file : File) → IsHeadOf h file → option_map cause_line (cause_if (not h.marks.ru) NotMarked) ≡ is_marked file
-marked_alike h file is = line_if (not h.marks.ru) NotMarked ∙ ap (λ (b : Bool). refused_if (not b) line.NotMarked) (sym is.units)
+pub marked_alike : (h : FileHead) (file : File) → IsHeadOf h file → option_map cause_line (cause_if (not h.marks.ru) NotForUnits) ≡ is_marked file
+marked_alike h file is = line_if (not h.marks.ru) NotForUnits ∙ ap (λ (b : Bool). refused_if (not b) line.NotForUnits) (sym is.units)
 
 module _ (heads : List (Option FileHead)) (once : AreOnce heads) (f : ℕ) (h : FileHead) (there : head_at heads f ≡ Some h) (n : Node) (ls : List table.Lock) (are : AreLocks heads ls n.volatile.locks) where
   pub held_by : (asking : Option Id) (key : Key) → option_map cause_line (rms.held_against asking (table.holder ls f key)) ≡ held_against asking (holder n.volatile.locks h.name key)

@@ -15,7 +15,7 @@ use Rattle.volume_files.specs.Staging.{SetsKey, StagesFile, is_of_file}
 use Rattle.records_model.specs.Records.{Change}
 use Rattle.run_model.specs.Locks.{is_locked}
 use Rattle.run_model.specs.World.{Node}
-use Rattle.directory_model.specs.Files.{StandsCarried, head_at}
+use Rattle.directory_model.specs.Files.{AgreesOnCarried, head_at}
 use Rattle.directory_model.specs.Laws.{IsChanged, SameBut}
 use Rattle.volume_model.specs.Homes.{HasHome}
 use Rattle.volume_model.specs.Laws.{KeepsNames}
@@ -36,7 +36,7 @@ pub record KeepsRest (n : Node) (f : ℕ) (new : FileHead) (a b : List (List ℕ
   pub long : length mid.catalog.heads ≡ 64
   pub names : KeepsNames v.catalog.heads mid.catalog.heads
   pub others : SameBut f v.catalog.heads a b
-  pub carried : (h : FileHead) → head_at v.catalog.heads f ≡ Some h → StandsCarried h a b
+  pub carried : (h : FileHead) → head_at v.catalog.heads f ≡ Some h → AgreesOnCarried h a b
   pub whole : EachWhole b
   pub tells : TellsCatalog mid.catalog b
   pub sound : IsSound n.name n.blocks mid.catalog

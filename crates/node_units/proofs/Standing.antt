@@ -12,7 +12,7 @@ use Rattle.vms_model.specs.Keys.{Key}
 use Rattle.vms_model.specs.Transactions.{Outcome}
 use Rattle.records_model.specs.History.{same_id}
 use Rattle.journal_model.specs.Entries.{Entry, IsEntry, spelling}
-use Rattle.ru_journal.specs.Told.{Told, UnitTold, after, find_unit, first_told, is_out_of_order, more_told, nothing_told, unit_refuses, with_unit}
+use Rattle.ru_journal.specs.Told.{JournalScan, UnitTold, after, find_unit, first_told, is_out_of_order, more_told, nothing_told, unit_refuses, with_unit}
 use Rattle.unit_entries.specs.Reading as reading
 use Rattle.unit_entries.specs.Reading.{placed}
 use Rattle.unit_laws.specs.Journal as journal
@@ -37,7 +37,7 @@ abbrev Closes : UnitTold → JournalEntry → Type 0
 Closes u e = u.prepared ≡ true → same_id u.serial (serial_in e) ≡ true → is_settling (serial_in e) e ≡ true
 
 -- What entries told lets these follow: none is of a branch that was settled, those of a unit are of its transaction, and those of a prepared one settle it.
-record Stands (t : Told) (es : List JournalEntry) : Type 0 where
+record Stands (t : JournalScan) (es : List JournalEntry) : Type 0 where
   off : AllByRecursion (λ (e : JournalEntry). list_any (same_id (serial_in e)) t.settled ≡ false) es
   own : AllByRecursion (λ (u : UnitTold). AllByRecursion (Own u) es) t.units
   closes : AllByRecursion (λ (u : UnitTold). AllByRecursion (Closes u) es) t.units
@@ -74,7 +74,7 @@ at_found P by (w ∷ us) u is all = go (same_id by w.serial) refl is (at_found P
     go true same is rest = (subst P (one is) all.0, subst (λ (x : UnitTold). same_id by x.serial ≡ true) (one is) same)
     go false other is rest = rest is all.1
 
-changed_none : (f : Id → Option ℕ) (t : Told) (us : List RecoveryUnit) (tid by : Id) (file : List ℕ) (key : Key) (before : Option (List ℕ)) (g : ℕ) → Tells f t us → AreFew (with_one_change tid by us) → find_unit by t.units ≡ None →
+changed_none : (f : Id → Option ℕ) (t : JournalScan) (us : List RecoveryUnit) (tid by : Id) (file : List ℕ) (key : Key) (before : Option (List ℕ)) (g : ℕ) → Tells f t us → AreFew (with_one_change tid by us) → find_unit by t.units ≡ None →
     unit_refuses (entry_for g (ChangeEntry tid by file key before)) (length t.units) None ≡ false
 changed_none f t us tid by file key before g is few none =
     let w = first_told 0 (entry_for g (ChangeEntry tid by file key before)) in
@@ -84,7 +84,7 @@ changed_none f t us tid by file key before g is few none =
     let most = few.units in
     below (length t.units) (omega (arith, long, more, most))
 
-changed_some : (f : Id → Option ℕ) (t : Told) (us : List RecoveryUnit) (tid by : Id) (file : List ℕ) (key : Key) (before : Option (List ℕ)) (g : ℕ) (u : UnitTold) → Tells f t us → AreFew (with_one_change tid by us) → find_unit by t.units ≡ Some u → tid ≡ u.tid → u.prepared ≡ false →
+changed_some : (f : Id → Option ℕ) (t : JournalScan) (us : List RecoveryUnit) (tid by : Id) (file : List ℕ) (key : Key) (before : Option (List ℕ)) (g : ℕ) (u : UnitTold) → Tells f t us → AreFew (with_one_change tid by us) → find_unit by t.units ≡ Some u → tid ≡ u.tid → u.prepared ≡ false →
     unit_refuses (entry_for g (ChangeEntry tid by file key before)) (length t.units) (Some u) ≡ false
 changed_some f t us tid by file key before g u is few at same active =
     let here = ap (journal.find_unit by) (sym is.units) ∙ shown_found by t.units u at in
@@ -93,12 +93,12 @@ changed_some f t us tid by file key before g u is few at same active =
     let most : u.changes + 1 ≤ 1024 = few.changes by (with_more 1 (unit_shown u)) found in
     or_from _ _ (or_from _ _ (ap not (subst (λ (x : Id). same_id tid x ≡ true) same (id_itself tid))) active) (fewer u.changes most)
 
-settled_some : (t : Told) (tid by : Id) (outcome : Outcome) (moment : ℕ) (g : ℕ) (o : Option UnitTold) → ((u : UnitTold) → o ≡ Some u → tid ≡ u.tid) → unit_refuses (entry_for g (SettledEntry tid by outcome moment)) (length t.units) o ≡ false
+settled_some : (t : JournalScan) (tid by : Id) (outcome : Outcome) (moment : ℕ) (g : ℕ) (o : Option UnitTold) → ((u : UnitTold) → o ≡ Some u → tid ≡ u.tid) → unit_refuses (entry_for g (SettledEntry tid by outcome moment)) (length t.units) o ≡ false
 settled_some t tid by outcome moment g None same = refl
 settled_some t tid by outcome moment g (Some u) same = or_from _ _ (or_from _ _ (ap not (subst (λ (x : Id). same_id tid x ≡ true) (same u refl) (id_itself tid))) refl) refl
 
 -- it may stand where it does
-may_stand : (f : Id → Option ℕ) (t : Told) (us : List RecoveryUnit) (e : JournalEntry) (es : List JournalEntry) (g : ℕ) → Tells f t us → AreFew (units_after e us) → Stands t (e ∷ es) → is_out_of_order (entry_for g e) t ≡ false
+may_stand : (f : Id → Option ℕ) (t : JournalScan) (us : List RecoveryUnit) (e : JournalEntry) (es : List JournalEntry) (g : ℕ) → Tells f t us → AreFew (units_after e us) → Stands t (e ∷ es) → is_out_of_order (entry_for g e) t ≡ false
 may_stand f t us (ChangeEntry tid by file key before) es g is few stands = or_from _ _ stands.off.0 (go (find_unit by t.units) refl)
   where
     go : (o : Option UnitTold) → find_unit by t.units ≡ o → unit_refuses (entry_for g (ChangeEntry tid by file key before)) (length t.units) o ≡ false
@@ -128,7 +128,7 @@ own_later tid by e [] serial same all = tt
 own_later tid by e (o ∷ es) serial same all =
     (λ own. all.0.transaction (subst (λ (x : Id). same_id (serial_in o) x ≡ true) (sym (id_is by (serial_in o) own) ∙ sym serial) (id_itself (serial_in o))) ∙ same, own_later tid by e es serial same all.1)
 
-off_later : (t : Told) (tid by : Id) (outcome : Outcome) (moment : ℕ) (es : List JournalEntry) → AllByRecursion (MayFollow (SettledEntry tid by outcome moment)) es → AllByRecursion (λ (e : JournalEntry). list_any (same_id (serial_in e)) t.settled ≡ false) es →
+off_later : (t : JournalScan) (tid by : Id) (outcome : Outcome) (moment : ℕ) (es : List JournalEntry) → AllByRecursion (MayFollow (SettledEntry tid by outcome moment)) es → AllByRecursion (λ (e : JournalEntry). list_any (same_id (serial_in e)) t.settled ≡ false) es →
     AllByRecursion (λ (e : JournalEntry). list_any (same_id (serial_in e)) (t.settled ++ by ∷ []) ≡ false) es
 off_later t tid by outcome moment [] all off = tt
 off_later t tid by outcome moment (o ∷ es) all off =
@@ -144,7 +144,7 @@ closes_none : (u : UnitTold) (es : List JournalEntry) → u.prepared ≡ false �
 closes_none u [] active = tt
 closes_none u (o ∷ es) active = (λ prepared mine. absurd (both_ways _ active prepared), closes_none u es active)
 
-stands_next : (t : Told) (p g : ℕ) (e : JournalEntry) (es : List JournalEntry) → AllByRecursion (MayFollow e) es → Stands t (e ∷ es) → Stands (after p (entry_for g e) t) es
+stands_next : (t : JournalScan) (p g : ℕ) (e : JournalEntry) (es : List JournalEntry) → AllByRecursion (MayFollow e) es → Stands t (e ∷ es) → Stands (after p (entry_for g e) t) es
 stands_next t p g (ChangeEntry tid by file key before) es follow stands = go (is_some (find_unit by t.units))
   where
     e : JournalEntry
@@ -200,7 +200,7 @@ file_below heads g (ChangeEntry tid by file key before) long of = let within = w
 file_below heads g (PreparedEntry tid by) long of = omega arith
 file_below heads g (SettledEntry tid by outcome moment) long of = omega arith
 
-stands_onto : (heads : List (Option FileHead)) (es : List JournalEntry) (ds : List Entry) (f : Id → Option ℕ) (p : ℕ) (t : Told) (us : List RecoveryUnit) → length heads ≡ 64 → AreEntries heads es ds → AllByRecursion IsEntry ds →
+stands_onto : (heads : List (Option FileHead)) (es : List JournalEntry) (ds : List Entry) (f : Id → Option ℕ) (p : ℕ) (t : JournalScan) (us : List RecoveryUnit) → length heads ≡ 64 → AreEntries heads es ds → AllByRecursion IsEntry ds →
     AreInOrder es → AreFewOver us es → Tells f t us → Stands t es → reading.AreInOrder t (placed p ds)
 stands_onto heads [] [] f p t us long are all order few is stands = tt
 stands_onto heads [] (d ∷ ds) f p t us long are all order few is stands = absurd are

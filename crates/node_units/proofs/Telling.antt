@@ -10,7 +10,7 @@ use Rattle.vms_model.specs.Keys.{Key}
 use Rattle.vms_model.specs.Transactions.{Outcome}
 use Rattle.records_model.specs.History.{same_id}
 use Rattle.journal_model.specs.Entries.{Entry, IsEntry}
-use Rattle.ru_journal.specs.Told.{Told, UnitTold, after, find_unit, first_told, is_out_of_order, more_told, nothing_told, told_by, told_onto, with_unit, without_unit}
+use Rattle.ru_journal.specs.Told.{JournalScan, UnitTold, after, find_unit, first_told, is_out_of_order, more_told, nothing_told, told_by, told_onto, with_unit, without_unit}
 use Rattle.unit_entries.specs.Reading.{AreInOrder, placed}
 use Rattle.unit_laws.specs.Journal as journal
 use Rattle.unit_laws.specs.Journal.{ChangeEntry, JournalEntry, PreparedEntry, RecoveryUnit, SettledEntry, entry_size, units_after, units_in, units_onto, with_one_change}
@@ -42,7 +42,7 @@ pub record IsTold (f : Id → Option ℕ) (u : UnitTold) : Type 0 where
   pub serial : IsId u.serial
 
 -- What entries told is what those of the world did, and where the first changes begin.
-pub record Tells (f : Id → Option ℕ) (t : Told) (us : List RecoveryUnit) : Type 0 where
+pub record Tells (f : Id → Option ℕ) (t : JournalScan) (us : List RecoveryUnit) : Type 0 where
   pub units : map unit_shown t.units ≡ us
   pub differ : Differ t.units
   pub each : AllByRecursion (IsTold f) t.units
@@ -224,7 +224,7 @@ first_none f p e x none other = (λ i. elim (none i) as (λ _. Option ℕ) [ Som
 told_stays : (f : Id → Option ℕ) (p : ℕ) (e : JournalEntry) (u : UnitTold) → IsTold f u → IsTold (first_after f p e) u
 told_stays f p e u is = record { some = is.some; first = first_stays f p e u.serial u.first is.first; tid = is.tid; serial = is.serial }
 
-module _ (f : Id → Option ℕ) (t : Told) (us : List RecoveryUnit) (is : Tells f t us) (p : ℕ) where
+module _ (f : Id → Option ℕ) (t : JournalScan) (us : List RecoveryUnit) (is : Tells f t us) (p : ℕ) where
   changed : (g : ℕ) (tid by : Id) (file : List ℕ) (key : Key) (before : Option (List ℕ)) → IsEntry (entry_for g (ChangeEntry tid by file key before)) → is_out_of_order (entry_for g (ChangeEntry tid by file key before)) t ≡ false →
       Tells (first_after f p (ChangeEntry tid by file key before)) (after p (entry_for g (ChangeEntry tid by file key before)) t) (with_one_change tid by us)
   changed g tid by file key before entry ordered = go (find_unit by t.units) refl
@@ -345,7 +345,7 @@ first_onto_is f p (e ∷ es) x none = go (is_change_by x e) refl (first_onto_is 
     go true is more = found (first_after f p e) (p + entry_size e) p es (now true is) ∙ sym (λ i. if is i then Some p else first_by (is_change_by x) (p + entry_size e) es)
     go false is more = more (now false is) ∙ sym (λ i. if is i then Some p else first_by (is_change_by x) (p + entry_size e) es)
 
-tells_onto : (heads : List (Option FileHead)) (es : List JournalEntry) (ds : List Entry) (f : Id → Option ℕ) (p : ℕ) (t : Told) (us : List RecoveryUnit) → AreEntries heads es ds → AllByRecursion IsEntry ds → AreInOrder t (placed p ds) →
+tells_onto : (heads : List (Option FileHead)) (es : List JournalEntry) (ds : List Entry) (f : Id → Option ℕ) (p : ℕ) (t : JournalScan) (us : List RecoveryUnit) → AreEntries heads es ds → AllByRecursion IsEntry ds → AreInOrder t (placed p ds) →
     Tells f t us → Tells (first_onto f p es) (told_onto t (placed p ds)) (units_onto us es)
 tells_onto heads [] [] f p t us are all order is = is
 tells_onto heads [] (d ∷ ds) f p t us are all order is = absurd are

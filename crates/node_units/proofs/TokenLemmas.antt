@@ -35,7 +35,7 @@ use Rattle.node_units.specs.declared.begun.BegunUnit.{BegunUnit}
 use Rattle.node_units.specs.declared.begun.Token.TheVariants as token
 use Rattle.node_units.specs.Seen.{seen}
 use Rattle.node_units.specs.declared.begun.Token.{Token}
-use Rattle.node_units.specs.Tokens.{StandFor, is_active, is_held, is_of, is_waiting, place_in}
+use Rattle.node_units.specs.Tokens.{TokensRepresent, is_active, is_held, is_of, is_waiting, place_in}
 use Rattle.unit_table.proofs.BegunLemmas.{begun_last, units_other}
 
 -- Whether a unit is found.
@@ -52,7 +52,7 @@ any_of : {X Y : Type 0} (p : Y → Bool) (f : X → Y) (xs : List X) → list_an
 any_of p f [] = refl
 any_of p f (x ∷ xs) = ap (λ b. p (f x) || b) (any_of p f xs)
 
-pub found_if : (ts : List BegunUnit) (s : rms.UnitsState) (log : Slots) (x : Id) → StandFor ts s → is_some (position (is_of x) ts) ≡ is_begun x (seen s log)
+pub found_if : (ts : List BegunUnit) (s : rms.UnitsState) (log : Slots) (x : Id) → TokensRepresent ts s → is_some (position (is_of x) ts) ≡ is_begun x (seen s log)
 found_if ts s log x stand =
     ap is_some (position_from-zero (is_of x) ts) ∙ from_any (is_of x) ts 0 ∙ any_of (same_id x) (λ (t : BegunUnit). serial_of t.serial) ts
     ∙ ap (list_any (same_id x)) stand.serials ∙ sym (any_of (same_id x) (λ (u : OpenUnit). u.serial) (begun s.units))
@@ -276,7 +276,7 @@ active_of (token.Active place) held is = refl
 active_of (token.Prepared place) held is = let never : ⊥ = cc in absurd never
 active_of token.Spent held is = held
 
-module _ (ts : List BegunUnit) (s : rms.UnitsState) (stand : StandFor ts s) (order : AreInOrder s.units.places s.units.order) where
+module _ (ts : List BegunUnit) (s : rms.UnitsState) (stand : TokensRepresent ts s) (order : AreInOrder s.units.places s.units.order) where
   abbrev us : List (Option OpenUnit)
   us = s.units.places
 
@@ -348,7 +348,7 @@ module _ (ts : List BegunUnit) (s : rms.UnitsState) (stand : StandFor ts s) (ord
     less_alike : {X : Type 0} (f : BegunUnit → X) (g : OpenUnit → X) → map f ts ≡ map g (begun s.units) → map f (remove ts i) ≡ map g (begun (table.without_place (place_in (get_or ts i t).token) s.units))
     less_alike f g same = map_without f ts i below ∙ ap (λ xs. remove xs i) same ∙ sym (map_without g (begun s.units) i (omega (arith, below, stand_long))) ∙ ap (map g) (sym begun_then)
 
-    pub stand_less : StandFor (remove ts i) (rms.without_place (place_in (get_or ts i t).token) x s)
+    pub stand_less : TokensRepresent (remove ts i) (rms.without_place (place_in (get_or ts i t).token) x s)
     stand_less = record {
       places = map_without (λ (w : BegunUnit). place_in w.token) ts i below ∙ ap (λ (qs : List ℕ). remove qs i) stand.places ∙ sym order_then;
       tids = less_alike (λ (w : BegunUnit). tid_of w.tid) (λ (u : OpenUnit). u.tid) stand.tids;
@@ -375,7 +375,7 @@ module _ (ts : List BegunUnit) (s : rms.UnitsState) (stand : StandFor ts s) (ord
       set_alike f g y same at = map_set f ts i y ∙ (λ j. slice_set (same j) i (at j)) ∙ sym (map_set g (begun s.units) i (prepared_unit u)) ∙ ap (map g) (sym begun_set)
 
       pub stand_prepared : (y : BegunUnit) (locks : List Lock) → place_in y.token ≡ place_in (get_or ts i t).token → tid_of y.tid ≡ u.tid → serial_of y.serial ≡ u.serial → is_waiting y.token ≡ true → is_held y.token ≡ true →
-          StandFor (slice_set ts i y) (record { units = table.with_unit (place_in (get_or ts i t).token) (prepared_unit u) s.units; locks = locks })
+          TokensRepresent (slice_set ts i y) (record { units = table.with_unit (place_in (get_or ts i t).token) (prepared_unit u) s.units; locks = locks })
       stand_prepared y locks at tid serial waiting held = record {
         places = map-set_same (λ (w : BegunUnit). place_in w.token) ts i y t at ∙ stand.places;
         tids = set_alike (λ (w : BegunUnit). tid_of w.tid) (λ (w : OpenUnit). w.tid) y stand.tids tid;
@@ -395,7 +395,7 @@ module _ (ts : List BegunUnit) (s : rms.UnitsState) (stand : StandFor ts s) (ord
         map-append f ts (t ∷ []) ∙ (λ i. same i ++ at i ∷ []) ∙ sym (map-append g (begun s.units) (new_unit (tid_of t.tid) (serial_of t.serial) ∷ []))
         ∙ ap (map g) (sym (begun_more p (tid_of t.tid) (serial_of t.serial) below free))
 
-    pub stand_more : place_in t.token ≡ p → is_active t.token ≡ true → StandFor (ts ++ t ∷ []) (rms.with_begun p (tid_of t.tid) (serial_of t.serial) s)
+    pub stand_more : place_in t.token ≡ p → is_active t.token ≡ true → TokensRepresent (ts ++ t ∷ []) (rms.with_begun p (tid_of t.tid) (serial_of t.serial) s)
     stand_more at active = record {
       places = map-append (λ (w : BegunUnit). place_in w.token) ts (t ∷ []) ∙ (λ i. stand.places i ++ at i ∷ []);
       tids = more_alike (λ (w : BegunUnit). tid_of w.tid) (λ (u : OpenUnit). u.tid) stand.tids refl;
@@ -405,7 +405,7 @@ module _ (ts : List BegunUnit) (s : rms.UnitsState) (stand : StandFor ts s) (ord
     }
 
   -- a unit that changed
-  pub stand_changed : (p : ℕ) (u w : OpenUnit) (locks : List Lock) → unit_of p s ≡ Some u → w.serial ≡ u.serial → w.tid ≡ u.tid → w.prepared ≡ u.prepared → StandFor ts (record { units = table.with_unit p w s.units; locks = locks })
+  pub stand_changed : (p : ℕ) (u w : OpenUnit) (locks : List Lock) → unit_of p s ≡ Some u → w.serial ≡ u.serial → w.tid ≡ u.tid → w.prepared ≡ u.prepared → TokensRepresent ts (record { units = table.with_unit p w s.units; locks = locks })
   stand_changed p u w locks there serial tid prepared = record {
     places = stand.places;
     tids = stand.tids ∙ sym (same_each (λ (x : OpenUnit). x.tid) us s.units.order p u w there tid);
@@ -417,16 +417,16 @@ module _ (ts : List BegunUnit) (s : rms.UnitsState) (stand : StandFor ts s) (ord
 -- The unit of a branch that is looked for.
 
 -- one that is begun is found
-pub is_found : (ts : List BegunUnit) (s : rms.UnitsState) (log : Slots) (x : Id) (o : Option ℕ) → StandFor ts s → o ≡ position (is_of x) ts → is_begun x (seen s log) ≡ true → o ≡ None → ⊥
+pub is_found : (ts : List BegunUnit) (s : rms.UnitsState) (log : Slots) (x : Id) (o : Option ℕ) → TokensRepresent ts s → o ≡ position (is_of x) ts → is_begun x (seen s log) ≡ true → o ≡ None → ⊥
 is_found ts s log x o stand found begun none = let never : ◌≡◌ {A = Bool} false true = ap is_some (sym none ∙ found) ∙ found_if ts s log x stand ∙ begun in cc
 
-pub own_unit : (ts : List BegunUnit) (s : rms.UnitsState) → StandFor ts s → AreInOrder s.units.places s.units.order → (x : Id) (i : ℕ) (b : BegunUnit) → position (is_of x) ts ≡ Some i → b ≡ get_or ts i b → HasUnit x b s
+pub own_unit : (ts : List BegunUnit) (s : rms.UnitsState) → TokensRepresent ts s → AreInOrder s.units.places s.units.order → (x : Id) (i : ℕ) (b : BegunUnit) → position (is_of x) ts ≡ Some i → b ≡ get_or ts i b → HasUnit x b s
 own_unit ts s stand order x i b found at =
     let first = position-Some (is_of x) ts i b found in
     subst (λ (t : BegunUnit). HasUnit x t s) (sym at) (stands_for ts s stand order x i b first.0 first.1 first.2)
 
 -- The tokens of the same units.
-pub stand_as : (ts : List BegunUnit) (s t : rms.UnitsState) → t.units ≡ s.units → StandFor ts s → StandFor ts t
+pub stand_as : (ts : List BegunUnit) (s t : rms.UnitsState) → t.units ≡ s.units → TokensRepresent ts s → TokensRepresent ts t
 stand_as ts s t same stand = record {
   places = stand.places ∙ ap (λ (us : table.Units). us.order) (sym same);
   tids = stand.tids ∙ ap (λ (us : table.Units). map (λ (u : OpenUnit). u.tid) (begun us)) (sym same);
@@ -436,7 +436,7 @@ stand_as ts s t same stand = record {
 }
 
 -- a token that is written back
-pub stand_set : (ts : List BegunUnit) (s : rms.UnitsState) (i : ℕ) (y d : BegunUnit) → y ≡ get_or ts i d → i < length ts → StandFor ts s → StandFor (slice_set ts i y) s
+pub stand_set : (ts : List BegunUnit) (s : rms.UnitsState) (i : ℕ) (y d : BegunUnit) → y ≡ get_or ts i d → i < length ts → TokensRepresent ts s → TokensRepresent (slice_set ts i y) s
 stand_set ts s i y d same below stand = record {
   places = map-set_same (λ (t : BegunUnit). place_in t.token) ts i y d (ap (λ (t : BegunUnit). place_in t.token) same) ∙ stand.places;
   tids = map-set_same (λ (t : BegunUnit). tid_of t.tid) ts i y d (ap (λ (t : BegunUnit). tid_of t.tid) same) ∙ stand.tids;
@@ -446,7 +446,7 @@ stand_set ts s i y d same below stand = record {
 }
 
 -- the units that both stand for are of the same branches
-pub same_seen : (ts : List BegunUnit) (s t : rms.UnitsState) (log more : Slots) → StandFor ts s → StandFor ts t → serials_in (seen t more) ≡ serials_in (seen s log)
+pub same_seen : (ts : List BegunUnit) (s t : rms.UnitsState) (log more : Slots) → TokensRepresent ts s → TokensRepresent ts t → serials_in (seen t more) ≡ serials_in (seen s log)
 same_seen ts s t log more one two = sym two.serials ∙ one.serials
 
 -- A unit that noted changes.
@@ -454,8 +454,8 @@ noted_same : {X : Type 0} (g : OpenUnit → X) → ((p file : ℕ) (u : OpenUnit
 noted_same g one [] file u = refl
 noted_same g one (p ∷ ps) file u = noted_same g one ps file (table.with_position p file u) ∙ one p file u
 
-pub stand_changes : (ts : List BegunUnit) (s t : rms.UnitsState) (place : ℕ) (u : OpenUnit) (h : FileHead) (o : RecordOp) (bytes : List ℕ) (told : ℕ) (v w : VolumeState) → StandFor ts s → AreInOrder s.units.places s.units.order → unit_of place s ≡ Some u →
-    ChangesOk place u h o bytes told s v t w → StandFor ts t
+pub stand_changes : (ts : List BegunUnit) (s t : rms.UnitsState) (place : ℕ) (u : OpenUnit) (h : FileHead) (o : RecordOp) (bytes : List ℕ) (told : ℕ) (v w : VolumeState) → TokensRepresent ts s → AreInOrder s.units.places s.units.order → unit_of place s ≡ Some u →
+    ChangesOk place u h o bytes told s v t w → TokensRepresent ts t
 stand_changes ts s t place u h (op.Put file key) bytes told v w stand order there ok = let k = ok.changes refl in
     stand_as ts (record { units = table.with_unit place (table.with_position v.catalog.ru.end file u) s.units; locks = s.locks }) t k.units (stand_changed ts s stand order place u (table.with_position v.catalog.ru.end file u) s.locks there refl refl refl)
 stand_changes ts s t place u h (op.Update file key) bytes told v w stand order there ok = let k = ok.changes refl in
@@ -469,14 +469,14 @@ stand_changes ts s t place u h (op.Truncate file from) bytes told v w stand orde
     (noted_same (λ (x : OpenUnit). x.prepared) (λ p f y. refl) (begins_at v.catalog.ru.end k.entries.had) file u))
 
 -- The unit of a branch is no more.
-module _ (ts : List BegunUnit) (s : rms.UnitsState) (stand : StandFor ts s) (order : AreInOrder s.units.places s.units.order) (x : Id) (i : ℕ) (b : BegunUnit) (found : position (is_of x) ts ≡ Some i) (at : b ≡ get_or ts i b) (y : Id) (same : y ≡ x) where
+module _ (ts : List BegunUnit) (s : rms.UnitsState) (stand : TokensRepresent ts s) (order : AreInOrder s.units.places s.units.order) (x : Id) (i : ℕ) (b : BegunUnit) (found : position (is_of x) ts ≡ Some i) (at : b ≡ get_or ts i b) (y : Id) (same : y ≡ x) where
   pub seen_less : (log : Slots) → seen (rms.without_place (place_in b.token) y s) log ≡ without_begun x (seen s log)
   seen_less log =
       let first = position-Some (is_of x) ts i b found in
       let gone = ap (λ (t : BegunUnit). begun (table.without_place (place_in t.token) s.units)) at ∙ unit_gone ts s stand order x i b first.0 first.1 first.2 in
       λ j. record { begun = gone j; locks = released (same j) s.locks; log = log }
 
-  pub stand_then : StandFor (remove ts i) (rms.without_place (place_in b.token) y s)
+  pub stand_then : TokensRepresent (remove ts i) (rms.without_place (place_in b.token) y s)
   stand_then =
       let first = position-Some (is_of x) ts i b found in
       stand_as (remove ts i) (rms.without_place (place_in (get_or ts i b).token) x s) (rms.without_place (place_in b.token) y s) (ap (λ (t : BegunUnit). table.without_place (place_in t.token) s.units) at) (stand_less ts s stand order x i b first.0 first.1 first.2)
@@ -515,15 +515,15 @@ active_is (token.Prepared place) active = let never : ⊥ = cc in absurd never
 active_is token.Spent active = let never : ⊥ = cc in absurd never
 
 -- The unit of a branch is prepared.
-module _ (ts : List BegunUnit) (s : rms.UnitsState) (stand : StandFor ts s) (order : AreInOrder s.units.places s.units.order) (x : Id) (i : ℕ) (b : BegunUnit) (found : position (is_of x) ts ≡ Some i) (at : b ≡ get_or ts i b) (u : OpenUnit) (there : unit_of (place_in b.token) s ≡ Some u) where
+module _ (ts : List BegunUnit) (s : rms.UnitsState) (stand : TokensRepresent ts s) (order : AreInOrder s.units.places s.units.order) (x : Id) (i : ℕ) (b : BegunUnit) (found : position (is_of x) ts ≡ Some i) (at : b ≡ get_or ts i b) (u : OpenUnit) (there : unit_of (place_in b.token) s ≡ Some u) where
   there_at : unit_of (place_in (get_or ts i b).token) s ≡ Some u
   there_at = subst (λ (t : BegunUnit). unit_of (place_in t.token) s ≡ Some u) at there
 
   pub prepared_then : (y : BegunUnit) → place_in y.token ≡ place_in b.token → tid_of y.tid ≡ u.tid → serial_of y.serial ≡ u.serial → is_waiting y.token ≡ true → is_held y.token ≡ true →
-      StandFor (slice_set ts i y) (record s { units = table.with_unit (place_in b.token) (prepared_unit u) s.units })
+      TokensRepresent (slice_set ts i y) (record s { units = table.with_unit (place_in b.token) (prepared_unit u) s.units })
   prepared_then y place tid serial waiting held =
       let first = position-Some (is_of x) ts i b found in
-      subst (λ (t : BegunUnit). StandFor (slice_set ts i y) (record s { units = table.with_unit (place_in t.token) (prepared_unit u) s.units })) (sym at)
+      subst (λ (t : BegunUnit). TokensRepresent (slice_set ts i y) (record s { units = table.with_unit (place_in t.token) (prepared_unit u) s.units })) (sym at)
       (stand_prepared ts s stand order x i b first.0 first.1 first.2 u there_at y s.locks (place ∙ ap (λ (t : BegunUnit). place_in t.token) at) tid serial waiting held)
 
   pub prepared_begun : begun (table.with_unit (place_in b.token) (prepared_unit u) s.units) ≡ with_prepared x (begun s.units)

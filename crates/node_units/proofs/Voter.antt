@@ -20,13 +20,13 @@ use Rattle.rms_units.specs.State as rms
 use Rattle.node_units.specs.declared.begun.BegunUnit.{BegunUnit}
 use Rattle.node_units.specs.declared.begun.Token.TheVariants as token
 use Rattle.node_units.specs.Seen.{seen}
-use Rattle.node_units.specs.Tokens.{StandFor, is_of, place_in}
+use Rattle.node_units.specs.Tokens.{TokensRepresent, is_of, place_in}
 use Rattle.node_units.proofs.Committing.{HasLogged}
 use Rattle.node_units.proofs.Seeing.{order_unseen}
 use Rattle.node_units.proofs.TokenLemmas.{HasUnit, active_is, active_of, own_unit, prepared_begun}
 
 pub record Votes (ts : List BegunUnit) (s : rms.UnitsState) (log : Slots) (v : VolumeState) (x : Id) (i : ℕ) (b : BegunUnit) (was : UnitsState) (read : BegunUnit) (rms_are : List Name) : Type 0 where
-  pub stand : StandFor ts s
+  pub stand : TokensRepresent ts s
   pub places : AreInOrder s.units.places s.units.order
   pub found : position (is_of x) ts ≡ Some i
   pub at : b ≡ get_or ts i b

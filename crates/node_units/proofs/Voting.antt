@@ -43,7 +43,7 @@ use Rattle.world_laws.proofs.LogLemmas.{told_log}
 use Rattle.world_laws.proofs.OrderedLemmas.{tables_keep_order}
 use Rattle.world_laws.proofs.TableLemmas.{found_in, one_branch}
 use Rattle.world_laws.proofs.UpLemmas.{differ}
-use Rattle.directory_model.specs.Files.{StandsIn, head_at}
+use Rattle.directory_model.specs.Files.{AgreesOnFile, head_at}
 use Rattle.node_units.proofs.ImagedVolume.{stands_on, stands_same}
 use Rattle.directory_model.proofs.Standing.{stands_on_extents}
 use Rattle.restart_laws.proofs.ListLemmas.{both_as}
@@ -118,7 +118,7 @@ tids_of k (u ∷ us) (c ∷ bs) h all = (λ same. sym h.0.tid ∙ all c (inl ref
 
 pub record Enters (heads : List (Option FileHead)) (slots : ℕ) (es : List Entry) (pe : Entry) (test : Bool) (k : Catalog) (c d : List (List ℕ)) : Type 0 where
   pub journal : IsJournal d (span_with (entry_if test pe) k.ru) (es ++ (if test then pe ∷ [] else []))
-  pub files : (f : ℕ) (h : FileHead) → head_at heads f ≡ Some h → StandsIn h c d
+  pub files : (f : ℕ) (h : FileHead) → head_at heads f ≡ Some h → AgreesOnFile h c d
   pub slots_stay : SameSlots slots c d
   pub tells : TellsCatalog k c → TellsCatalog (record k { ru = span_with (entry_if test pe) k.ru }) d
   pub end : (span_with (entry_if test pe) k.ru).end ≡ k.ru.end + (if test then 48 else 0)
@@ -129,7 +129,7 @@ enters : (node : List ℕ) (size slots : ℕ) (k : Catalog) → IsSound node siz
     (test : Bool) → (test ≡ true → k.ru.end - k.ru.first + 48 ≤ ring_size k.ru) → d ≡ content_with (entry_if test (prepared_entry tid serial)) k.ru c → Enters k.heads slots es (prepared_entry tid serial) test k c d
 enters node size slots k sound long before tid serial is_tid is_serial es c d j false room is = record {
   journal = subst (λ (x : Content). IsJournal x k.ru (es ++ [])) (sym is) (subst (IsJournal c k.ru) (sym (append-nil es)) j);
-  files = λ f h there. subst (StandsIn h c) (sym is) (stands_same h c j.ring.whole);
+  files = λ f h there. subst (AgreesOnFile h c) (sym is) (stands_same h c j.ring.whole);
   slots_stay = λ i below. ap (λ (x : Content). block_at x (66 + i)) is;
   tells = λ tells. subst (TellsCatalog k) (sym is) tells;
   end = omega arith;
@@ -212,7 +212,7 @@ module _ (place : ℕ) (u : OpenUnit) (s : rms.UnitsState) (log ts : Slots) (v :
     entered = enters v.catalog.home.node v.store.disk.size (length log) v.catalog is.order.sound is.order.heads is.before k.tid k.serial (subst IsId (tid_is place u s log v n k x) ids.0) (subst IsId x.own ids.1) journal_mid.entries relog.0 d journal_mid.is unit
         (room_now place u s log v n k x is.order) content_is
 
-    agree : (f : ℕ) (h : FileHead) → head_at v.catalog.heads f ≡ Some h → StandsIn h x.kept.content d
+    agree : (f : ℕ) (h : FileHead) → head_at v.catalog.heads f ≡ Some h → AgreesOnFile h x.kept.content d
     agree f h there = stands_on h x.kept.content relog.0 d
         (files_relogged log ts x.kept.content relog.0 relog.2 v.catalog is.before v.catalog.home.node v.store.disk.size is.order.sound is.order.heads f h there) (entered.files f h there)
 

@@ -38,7 +38,7 @@ abbrev pub is_of : Id → BegunUnit → Bool
 is_of serial t = same_id serial (serial_of t.serial)
 
 -- the tokens are those of the units, in the order in which these were begun, with their branches and by whether they are prepared
-pub record StandFor (tokens : List BegunUnit) (s : UnitsState) : Type 0 where
+pub record TokensRepresent (tokens : List BegunUnit) (s : UnitsState) : Type 0 where
   pub places : map (λ (t : BegunUnit). place_in t.token) tokens ≡ s.units.order
   pub tids : map (λ (t : BegunUnit). tid_of t.tid) tokens ≡ map (λ (u : OpenUnit). u.tid) (begun s.units)
   pub serials : map (λ (t : BegunUnit). serial_of t.serial) tokens ≡ map (λ (u : OpenUnit). u.serial) (begun s.units)

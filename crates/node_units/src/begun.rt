@@ -1,5 +1,6 @@
 // Units that are begun, with the branches that they are.
 ghost use Rattle.std.specs.Prelude.{◌≡◌, ◌≤◌, ◌<◌, ◌+◌, ◌++◌, None, true, length, position, vec_capacity};
+ghost use Rattle.vms_model.specs.Limits.{branch_limit};
 ghost use Rattle.unit_table.specs.Units.{begun};
 ghost use Rattle.vms_base.specs.Ids.{serial_of, tid_of};
 ghost use Rattle.vms_model.specs.Ids.{IsId};
@@ -34,10 +35,10 @@ pub(crate) fn place_of(begun: &[BegunUnit], serial: &Serial) -> Option<usize>
 
 /// Begins a unit, where fewer than 64 are unsettled.
 pub(crate) fn begin_unit(units: &mut Units, tid: &Tid, serial: &Serial) -> Token
-    requires { length (begun units.old.units) < 64 }
+    requires { length (begun units.old.units) < branch_limit }
     ensures active { is_active result ≡ true }
     ensures begun { units.new ≡ with_begun (place_in result) (tid_of tid.now) (serial_of serial.now) units.old }
-    ensures below { place_in result < 64 }
+    ensures below { place_in result < branch_limit }
     ensures free { unit_of (place_in result) units.old ≡ None }
 {
     let Ok(unit) = units.begin(*tid, *serial) else {

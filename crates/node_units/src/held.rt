@@ -1,12 +1,14 @@
 // What is asked of a unit by what is held of it.
 ghost use Rattle.std.specs.Prelude.{◌≡◌, ◌≤◌, ◌<◌, ◌+◌, ◌==◌, not, true, false, Some, IfOk, IfErr, IfSome, IsSome, OnOk, OnErr, length, option_copied};
+ghost use Rattle.vms_model.specs.Limits.{moment_ceiling};
+ghost use Rattle.vms_model.specs.Blocks.{log_start};
 ghost use Rattle.file_base.specs.declared.head.FileHead.{FileHead as HeadSaid};
 ghost use Rattle.vms_base.specs.Keys.{key_of};
 ghost use Rattle.vms_base.specs.declared.outcomes.Outcome.TheVariants as outcome;
 ghost use Rattle.lmcp_log.specs.Log.{slot_of};
 ghost use Rattle.record_operations.specs.Asking.{file_in, read_file_in};
 ghost use Rattle.record_operations.specs.Causes.{down_in};
-ghost use Rattle.unit_journal.specs.Groups.{Caused, Goes, Grows};
+ghost use Rattle.unit_journal.specs.Groups.{Caused, DiskAdvances, Grows};
 ghost use Rattle.recovery_units.specs.Uses.{ImagesGrow};
 ghost use Rattle.unit_table.specs.Units.{OpenUnit};
 ghost use Rattle.unit_votes.specs.Logging.{HasLog, MayHave};
@@ -58,7 +60,7 @@ pub(crate) fn change_held<D: Disk>(
     ensures err { IfErr result (λ e. (u : OpenUnit) (h : HeadSaid) → unit_of (place_in token.old) units.old ≡ Some u → head_at volume.old.catalog.heads (file_in op.now) ≡ Some h → ChangesErr u h op.now bytes.now e units.old volume.old units.new volume.new) }
     ensures grows { Grows 0 0 volume.old volume.new }
     ensures images { OnOk result (ImagesGrow volume.old volume.new) }
-    ensures goes { Goes volume.old.store.disk volume.new.store.disk }
+    ensures goes { DiskAdvances volume.old.store.disk volume.new.store.disk }
     ensures cause { IfErr result (λ e. Caused (down_in e) volume.old.store.disk volume.new.store.disk) }
     ensures pool { volume.new.store.pool ≡ volume.old.store.pool }
 {
@@ -88,7 +90,7 @@ pub(crate) fn read_held<D: Disk>(
     ensures reads { (h : HeadSaid) → head_at volume.old.catalog.heads (read_file_in op.now) ≡ Some h → ReadsFew h op.now volume.old volume.new }
     ensures grows { Grows 0 0 volume.old volume.new }
     ensures images { OnOk result (ImagesGrow volume.old volume.new) }
-    ensures goes { Goes volume.old.store.disk volume.new.store.disk }
+    ensures goes { DiskAdvances volume.old.store.disk volume.new.store.disk }
     ensures cause { IfErr result (λ e. Caused (down_in e) volume.old.store.disk volume.new.store.disk) }
     ensures pool { volume.new.store.pool ≡ volume.old.store.pool }
 {
@@ -112,8 +114,8 @@ pub(crate) fn commit_held<D: Disk>(
     requires may { IfSome (unit_of (place_in token) units.old) (λ u. MayHave u.serial (slot_of (option_copied logged)) log.old) }
     requires order { IsInOrder units.old volume.old }
     requires early { IsEarly volume.old }
-    requires clock { clock.0 < 24000001000066 }
-    requires before { 584 + length log.old ≤ volume.old.catalog.ru.start }
+    requires clock { clock.0 < moment_ceiling }
+    requires before { log_start + length log.old ≤ volume.old.catalog.ru.start }
     ensures order { OnOk result (IsInOrder units.new volume.new) }
     ensures log { OnOk result (HasLog log.old volume.old → HasLog log.new volume.new) }
     ensures done { IfOk result (λ told. (u : OpenUnit) → unit_of (place_in token) units.old ≡ Some u → CommitsLogged (place_in token) u told.tid told.serial (slot_of (option_copied logged.entry)) clock.0 told.moment.0 units.old log.old volume.old units.new log.new volume.new) }
@@ -121,7 +123,7 @@ pub(crate) fn commit_held<D: Disk>(
     ensures err { OnErr result ((u : OpenUnit) → unit_of (place_in token) units.old ≡ Some u → CommitsLoggedNot (place_in token) u (slot_of (option_copied logged.entry)) clock.0 units.old log.old volume.old units.new log.new volume.new) }
     ensures grows { Grows 1 clock.0 volume.old volume.new }
     ensures images { OnOk result (ImagesGrow volume.old volume.new) }
-    ensures goes { Goes volume.old.store.disk volume.new.store.disk }
+    ensures goes { DiskAdvances volume.old.store.disk volume.new.store.disk }
     ensures cause { IfErr result (λ down. Caused (Some down) volume.old.store.disk volume.new.store.disk) }
     ensures pool { volume.new.store.pool ≡ volume.old.store.pool }
 {
@@ -145,8 +147,8 @@ pub(crate) fn abort_held<D: Disk>(
     requires unit { IsSome (unit_of (place_in token) units.old) }
     requires order { IsInOrder units.old volume.old }
     requires early { IsEarly volume.old }
-    requires clock { clock.0 < 24000001000066 }
-    requires before { 584 + length log.old ≤ volume.old.catalog.ru.start }
+    requires clock { clock.0 < moment_ceiling }
+    requires before { log_start + length log.old ≤ volume.old.catalog.ru.start }
     ensures order { OnOk result (IsInOrder units.new volume.new) }
     ensures active { IfOk result (λ told. is_active token ≡ true → (log.new ≡ log.old) × ((u : OpenUnit) → unit_of (place_in token) units.old ≡ Some u → AbortsUnit (place_in token) u told.tid told.serial reason clock.0 told.moment.0 units.old volume.old units.new volume.new)) }
     ensures waiting { IfOk result (λ told. is_waiting token ≡ true → (u : OpenUnit) → unit_of (place_in token) units.old ≡ Some u → AbortsPrepared (place_in token) u told.tid told.serial reason clock.0 told.moment.0 units.old log.old volume.old units.new log.new volume.new) }
@@ -155,7 +157,7 @@ pub(crate) fn abort_held<D: Disk>(
     ensures waiting_err { OnErr result (is_waiting token ≡ true → (u : OpenUnit) → unit_of (place_in token) units.old ≡ Some u → AbortsPreparedNot (place_in token) u reason clock.0 units.old log.old volume.old units.new log.new volume.new) }
     ensures grows { Grows 1 clock.0 volume.old volume.new }
     ensures images { OnOk result (ImagesGrow volume.old volume.new) }
-    ensures goes { Goes volume.old.store.disk volume.new.store.disk }
+    ensures goes { DiskAdvances volume.old.store.disk volume.new.store.disk }
     ensures cause { IfErr result (λ down. Caused (Some down) volume.old.store.disk volume.new.store.disk) }
     ensures pool { volume.new.store.pool ≡ volume.old.store.pool }
 {

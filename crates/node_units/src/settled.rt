@@ -1,5 +1,6 @@
 // Settlements as they are told to those above.
 ghost use Rattle.std.specs.Prelude.{◌≡◌, ◌≤◌, ◌+◌, ◌++◌, length, map};
+ghost use Rattle.vms_model.specs.Limits.{branch_limit, slot_limit};
 ghost use Rattle.node_units.specs.Told.{unit_settled};
 
 use recovery_units::{Reopened, SettledUnit};
@@ -21,7 +22,7 @@ pub(crate) fn told_above(units: &mut Units, unit: rms_units::SettledUnit) -> Set
 
 /// Tells the units that a restart undid, behind those that were told.
 pub(crate) fn tell_undone(undone: &[AbortedUnit], out: &mut Reopened)
-    requires { length out.old.settled + length undone.now ≤ 64 }
+    requires { length out.old.settled + length undone.now ≤ branch_limit }
     ensures { out.new ≡ record out.old { settled = out.old.settled ++ map unit_settled undone.now } }
 {
     match undone {
@@ -39,7 +40,7 @@ pub(crate) fn tell_undone(undone: &[AbortedUnit], out: &mut Reopened)
 
 /// Tells the records of the prepared branches that a restart found, behind those that were told.
 pub(crate) fn tell_prepared(records: &[LogRec], out: &mut Reopened)
-    requires { length out.old.prepared + length records.now ≤ 64 }
+    requires { length out.old.prepared + length records.now ≤ branch_limit }
     ensures { out.new ≡ record out.old { prepared = out.old.prepared ++ records.now } }
 {
     match records {
@@ -53,7 +54,7 @@ pub(crate) fn tell_prepared(records: &[LogRec], out: &mut Reopened)
 
 /// And the committed ones.
 pub(crate) fn tell_committed(records: &[LogRec], out: &mut Reopened)
-    requires { length out.old.committed + length records.now ≤ 512 }
+    requires { length out.old.committed + length records.now ≤ slot_limit }
     ensures { out.new ≡ record out.old { committed = out.old.committed ++ records.now } }
 {
     match records {

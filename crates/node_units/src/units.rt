@@ -35,16 +35,17 @@ pub struct NodeUnits {
 
 impl Model for NodeUnits {
     ghost use Rattle.std.specs.Prelude.{◌≤◌, vec_capacity};
+    ghost use Rattle.vms_model.specs.Limits.{branch_limit};
     ghost use Rattle.recovery_units.specs.State.{UnitsState};
 
     ghost Value = { UnitsState };
 
     ghost use Rattle.node_units.specs.Seen.{seen};
-    ghost use Rattle.node_units.specs.Tokens.{StandFor};
+    ghost use Rattle.node_units.specs.Tokens.{TokensRepresent};
 
     ghost view = { λ u. seen u.units u.log };
 
-    ghost invariant = { λ u. StandFor u.begun.items u.units × (64 ≤ vec_capacity u.begun) };
+    ghost invariant = { λ u. TokensRepresent u.begun.items u.units × (branch_limit ≤ vec_capacity u.begun) };
 }
 
 impl RecoveryUnits for NodeUnits {

@@ -3,11 +3,12 @@ use Rattle.std.specs.Prelude.{List, Bool, not, Option, Some, None, length, nat_l
 use Rattle.std.specs.List.{list_any}
 use Rattle.std.specs.Option.{option_and_then}
 use Rattle.vms_model.specs.Ids.{Id}
+use Rattle.vms_model.specs.Limits.{declared_limit}
 use Rattle.transcript_model.specs.Lines as line
 use Rattle.transcript_model.specs.Lines.{Line, Quota}
 use Rattle.commit_protocol.specs.Messages.{Name, Reply, same_name}
 use Rattle.commit_protocol.specs.Table.{Branch, Tm, find_serial}
-use Rattle.run_model.specs.Answers.{Known, Unsettled, Recorded, Unheard, awaited_reply, declared_limit, has_joined, in_state, is_joinable, known_branch, known_manager, more_managers, unsettled}
+use Rattle.run_model.specs.Answers.{Known, Unsettled, Recorded, Unheard, awaited_reply, has_joined, in_state, is_joinable, known_branch, known_manager, more_managers, unsettled}
 use Rattle.run_model.specs.Operations.{first_of, refused_if}
 use Rattle.tm_table.specs.Restarts.{record_of}
 use Rattle.participants.specs.declared.refusals.RmErr.{RmErr}

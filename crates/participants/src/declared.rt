@@ -29,13 +29,14 @@ pub struct Rms {
 
 impl Model for Rms {
     ghost use Rattle.std.specs.Prelude.{◌≤◌, List, length, vec_capacity};
+    ghost use Rattle.vms_model.specs.Limits.{declared_limit};
     ghost use Rattle.commit_protocol.specs.Messages.{Name};
 
     ghost Value = { List Name };
 
     ghost view = { λ r. r.names.items };
 
-    ghost invariant = { λ r. (64 ≤ vec_capacity r.names) × (length r.names.items ≤ 64) };
+    ghost invariant = { λ r. (declared_limit ≤ vec_capacity r.names) × (length r.names.items ≤ declared_limit) };
 }
 
 // Whether a name is among these.

@@ -1,6 +1,7 @@
 //! A file of any organization as a map from keys to records.
 ghost use Rattle.std.specs.Prelude.{◌≡◌, ◌≤◌, ◌<◌, ◌+◌, ◌-◌, ◌*◌, ℕ, List, Bool, true, false, Option, Some, None, length, take, OnOk, OnErr, IfOk, IfSome, option_map};
 ghost use Rattle.std.specs.Option.{option_copied};
+ghost use Rattle.careful_write.specs.Sizes.{staged_limit};
 ghost use Rattle.file_base.specs.declared.head.Organization.TheVariants.{Sequential};
 ghost use Rattle.vms_base.specs.Keys.{key_of};
 ghost use Rattle.vms_model.specs.Keys.{Number};
@@ -178,7 +179,7 @@ impl AnyFile {
         requires form { IsFile head.old }
         requires placed { IsPlaced head.old store.old.disk }
         requires frames { 32 ≤ free_frames store.old.pool }
-        requires staged { length store.old.touched ≤ 64 }
+        requires staged { length store.old.touched ≤ staged_limit }
         requires first { 1 ≤ from }
         requires last { from ≤ head.old.count }
         ensures map { OnOk result (IfSome store.old.current (λ before. IsLaidOut head.old before → option_map (map_of head.new) store.new.current ≡ Some (cut_from from (map_of head.old before)))) }
@@ -204,7 +205,7 @@ impl AnyFile {
         requires form { IsFile head.old }
         requires placed { IsPlaced head.old store.old.disk }
         requires frames { 32 ≤ free_frames store.old.pool }
-        requires staged { length store.old.touched ≤ 64 }
+        requires staged { length store.old.touched ≤ staged_limit }
         requires first { 1 ≤ from }
         requires last { from ≤ head.old.count }
         requires begins { IfSome store.old.current (λ b. IsLaidOut head.old b → Begins head.old b (Some (Number from)) place) }

@@ -12,7 +12,7 @@ pub data Cause : Type 0 where
   BadOperation : Cause
   BadRecordNumber : Cause
   BadRecordSize : Cause
-  NotMarked : Cause
+  NotForUnits : Cause
   NeedsUnit : Cause
   Locked : Id → Cause
   RecordExists : Cause
@@ -33,7 +33,7 @@ cause_of err.BadParameter = Some BadParameter
 cause_of err.BadOperation = Some BadOperation
 cause_of err.BadRecordNumber = Some BadRecordNumber
 cause_of err.BadRecordSize = Some BadRecordSize
-cause_of err.NotMarked = Some NotMarked
+cause_of err.NotForUnits = Some NotForUnits
 cause_of err.NeedsUnit = Some NeedsUnit
 cause_of (err.Locked by) = Some (Locked (serial_of by))
 cause_of err.RecordExists = Some RecordExists
@@ -69,7 +69,7 @@ IfRefused err.BadParameter P Q = P BadParameter
 IfRefused err.BadOperation P Q = P BadOperation
 IfRefused err.BadRecordNumber P Q = P BadRecordNumber
 IfRefused err.BadRecordSize P Q = P BadRecordSize
-IfRefused err.NotMarked P Q = P NotMarked
+IfRefused err.NotForUnits P Q = P NotForUnits
 IfRefused err.NeedsUnit P Q = P NeedsUnit
 IfRefused (err.Locked by) P Q = P (Locked (serial_of by))
 IfRefused err.RecordExists P Q = P RecordExists

@@ -21,7 +21,7 @@ pub enum RecErr {
     BadRecordSize,
     /// A branch asks, and the file is not marked for recovery units.
     #[error("the file is not marked for recovery units")]
-    NotMarked,
+    NotForUnits,
     /// A change is asked for without a branch, and the file is marked for recovery units.
     #[error("the file is marked for recovery units")]
     NeedsUnit,

@@ -63,7 +63,7 @@ module _ (f : ℕ) (way : Way) (user : Option Serial) (h : FileHead) (v w : Volu
     ru = ap (λ (x : Catalog). x.ru) fell.0;
   }
   not_made_so (err.Full free needed) one idle other = absurd other
-  not_made_so err.NotMarked one idle other = absurd other
+  not_made_so err.NoJournal one idle other = absurd other
   not_made_so err.NoSave one idle other = absurd other
   not_made_so (err.InUse serial) one idle other = absurd other
   not_made_so (err.Early until save) one idle other = absurd other
@@ -106,7 +106,7 @@ module _ (f : ℕ) (way : Way) (user : Option Serial) (h : FileHead) (v w : Volu
       home = fell.home;
       ru = fell.ru;
     }
-    not_recovered_so err.NotMarked other = absurd other
+    not_recovered_so err.NoJournal other = absurd other
     not_recovered_so err.NoSave other = absurd other
     not_recovered_so (err.InUse serial) other = absurd other
     not_recovered_so (err.Early until save) other = absurd other

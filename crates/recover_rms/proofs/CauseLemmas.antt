@@ -13,7 +13,7 @@ use Rattle.file_recoveries.specs.declared.errors.RecoverErr.TheVariants as err
 use Rattle.recover_rms.specs.Calls.{NotRecovered}
 
 abbrev IsOfHead : RecoverErr → Type 0
-IsOfHead err.NotMarked = Unit {0}
+IsOfHead err.NoJournal = Unit {0}
 IsOfHead err.NoSave = Unit {0}
 IsOfHead (err.InUse serial) = Unit {0}
 IsOfHead (err.Early until save) = Unit {0}
@@ -43,10 +43,10 @@ by_save h until = first (early_cause h until) (if nat_lt h.save.position h.ai.fi
 
 of_head : (h : FileHead) (way : Way) (user : Option Serial) → IfSome (cause_of h way user) IsOfHead
 of_head h (Forward until) user =
-    chosen (not h.marks.ai) (Some err.NotMarked) (if not h.marks.save then Some err.NoSave else first_cause (in_use user) (save_cause h until)) tt
+    chosen (not h.marks.ai) (Some err.NoJournal) (if not h.marks.save then Some err.NoSave else first_cause (in_use user) (save_cause h until)) tt
     (chosen (not h.marks.save) (Some err.NoSave) (first_cause (in_use user) (save_cause h until)) tt (first (in_use user) (save_cause h until) (by_user user) (by_save h until)))
 of_head h (Backward until) user =
-    chosen (not h.marks.bi) (Some err.NotMarked) (first_cause (in_use user) (since_cause h until)) tt
+    chosen (not h.marks.bi) (Some err.NoJournal) (first_cause (in_use user) (since_cause h until)) tt
     (first (in_use user) (since_cause h until) (by_user user) (chosen (nat_lt until.0 h.bi_since.0) (Some (err.Span until.0 h.bi_since.0)) None tt tt))
 
 -- what the head refuses, is refused for that, and nothing changes
@@ -54,7 +54,7 @@ pub refused_so : (f : ℕ) (way : Way) (user : Option Serial) (h : FileHead) (v 
 refused_so f way user h v e is = go e is (subst (λ (o : Option RecoverErr). IfSome o IsOfHead) is (of_head h way user))
   where
     go : (e : RecoverErr) → cause_of h way user ≡ Some e → IsOfHead e → NotRecovered f way user h e v v
-    go err.NotMarked is of = (refl, is)
+    go err.NoJournal is of = (refl, is)
     go err.NoSave is of = (refl, is)
     go (err.InUse serial) is of = (refl, is)
     go (err.Early until save) is of = (refl, is)

@@ -94,7 +94,7 @@ module _ (v : VolumeState) (f : ℕ) (h : FileHead) (es : List Keyed) (name : Li
         ru = refl;
       }
   not_loaded_so (err.Full free needed) s other = absurd other
-  not_loaded_so err.NotMarked s other = absurd other
+  not_loaded_so err.NoJournal s other = absurd other
   not_loaded_so err.NoSave s other = absurd other
   not_loaded_so (err.InUse serial) s other = absurd other
   not_loaded_so (err.Early until save) s other = absurd other

@@ -80,7 +80,7 @@ abbrev pub NotRecovered : (f : ℕ) → Way → (user : Option Serial) → FileH
 NotRecovered f way user h err.Memory v w = LacksMemory way user h v w
 NotRecovered f way user h (err.Full free needed) v w = HasNoRoom f way user h free needed v w
 NotRecovered f way user h (err.Down down) v w = FellRecovering f way user h down v w
-NotRecovered f way user h err.NotMarked v w = IsRefused err.NotMarked way user h v w
+NotRecovered f way user h err.NoJournal v w = IsRefused err.NoJournal way user h v w
 NotRecovered f way user h err.NoSave v w = IsRefused err.NoSave way user h v w
 NotRecovered f way user h (err.InUse serial) v w = IsRefused (err.InUse serial) way user h v w
 NotRecovered f way user h (err.Early until save) v w = IsRefused (err.Early until save) way user h v w
@@ -99,7 +99,7 @@ abbrev pub NotMade : RecoverErr → VolumeState → VolumeState → Type 0
 NotMade err.Memory v w = SameVolume v w
 NotMade (err.Down down) v w = (w.catalog ≡ v.catalog) × Fell down v.store w.store
 NotMade (err.Full free needed) v w = ⊥
-NotMade err.NotMarked v w = ⊥
+NotMade err.NoJournal v w = ⊥
 NotMade err.NoSave v w = ⊥
 NotMade (err.InUse serial) v w = ⊥
 NotMade (err.Early until save) v w = ⊥

@@ -1,5 +1,6 @@
 -- Records that take the place of a file's own, in other blocks of its volume.
 use Rattle.std.specs.Prelude.{◌≡◌, ◌⊎◌, ℕ, ◌+◌, ◌*◌, ◌<◌, ◌≤◌, ◌==◌, ◌||◌, Bool, List, Option, Some, IfSome, MatchOption, IsSomeAnd, None, length, max, slice_set}
+use Rattle.block_disk.specs.Sizes.{content_start}
 use Rattle.careful_write.specs.Down.{CountsDown}
 use Rattle.careful_write.specs.State.{IsIdle, Leaves, StoreState}
 use Rattle.careful_write.specs.Steps.{AgreesOff, Quiet}
@@ -27,7 +28,7 @@ abbrev pub is_replaced : ℕ → FileHead → ℕ → Bool
 is_replaced f h n = in_extent h n || (n == 1 + f)
 
 abbrev pub is_unused : Catalog → ℕ → Bool
-is_unused v n = is_free (data_area (sizes_of v.home)) (all_extents v.heads) (n + 518)
+is_unused v n = is_free (data_area (sizes_of v.home)) (all_extents v.heads) (n + content_start)
 
 -- a run of so many free blocks of a volume
 abbrev pub IsRun : Catalog → (start blocks : ℕ) → Type 0
@@ -101,7 +102,7 @@ abbrev pub NotReplaced : (f : ℕ) → FileHead → List Keyed → RecoverErr �
 NotReplaced f h es err.Memory v w = w ≡ v
 NotReplaced f h es (err.Full free needed) v w = IsTooFull h es free needed v w
 NotReplaced f h es (err.Down down) v w = FellReplacing f h es down v w
-NotReplaced f h es err.NotMarked v w = ⊥
+NotReplaced f h es err.NoJournal v w = ⊥
 NotReplaced f h es err.NoSave v w = ⊥
 NotReplaced f h es (err.InUse serial) v w = ⊥
 NotReplaced f h es (err.Early until save) v w = ⊥
@@ -112,7 +113,7 @@ abbrev pub NotLoaded : FileHead → RecoverErr → StoreState → StoreState →
 NotLoaded h err.Memory old new = new ≡ old
 NotLoaded h (err.Down down) old new = FellIn h down old new
 NotLoaded h (err.Full free needed) old new = ⊥
-NotLoaded h err.NotMarked old new = ⊥
+NotLoaded h err.NoJournal old new = ⊥
 NotLoaded h err.NoSave old new = ⊥
 NotLoaded h (err.InUse serial) old new = ⊥
 NotLoaded h (err.Early until save) old new = ⊥

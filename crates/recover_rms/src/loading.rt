@@ -1,5 +1,6 @@
 // The records that are loaded, in the order of their keys.
 ghost use Rattle.std.specs.Prelude.{◌≡◌, ◌≤◌, ◌<◌, ◌++◌, ◌∷◌, [], true, Some, map as each, length, IfOk, OnOk};
+ghost use Rattle.vms_model.specs.Limits.{record_limit};
 ghost use Rattle.load_pages.specs.Given.{keyed};
 ghost use Rattle.record_files.specs.Any.{Suits};
 ghost use Rattle.recover_rms.specs.Loading.{AreKept, IsKept, KeepsAll, key_behind};
@@ -27,7 +28,7 @@ fn next_key(organization: Organization, count: usize, key: Key) -> Key
 
 // Whether the file may have the record.
 fn may_have(head: &FileHead, key: &Key, bytes: &[u8], record: &mut Record) -> bool
-    requires greatest { head.now.mrs ≤ 8160 }
+    requires greatest { head.now.mrs ≤ record_limit }
     ensures suits { result ≡ true → Suits head.now (key_of key.now) (Some bytes.now) }
     ensures exact { Suits head.now (key_of key.now) (Some bytes.now) → result ≡ true }
 {
@@ -54,7 +55,7 @@ fn keep_record(
     bytes: Vec<u8>,
     record: &mut Record,
 ) -> Result<(), AllocError>
-    requires greatest { head.now.mrs ≤ 8160 }
+    requires greatest { head.now.mrs ≤ record_limit }
     ensures kept { OnOk result (IsKept head.now (key_of key, bytes.items) (each keyed records.old.items) (each keyed records.new.items)) }
     ensures few { length records.old.items ≤ 4294967295 → OnOk result (length records.new.items ≤ 4294967295) }
 {
@@ -77,7 +78,7 @@ pub(crate) fn records_of(
     mut map: RecordMap,
     record: &mut Record,
 ) -> Result<Vec<KeyedRecord>, AllocError>
-    requires greatest { head.now.mrs ≤ 8160 }
+    requires greatest { head.now.mrs ≤ record_limit }
     ensures kept { IfOk result (λ v. AreKept head.now (each keyed v.items)) }
     ensures all { IfOk result (λ v. KeepsAll head.now map (each keyed v.items)) }
     ensures few { IfOk result (λ v. length v.items ≤ 4294967295) }

@@ -1,5 +1,7 @@
 //! A file is recovered.
 ghost use Rattle.std.specs.Prelude.{◌≡◌, ◌≤◌, ◌<◌, ℕ, List, None, Some, IfOk, IfErr, OnOk, length, map as each};
+ghost use Rattle.block_disk.specs.Sizes.{greatest_disk_size, least_disk_size};
+ghost use Rattle.vms_model.specs.Limits.{file_limit, record_limit};
 ghost use Rattle.careful_write.specs.State.{IsIdle};
 ghost use Rattle.change_set.specs.Files.{free_frames};
 ghost use Rattle.file_base.specs.declared.head.FileHead.{FileHead as HeadSaid};
@@ -35,7 +37,7 @@ fn make_records<D: Disk>(
     requires allowed { cause_said head.now way None ≡ None }
     requires readable { IsReadable head.now volume.old.store.disk }
     requires frames { 32 ≤ free_frames volume.old.store.pool }
-    requires greatest { head.now.mrs ≤ 8160 }
+    requires greatest { head.now.mrs ≤ record_limit }
     ensures same { OnOk result (SameVolume volume.old volume.new) }
     ensures kept { IfOk result (λ v. AreKept head.now (each keyed v.items)) }
     ensures few { IfOk result (λ v. length v.items ≤ 4294967295) }
@@ -66,11 +68,11 @@ fn recover_file<D: Disk>(
     user: Option<Serial>,
 ) -> Result<u64, RecoverErr>
     requires there { head_at volume.old.catalog.heads file ≡ Some head.now }
-    requires file { file < 64 }
-    requires whole { length volume.old.catalog.heads ≡ 64 }
+    requires file { file < file_limit }
+    requires whole { length volume.old.catalog.heads ≡ file_limit }
     requires sound { (node : List ℕ) × IsSound node volume.old.store.disk.size volume.old.catalog }
-    requires least { 4096 ≤ volume.old.store.disk.size }
-    requires most { volume.old.store.disk.size ≤ 65536 }
+    requires least { least_disk_size ≤ volume.old.store.disk.size }
+    requires most { volume.old.store.disk.size ≤ greatest_disk_size }
     requires rings { KeepsRings volume.old.catalog.heads file }
     requires idle { IsIdle volume.old.store }
     requires frames { 32 ≤ free_frames volume.old.store.pool }
@@ -102,8 +104,8 @@ pub fn recover<D: Disk>(
 ) -> Result<u64, RecoverErr>
     requires there { (h : HeadSaid) × (head_at volume.old.catalog.heads file ≡ Some h) }
     requires sound { (node : List ℕ) × IsSound node volume.old.store.disk.size volume.old.catalog }
-    requires least { 4096 ≤ volume.old.store.disk.size }
-    requires most { volume.old.store.disk.size ≤ 65536 }
+    requires least { least_disk_size ≤ volume.old.store.disk.size }
+    requires most { volume.old.store.disk.size ≤ greatest_disk_size }
     requires rings { KeepsRings volume.old.catalog.heads file }
     requires idle { IsIdle volume.old.store }
     requires frames { 32 ≤ free_frames volume.old.store.pool }

@@ -1,5 +1,8 @@
 // Records that take the place of a file's own, in other blocks of its volume.
 ghost use Rattle.std.specs.Prelude.{◌≡◌, ◌≤◌, ◌<◌, ◌+◌, ◌*◌, ℕ, List, Some, [], OnOk, OnErr, IfOk, IfErr, IfSome, IfNone, length, map as each, option_map, slice_set};
+ghost use Rattle.block_disk.specs.Sizes.{greatest_disk_size, least_disk_size};
+ghost use Rattle.vms_model.specs.Limits.{file_limit, key_limit, record_limit};
+ghost use Rattle.vms_model.specs.Blocks.{directory_start};
 ghost use Rattle.careful_write.specs.Down.{Counts};
 ghost use Rattle.careful_write.specs.State.{IsEither, IsIdle, Leaves};
 ghost use Rattle.change_set.specs.Files.{IsPlaced, free_frames};
@@ -26,14 +29,14 @@ use volume::{Volume, catalogs_stand_on_the_front};
 
 // Writes the directory block of a file, which has this head from now on.
 fn swap_head<D: Disk>(volume: &mut Volume<D>, file: u8, head: &FileHead) -> Result<(), Down>
-    requires file { file < 64 }
+    requires file { file < file_limit }
     requires idle { IsIdle volume.old.store }
-    requires size { 4096 ≤ volume.old.store.disk.size }
-    ensures current { OnOk result (volume.new.store.current ≡ (with_block (519 + file) (head_block_of head.now) volume.old.store).current) }
+    requires size { least_disk_size ≤ volume.old.store.disk.size }
+    ensures current { OnOk result (volume.new.store.current ≡ (with_block (directory_start + file) (head_block_of head.now) volume.old.store).current) }
     ensures idle { OnOk result (IsIdle volume.new.store) }
     ensures catalog { volume.new.catalog ≡ with_head file head.now volume.old.catalog }
-    ensures holds { Holds volume.old → IfSome (with_block (519 + file) (head_block_of head.now) volume.old.store).current (TellsCatalog (with_head file head.now volume.old.catalog)) }
-    ensures down { OnErr result (Leaves (IsEither volume.old.store.current (with_block (519 + file) (head_block_of head.now) volume.old.store).current) volume.new.store.disk) }
+    ensures holds { Holds volume.old → IfSome (with_block (directory_start + file) (head_block_of head.now) volume.old.store).current (TellsCatalog (with_head file head.now volume.old.catalog)) }
+    ensures down { OnErr result (Leaves (IsEither volume.old.store.current (with_block (directory_start + file) (head_block_of head.now) volume.old.store).current) volume.new.store.disk) }
     ensures counts { Counts result volume.old.store.disk volume.new.store.disk }
     ensures pool { volume.new.store.pool ≡ volume.old.store.pool }
 {
@@ -66,9 +69,9 @@ fn room_for<D: Disk>(volume: &Volume<D>, needed: u64) -> Result<u32, u32>
 fn wanted(head: &FileHead, records: &[KeyedRecord]) -> u64
     requires one { 1 ≤ head.now.bucket }
     requires blocks { head.now.bucket ≤ 16 }
-    requires key { head.now.key_size ≤ 64 }
+    requires key { head.now.key_size ≤ key_limit }
     requires kept { AreKept head.now (each keyed records.now) }
-    requires greatest { head.now.mrs ≤ 8160 }
+    requires greatest { head.now.mrs ≤ record_limit }
     requires few { length records.now ≤ 4294967295 }
     ensures is { result ≡ wanted_buckets head.now (each keyed records.now) }
     ensures most { result ≤ 12884901892 }
@@ -109,11 +112,11 @@ pub(crate) fn replace_records<D: Disk>(
     records: &[KeyedRecord],
 ) -> Result<u64, RecoverErr>
     requires there { head_at volume.old.catalog.heads file ≡ Some head.now }
-    requires file { file < 64 }
-    requires whole { length volume.old.catalog.heads ≡ 64 }
+    requires file { file < file_limit }
+    requires whole { length volume.old.catalog.heads ≡ file_limit }
     requires sound { (node : List ℕ) × IsSound node volume.old.store.disk.size volume.old.catalog }
-    requires least { 4096 ≤ volume.old.store.disk.size }
-    requires most { volume.old.store.disk.size ≤ 65536 }
+    requires least { least_disk_size ≤ volume.old.store.disk.size }
+    requires most { volume.old.store.disk.size ≤ greatest_disk_size }
     requires rings { KeepsRings volume.old.catalog.heads file }
     requires idle { IsIdle volume.old.store }
     requires frames { 32 ≤ free_frames volume.old.store.pool }

@@ -26,7 +26,7 @@ use Rattle.volume_format.specs.Home.{sizes_of}
 use Rattle.run_model.specs.Answers.{blocks_recovered, records_recovered, start_of, way_of}
 use Rattle.run_model.specs.World.{File, Node, Recovers, acted, buckets_loaded, lowest_free, recovered_file, state_of}
 use Rattle.world_laws.proofs.OrderedLemmas.{recovers_keep_order}
-use Rattle.directory_model.specs.Files.{AreFiles, StandsIn, file_at, head_at}
+use Rattle.directory_model.specs.Files.{AgreesOnFile, AreFiles, file_at, head_at}
 use Rattle.directory_model.specs.Laws.{in_blocks}
 use Rattle.directory_model.specs.Restoring.{AreRestorable, CanRestore}
 use Rattle.directory_model.proofs.Apart.{extent_holds, lie_apart, number_low, writes_apart}
@@ -123,7 +123,7 @@ module _ (s : UnitsState) (v : VolumeState) (n : Node) (f : ℕ) (h new : FileHe
   whole_mid : EachWhole mid
   whole_mid = whole_set content (1 + f) bytes stands.whole (whole (1 + f) (let size = replaces.others.size in let less = within in omega (arith, size, less)))
 
-  agree_mid : (g : ℕ) (k : FileHead) → head_at heads g ≡ Some k → StandsIn k content mid
+  agree_mid : (g : ℕ) (k : FileHead) → head_at heads g ≡ Some k → AgreesOnFile k content mid
   agree_mid = extents_behind v.catalog.home.node v.store.disk.size v.catalog stands.order.sound content (1 + f) bytes (let below = low in omega (arith, below)) whole_mid stands.order.heads
 
   off : AgreesOff (in_blocks new.start (new.alloc * new.bucket)) mid b
@@ -135,7 +135,7 @@ module _ (s : UnitsState) (v : VolumeState) (n : Node) (f : ℕ) (h new : FileHe
     ];
   }
 
-  agree_b : (g : ℕ) (k : FileHead) → head_at heads g ≡ Some k → StandsIn k mid b
+  agree_b : (g : ℕ) (k : FileHead) → head_at heads g ≡ Some k → AgreesOnFile k mid b
   agree_b = writes_apart.in_free (data_area (sizes_of v.catalog.home)) heads new.start (new.alloc * new.bucket) mid b (fitting s v n f h name file content stands) run off whole
 
   files_mid : AreFiles mid heads n.durable.directory

@@ -14,7 +14,7 @@ use Rattle.records_model.specs.Records.{Records}
 use Rattle.records_model.specs.History.{LiveChanges, current}
 use Rattle.recovery_model.specs.File.{ImageJournal, next_span, renewed, renewed_if_on}
 use Rattle.run_model.specs.World.{Node, Carried, File, Recovers, acted, carried_recovered, recovered_file}
-use Rattle.directory_model.specs.Files.{AreFiles, IsCarried, IsFile, IsHeadOf, IsNamed, StandsCarried, file_at, organized_by}
+use Rattle.directory_model.specs.Files.{AgreesOnCarried, AreFiles, IsCarried, IsFile, IsHeadOf, IsNamed, file_at, organized_by}
 use Rattle.directory_model.specs.Laws.{SameBut}
 use Rattle.directory_model.proofs.Acts.{same_there}
 use Rattle.directory_model.proofs.Finding.{finds_files}
@@ -40,7 +40,7 @@ since_told : (marked on : Bool) (greatest since : ℕ) (old new : Moment) → on
 since_told true on greatest since old new is same told = ap (λ b. if b then greatest else since) is ∙ sym told
 since_told false on greatest since old new is same told = ap (λ b. if b then greatest else since) is ∙ same ∙ sym (ap (λ (m : Moment). m.0) told)
 
-carried_renewed : (a b : List (List ℕ)) (f greatest : ℕ) (h new : FileHead) (r : Carried) → IsRecoveredHead greatest h new → StandsCarried h a b → IsCarried a f h r → IsCarried b f new (carried_recovered greatest r)
+carried_renewed : (a b : List (List ℕ)) (f greatest : ℕ) (h new : FileHead) (r : Carried) → IsRecoveredHead greatest h new → AgreesOnCarried h a b → IsCarried a f h r → IsCarried b f new (carried_recovered greatest r)
 carried_renewed a b f greatest h new r is stands has = record {
   after = subst (λ (k : FileHead). HasSide b k.marks.ai new.ai f (form_of k) (renewed_if_on r.after)) (sym is.is) (side_renewed a b h.marks.ai h.ai new.ai f (form_of h) r.after has.after stands.after is.after);
   before = subst (λ (k : FileHead). HasSide b k.marks.bi new.bi f (form_of k) (renewed_if_on r.before)) (sym is.is) (side_renewed a b h.marks.bi h.bi new.bi f (form_of h) r.before has.before stands.before is.before);

@@ -13,7 +13,7 @@ use Rattle.volume.specs.Limits.{data_area}
 use Rattle.volume.specs.State.{VolumeState}
 use Rattle.volume_format.specs.Home.{sizes_of}
 use Rattle.run_model.specs.World.{Node}
-use Rattle.directory_model.specs.Files.{Fit, StandsIn, head_at}
+use Rattle.directory_model.specs.Files.{AgreesOnFile, Fit, head_at}
 use Rattle.directory_model.specs.Laws.{in_blocks}
 use Rattle.directory_model.proofs.Apart.{file_stands_in, long, number_low, on_disk}
 use Rattle.directory_model.proofs.Standing.{stands_on_extents}
@@ -76,7 +76,7 @@ unused s v w n content b kept order was agrees same size told whole = record {
     fitting : Fit (data_area (sizes_of v.catalog.home)) v.catalog.heads
     fitting = fit v.catalog.home.node v.store.disk.size v.catalog order.sound order.heads
 
-    agree : (g : ℕ) (other : FileHead) → head_at v.catalog.heads g ≡ Some other → StandsIn other a b
+    agree : (g : ℕ) (other : FileHead) → head_at v.catalog.heads g ≡ Some other → AgreesOnFile other a b
     agree g other there = file_stands_in (data_area (sizes_of v.catalog.home)) v.catalog.heads fitting a b off.size whole g other there
         (λ l start blocks k less is in_it. off.others k (in_use v.catalog fitting (4 * g + l) start blocks k (let below = number_low (data_area (sizes_of v.catalog.home)) v.catalog.heads fitting g other there in omega (arith, below, less)) is in_it))
 

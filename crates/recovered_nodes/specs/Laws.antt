@@ -1,6 +1,8 @@
 -- What holds of a node and its volume over a recovery of a file.
 use Rattle.std.specs.Prelude.{◌≡◌, ◌≤◌, ◌+◌, ◌*◌, ℕ, List, Option, Some, None, length, option_map}
 use Rattle.std.specs.FinMap.{entries}
+use Rattle.block_disk.specs.Sizes.{content_start}
+use Rattle.vms_model.specs.Limits.{file_limit}
 use Rattle.careful_write.specs.State.{EachWhole}
 use Rattle.careful_write.specs.Steps.{AgreesOff}
 use Rattle.file_base.specs.declared.head.FileHead.{FileHead}
@@ -39,7 +41,7 @@ pub record StandsThere (s : UnitsState) (v : VolumeState) (n : Node) (f : ℕ) (
   pub found : find_file name n.durable.directory ≡ Some file
   pub told : v.store.current ≡ Some content
   pub whole : EachWhole content
-  pub long : length content + 518 ≡ v.store.disk.size
+  pub long : length content + content_start ≡ v.store.disk.size
 
 -- a recovery that the head does not refuse is the one that the statement asks for
 pub record IsAllowed (h : FileHead) (way : Way) (r : Recovery) : Type 0 where
@@ -80,7 +82,7 @@ pub record RecoversNodes : Type 0 where
       first_to_change f s.begun ≡ None → ReplacesIn f v.catalog h (records_made h r file) content after new → w.catalog ≡ with_head f new v.catalog → w.store.disk.size ≡ v.store.disk.size → w.store.current ≡ Some after → EachWhole after →
       IsKept s w (acted (recovery_act n name r file) n)
   -- and the volume is sound still
-  pub sound : (node : List ℕ) (size : ℕ) (v : Catalog) (f : ℕ) (h new : FileHead) (es : List Keyed) → IsSound node size v → length v.heads ≡ 64 → head_at v.heads f ≡ Some h → AreInRings h → IsHeadWith v h es new → IsSound node size (with_head f new v)
+  pub sound : (node : List ℕ) (size : ℕ) (v : Catalog) (f : ℕ) (h new : FileHead) (es : List Keyed) → IsSound node size v → length v.heads ≡ file_limit → head_at v.heads f ≡ Some h → AreInRings h → IsHeadWith v h es new → IsSound node size (with_head f new v)
   -- what a disk that went down meanwhile leaves is what the node had, or has after the recovery
   pub left : (s : UnitsState) (v : VolumeState) (n : Node) (f : ℕ) (h : FileHead) (name : List ℕ) (file : File) (content image : List (List ℕ)) (r : Recovery) (way : Way) → StandsThere s v n f h name file content → IsAllowed h way r →
       first_to_change f s.begun ≡ None → AreInRings h → IsOldOrNew f v.catalog h (records_made h r file) content image → IsEitherOf (fallen (Some (recovery_act n name r file)) n) image

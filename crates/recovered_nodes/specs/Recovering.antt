@@ -10,7 +10,7 @@ use Rattle.record_files.specs.Any.{map_of, IsLaidOut}
 use Rattle.records_model.specs.Records.{Records}
 use Rattle.recovery_model.specs.File.{next_span}
 use Rattle.run_model.specs.World.{Node, File, Recovers, acted, layout_loaded, sizes_of}
-use Rattle.directory_model.specs.Files.{AreFiles, IsNamed, StandsCarried, file_at, layout_of}
+use Rattle.directory_model.specs.Files.{AgreesOnCarried, AreFiles, IsNamed, file_at, layout_of}
 use Rattle.directory_model.specs.Laws.{SameBut}
 
 -- a journal begins anew in its ring, at a whole block behind its end, where the file has it
@@ -40,4 +40,4 @@ pub record IsLoadedWith (m : Records) (file : File) (content : List (List ℕ)) 
 -- Then the files are those of the world once the file, which no unsettled branch changed, is recovered. Its rings and its save stand.
 abbrev pub RecoveriesKeepFiles : Type 0
 RecoveriesKeepFiles = (a b : List (List ℕ)) (heads : List (Option FileHead)) (n : Node) (f : ℕ) (h new : FileHead) (name : List ℕ) (file : File) (m : Records) → AreFiles a heads n.durable.directory → IsNamed heads f h name → file_at n.durable.directory f ≡ Some file →
-    file.history.live ≡ [] → IsRecoveredHead n.durable.greatest h new → IsLoadedWith m file b new → StandsCarried h a b → SameBut f heads a b → AreFiles b (slice_set heads f (Some new)) (acted (Recovers name new.start new.alloc m) n).durable.directory
+    file.history.live ≡ [] → IsRecoveredHead n.durable.greatest h new → IsLoadedWith m file b new → AgreesOnCarried h a b → SameBut f heads a b → AreFiles b (slice_set heads f (Some new)) (acted (Recovers name new.start new.alloc m) n).durable.directory

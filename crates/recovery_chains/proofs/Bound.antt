@@ -26,7 +26,7 @@ use Rattle.run_agreement.proofs.Openings.{reached_by, told_settled}
 use Rattle.run_agreement.proofs.Resting.{found_of}
 use Rattle.world_laws.proofs.LogLemmas.{prepared_branch}
 use Rattle.run_laws.proofs.OneBranch.{IsDisk, in_order}
-use Rattle.run_chains.proofs.Next.{in_base}
+use Rattle.run_laws.proofs.ToldImages.{in_base}
 
 -- A world of the protocol that shows the end of a run.
 module _ (o : Opening) (agrees : IsAgreeing o) (p : protocol.World) (goes : Goes (raised o) p) (r : Resolution) (closing : World) (shows : Shows o r closing p) where

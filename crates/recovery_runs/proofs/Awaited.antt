@@ -39,8 +39,8 @@ use Rattle.world_laws.specs.Nodes.{IsKeptDisk}
 use Rattle.world_laws.specs.Running.{history_of}
 use Rattle.world_laws.proofs.IdLemmas.{id_is}
 use Rattle.run_chains.specs.Chains.{is_made, made_by, made_here}
-use Rattle.run_chains.proofs.Next.{in_base}
-use Rattle.run_chains.proofs.Told.{IsToldSo, told_found, told_so}
+use Rattle.run_laws.proofs.ToldImages.{in_base, told_found}
+use Rattle.run_chains.proofs.Told.{IsToldSo, told_so}
 use Rattle.run_laws.specs.Accounts.{made_anew}
 use Rattle.run_laws.specs.Laws.{AgreedPromises}
 use Rattle.run_laws.specs.Promises.{left_at, settlements_of}

@@ -24,7 +24,7 @@ given nodes disks es closing opens legal stand waits lawful whole before node fi
     let of : AreLawful (committed_in closing) waits (opened nodes disks) (there.later ++ there.entry ∷ before) = subst (AreLawful (committed_in closing) waits (opened nodes disks)) there.stands lawful in
     let gaps : AreWhole (opened nodes disks) (there.later ++ there.entry ∷ before) = subst (AreWhole (opened nodes disks)) there.stands whole in
     let shown = shown_recoveries_hold nodes disks [] there.later before there.entry split.0 closing (committed_in closing) waits node file way count opens of gaps only there.said lines split.1 split.2 in
-    (shown.0, split.0, shown.1, split.1, split.2, shown.2)
+    (shown.0, split.0, shown.1, shown.2, split.2, shown.3)
 
 -- files that agree have no gaps
 pub whole_of : (opening : World) (es : List Entry) → FilesAgree opening es → AreWhole opening es
@@ -39,7 +39,7 @@ recovery_promises_hold promised nodes disks es closing opens legal = record {
       (lawful nodes disks es closing opens apart legal a files) (whole_of (opened nodes disks) es files);
   answered = λ before node file way there.
       let split = legal_parts (opened nodes disks) there.later (there.entry ∷ before) closing (subst (λ xs. Legal (opened nodes disks) xs closing) there.stands legal) in
-      (split.1.0, split.0, split.1.1, split.1, is_answered split.1.0 split.0 node file way _ there.entry.lines there.said split.1.2);
+      (split.1.0, split.0, split.1.1, split.1.2, is_answered split.1.0 split.0 node file way _ there.entry.lines there.said split.1.2);
   leaves = λ may waits next lawful only ends fewer. next_files_hold nodes disks es closing may waits next opens lawful only ends legal fewer;
   whole = λ may waits lawful whole only ends. next_files_whole nodes disks es closing may waits opens lawful whole only ends legal;
   lasts = λ may waits next lawful stands only fewer. next_last_images_hold nodes disks es closing may waits next opens lawful stands only legal fewer;

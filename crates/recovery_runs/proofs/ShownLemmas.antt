@@ -137,6 +137,7 @@ shown_recoveries_hold nodes disks later after es e v closing may waits node file
     let found_whole : w.shared.in_use ≡ true → AreWhole (opened nodes disks) es = λ used name n left. whole name n (stays used name n left) in (
       w,
       legal.1,
+      legal.2,
       shown w v node file way count step (λ n f found up there first.
           let used = up_used w sound node n found up in (
             recoveries_hold nodes disks later (after ++ e ∷ []) es w closing may waits opens (found_lawful used) before legal.1 behind node n found up file way f there first,

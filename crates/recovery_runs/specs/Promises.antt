@@ -9,7 +9,7 @@ use Rattle.commit_protocol.specs.Messages.{LogRecord, same_id}
 use Rattle.commit_protocol.specs.Opening.{IsAgreeing, Opening, commits_in, image_at}
 use Rattle.recovery_model.specs.Opening.{IsOpening}
 use Rattle.run_model.specs.World.{Node, Sound, World, find_node, state_of}
-use Rattle.run_model.specs.Transcript.{Entry, InAllRuns, Legal}
+use Rattle.run_model.specs.Transcript.{Entry, InAllRuns, Legal, Turn}
 use Rattle.world_laws.specs.Running.{AllFound}
 use Rattle.run_agreement.specs.Laws.{NamesApart, opening_told}
 use Rattle.run_laws.specs.Anew.{AreKnownOrAnew}
@@ -27,10 +27,11 @@ pub record RecoversThere (es before : List Entry) (node file : List ℕ) (way : 
   pub stands : es ≡ later ++ entry ∷ before
   pub said : reading entry.source.text ≡ Says (At node (Recover file way))
 
--- A recovery that shows to have succeeded gave the file just the records of its moment, and showed their number.
+-- A recovery that shows to have succeeded gave the file just the records of its moment, and showed their number: so it is between a world to which the entries before it
+-- lead and one to which its statement leads from there.
 abbrev pub RecoveriesGiven : World → List Entry → World → Type 0
 RecoveriesGiven opening es closing = (before : List Entry) (node file : List ℕ) (way : Recovery) (count : ℕ) (there : RecoversThere es before node file way) → there.entry.lines ≡ NormalCount count ∷ [] →
-    (w : World) × (v : World) × Legal opening before w × Legal opening (there.entry ∷ before) v × Legal v there.later closing × HasRecovered w v node file way count
+    (w : World) × (v : World) × Legal opening before w × Turn w (reading there.entry.source.text) there.entry.lines v × Legal v there.later closing × HasRecovered w v node file way count
 
 -- So it is where each file that the run finds agrees with its journals and its save, and with what the run commits, whichever unsettled branches may yet commit; and where
 -- no sequential file that it finds has a gap.
@@ -49,10 +50,10 @@ FilesAgree opening es = (node : List ℕ) (n : Node) → left_at node es opening
 abbrev pub RecoveriesAgree : World → List Entry → World → Type 0
 RecoveriesAgree opening es closing = NamesApart opening.nodes → AreKnownOrAnew es opening.nodes → IsAgreeing (opening_told opening.nodes es) → FilesAgree opening es → RecoveriesGiven opening es closing
 
--- Each recovery succeeds, or is refused for the cause that its line names, or memory is missing, or the disk of its node fails.
+-- Each recovery succeeds, or is refused for the cause that its line names, or memory is missing, or the disk of its node fails; between two such worlds.
 abbrev pub RecoveriesAreAnswered : World → List Entry → Type 0
 RecoveriesAreAnswered opening es = (before : List Entry) (node file : List ℕ) (way : Recovery) (there : RecoversThere es before node file way) →
-    (w : World) × (v : World) × Legal opening before w × Legal opening (there.entry ∷ before) v × IsAnswered w v node file way there.entry.lines
+    (w : World) × (v : World) × Legal opening before w × Turn w (reading there.entry.source.text) there.entry.lines v × IsAnswered w v node file way there.entry.lines
 
 -- Let the files that the run finds agree so with the branches that may commit in it or in an act that is under way at its end, and let some of these be all that may yet
 -- commit in the next run. Then the files that this one finds agree with their journals and saves again, whatever turned out of such an act: it took place, it did not, or a

@@ -17,7 +17,7 @@ use Rattle.recovery_model.specs.Opening.{IsOpening, MayCommit, as_found}
 use Rattle.recovery_model.specs.Recovery.{records_by}
 use Rattle.run_model.specs.World.{Act, DiskCounts, File, Node, Settlement, Sound, Tables, World, acted, find_file, find_node, opened, state_of}
 use Rattle.run_model.specs.Answers.{refused_before_reading, service, way_of}
-use Rattle.run_model.specs.Transcript.{AreOpening, Entry, Legal}
+use Rattle.run_model.specs.Transcript.{AreOpening, Entry, Legal, Turn}
 use Rattle.world_laws.specs.Running.{AllFound}
 use Rattle.run_laws.specs.Promises.{AbortsStand, left_at, settlements_of}
 use Rattle.run_chains.specs.Reopenings.{IsReopened}
@@ -98,11 +98,11 @@ pub record HasRecovered (w v : World) (node file : List ℕ) (way : Recovery) (c
   pub gives : current new.history ≡ records_by (way_of way) (state_of old)
   pub counted : count ≡ length (entries (current new.history))
 
--- So it is of each in a transcript.
+-- So it is of each in a transcript, from a world before it that its statement leads to this one.
 abbrev pub ShownRecoveriesHold : Type 0
 ShownRecoveriesHold = (nodes : List Node) (disks : List DiskCounts) (later after es : List Entry) (e : Entry) (v closing : World) (may waits : Id → Bool) (node file : List ℕ) (way : Recovery) (count : ℕ) → AreOpening nodes → AreLawful may waits (opened nodes disks) (after ++ e ∷ es) →
     AreWhole (opened nodes disks) (after ++ e ∷ es) → MayOnly may (opened nodes disks) (later ++ (after ++ e ∷ es)) closing → reading e.source.text ≡ Says (At node (Recover file way)) → e.lines ≡ NormalCount count ∷ [] → Legal (opened nodes disks) (e ∷ es) v → Legal v after closing →
-    (w : World) × Legal (opened nodes disks) es w × HasRecovered w v node file way count
+    (w : World) × Legal (opened nodes disks) es w × Turn w (reading e.source.text) e.lines v × HasRecovered w v node file way count
 
 -- What an act that is under way at the end commits may commit too.
 abbrev pub EndMay : (may : Id → Bool) → World → Type 0

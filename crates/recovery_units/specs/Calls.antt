@@ -1,6 +1,7 @@
 -- What the calls promise, in the words of the world: each is an act of its node, or one of the refusals of the world.
 use Rattle.std.specs.Prelude.{◌≡◌, ◌⊎◌, ◌≤◌, ◌+◌, ◌*◌, ℕ, zero, suc, List, [], ◌∷◌, ◌++◌, true, false, length, map, nat_lt, Option, Some, None, option_map}
 use Rattle.block_disk.specs.Disk.{DiskState}
+use Rattle.vms_model.specs.Limits.{change_limit, lock_limit}
 use Rattle.file_base.specs.declared.head.FileHead.{FileHead}
 use Rattle.file_base.specs.declared.head.Organization.TheVariants.{Indexed}
 use Rattle.transcript_model.specs.Lines as line
@@ -25,7 +26,7 @@ use Rattle.volume.specs.State.{VolumeState}
 use Rattle.unit_laws.specs.Journal.{RecoveryUnit}
 use Rattle.run_model.specs.World.{Node, File, Act, Settlement, Tables, Directs, acted, booted, fallen, find_branch, find_file, is_durable, next_id, next_moment, prepared_left, reason_of, settlement, settlement_of}
 use Rattle.run_model.specs.Operations.{first_of, refused_if, form_refused, file_full, keys_asked, keys_held, changes_of, operation_answer}
-use Rattle.run_model.specs.Answers.{is_marked, needs_unit, keys_refused, found_refused, more_changes, more_locks, images_full, journal_full, operation_act, change_limit, lock_limit, commit_settlement, left_active, unit_key}
+use Rattle.run_model.specs.Answers.{is_marked, needs_unit, keys_refused, found_refused, more_changes, more_locks, images_full, journal_full, operation_act, commit_settlement, left_active, unit_key}
 use Rattle.directory_model.specs.Files.{IsNamed, head_at}
 use Rattle.volume_model.specs.Volumes.{HasDisk, LeavesVolume}
 use Rattle.record_operations.specs.declared.ops.RecordOp.{RecordOp}
@@ -80,7 +81,7 @@ cause_line cause.BadParameter = line.BadParameter
 cause_line cause.BadOperation = line.BadOperation
 cause_line cause.BadRecordNumber = line.BadRecordNumber
 cause_line cause.BadRecordSize = line.BadRecordSize
-cause_line cause.NotMarked = line.NotMarked
+cause_line cause.NotForUnits = line.NotForUnits
 cause_line cause.NeedsUnit = line.NeedsUnit
 cause_line (cause.Locked by) = line.RecordLocked by
 cause_line cause.RecordExists = line.RecordExists
@@ -102,11 +103,11 @@ refusal_of e = option_map cause_line (cause_of e)
 -- Operations of a branch.
 
 -- What refuses an operation of a branch: before a record is read, and by what is read or by a quota.
-abbrev pub unit_early : Node → Branch → (name : List ℕ) → File → Operation → Option Line
-unit_early n b name f op = first_of (form_refused f op) (first_of (is_marked f) (keys_refused n (Some b.key.serial) name (keys_asked f op)))
+abbrev pub unit_refused_before_reading : Node → Branch → (name : List ℕ) → File → Operation → Option Line
+unit_refused_before_reading n b name f op = first_of (form_refused f op) (first_of (is_marked f) (keys_refused n (Some b.key.serial) name (keys_asked f op)))
 
-abbrev pub unit_late : Node → Branch → (name : List ℕ) → File → Operation → Option Line
-unit_late n b name f op = first_of (found_refused n (Some b.key.serial) name op f) (first_of (more_changes n (changes_of f op) b)
+abbrev pub unit_refused_after_reading : Node → Branch → (name : List ℕ) → File → Operation → Option Line
+unit_refused_after_reading n b name f op = first_of (found_refused n (Some b.key.serial) name op f) (first_of (more_changes n (changes_of f op) b)
     (first_of (more_locks n name (keys_held f op)) (first_of (file_full f op) (first_of (journal_full n name (changes_of f op) b) (images_full b.key.serial (changes_of f op) f)))))
 
 -- What is asked of a node that stands on the volume and is up, of the branch of this serial, which is not prepared, and the file of this number.
@@ -154,30 +155,30 @@ unit_act b name f op = operation_act b name (changes_of f op) (keys_held f op)
 
 abbrev pub ChangesOk : (serial : Id) → RecordOp → (bytes : List ℕ) → (position : ℕ) → UnitsState → VolumeState → UnitsState → VolumeState → Type 0
 ChangesOk serial op bytes position s v t w = (n : Node) (name : List ℕ) (file : File) (b : Branch) → IsAsked serial (file_in op) s v n name file b →
-    KeepsUp (unit_early n b name file (change_said op bytes)) (unit_late n b name file (change_said op bytes)) (unit_act b name file (change_said op bytes)) n →
-    IsDone (unit_early n b name file (change_said op bytes)) (unit_late n b name file (change_said op bytes)) (unit_act b name file (change_said op bytes)) (operation_answer file (change_said op bytes)) (position_line position) n t w
+    KeepsUp (unit_refused_before_reading n b name file (change_said op bytes)) (unit_refused_after_reading n b name file (change_said op bytes)) (unit_act b name file (change_said op bytes)) n →
+    IsDone (unit_refused_before_reading n b name file (change_said op bytes)) (unit_refused_after_reading n b name file (change_said op bytes)) (unit_act b name file (change_said op bytes)) (operation_answer file (change_said op bytes)) (position_line position) n t w
 
 abbrev pub ChangesErr : (serial : Id) → RecordOp → (bytes : List ℕ) → RecErr → UnitsState → VolumeState → VolumeState → Type 0
 ChangesErr serial op bytes e s v w = (n : Node) (name : List ℕ) (file : File) (b : Branch) → IsAsked serial (file_in op) s v n name file b →
-    KeepsUp (unit_early n b name file (change_said op bytes)) (unit_late n b name file (change_said op bytes)) (unit_act b name file (change_said op bytes)) n →
-    IsNotDone e (unit_early n b name file (change_said op bytes)) (unit_late n b name file (change_said op bytes)) (unit_act b name file (change_said op bytes)) n w.store.disk
+    KeepsUp (unit_refused_before_reading n b name file (change_said op bytes)) (unit_refused_after_reading n b name file (change_said op bytes)) (unit_act b name file (change_said op bytes)) n →
+    IsNotDone e (unit_refused_before_reading n b name file (change_said op bytes)) (unit_refused_after_reading n b name file (change_said op bytes)) (unit_act b name file (change_said op bytes)) n w.store.disk
 
 -- what is read is held from then on
 abbrev pub ReadsOk : (serial : Id) → ReadOp → (found : Key) → (bytes : List ℕ) → UnitsState → VolumeState → UnitsState → VolumeState → Type 0
 ReadsOk serial op found bytes s v t w = (n : Node) (name : List ℕ) (file : File) (b : Branch) → IsAsked serial (read_file_in op) s v n name file b →
-    IsDone (unit_early n b name file (read_said op)) (unit_late n b name file (read_said op)) (unit_act b name file (read_said op)) (operation_answer file (read_said op)) (record_line op found bytes) n t w
+    IsDone (unit_refused_before_reading n b name file (read_said op)) (unit_refused_after_reading n b name file (read_said op)) (unit_act b name file (read_said op)) (operation_answer file (read_said op)) (record_line op found bytes) n t w
 
 abbrev pub ReadsErr : (serial : Id) → ReadOp → RecErr → UnitsState → VolumeState → VolumeState → Type 0
 ReadsErr serial op e s v w = (n : Node) (name : List ℕ) (file : File) (b : Branch) → IsAsked serial (read_file_in op) s v n name file b →
-    IsNotDone e (unit_early n b name file (read_said op)) (unit_late n b name file (read_said op)) (unit_act b name file (read_said op)) n w.store.disk
+    IsNotDone e (unit_refused_before_reading n b name file (read_said op)) (unit_refused_after_reading n b name file (read_said op)) (unit_act b name file (read_said op)) n w.store.disk
 
 -- Operations without a branch.
 
-abbrev pub alone_early : Node → (name : List ℕ) → File → Operation → Option Line
-alone_early n name f op = first_of (form_refused f op) (first_of (needs_unit op f) (keys_refused n None name (keys_asked f op)))
+abbrev pub alone_refused_before_reading : Node → (name : List ℕ) → File → Operation → Option Line
+alone_refused_before_reading n name f op = first_of (form_refused f op) (first_of (needs_unit op f) (keys_refused n None name (keys_asked f op)))
 
-abbrev pub alone_late : Node → (name : List ℕ) → File → Operation → Option Line
-alone_late n name f op = first_of (found_refused n None name op f) (first_of (refused_if (nat_lt change_limit (length (changes_of f op))) (line.QuotaExceeded line.Changes change_limit))
+abbrev pub alone_refused_after_reading : Node → (name : List ℕ) → File → Operation → Option Line
+alone_refused_after_reading n name f op = first_of (found_refused n None name op f) (first_of (refused_if (nat_lt change_limit (length (changes_of f op))) (line.QuotaExceeded line.Changes change_limit))
     (first_of (file_full f op) (images_full (next_id n) (changes_of f op) f)))
 
 pub record IsAskedAlone (f : ℕ) (s : UnitsState) (v : VolumeState) (n : Node) (name : List ℕ) (file : File) : Type 0 where
@@ -194,13 +195,13 @@ pub record IsSeen (early late : Option Line) (answer told : Line) : Type 0 where
 
 abbrev pub LooksOk : ReadOp → (found : Key) → (bytes : List ℕ) → UnitsState → VolumeState → Type 0
 LooksOk op found bytes s v = (n : Node) (name : List ℕ) (file : File) → IsAskedAlone (read_file_in op) s v n name file →
-    IsSeen (alone_early n name file (read_said op)) (alone_late n name file (read_said op)) (operation_answer file (read_said op)) (record_line op found bytes)
+    IsSeen (alone_refused_before_reading n name file (read_said op)) (alone_refused_after_reading n name file (read_said op)) (operation_answer file (read_said op)) (record_line op found bytes)
 
 abbrev pub LooksErr : ReadOp → RecErr → UnitsState → VolumeState → VolumeState → Type 0
 LooksErr op e s v w = (n : Node) (name : List ℕ) (file : File) → IsAskedAlone (read_file_in op) s v n name file →
     elim (refusal_of e) [
-      | Some l ↦ first_of (alone_early n name file (read_said op)) (alone_late n name file (read_said op)) ≡ Some l
-      | None ↦ (alone_early n name file (read_said op) ≡ None) × HasDisk (fallen None n) w.store.disk
+      | Some l ↦ first_of (alone_refused_before_reading n name file (read_said op)) (alone_refused_after_reading n name file (read_said op)) ≡ Some l
+      | None ↦ (alone_refused_before_reading n name file (read_said op) ≡ None) × HasDisk (fallen None n) w.store.disk
     ]
 
 -- A read of a key of an indexed file reads no more blocks than there are in one bucket of each level of the file's tree.
@@ -214,13 +215,13 @@ direct_act n name f op = Directs name (changes_of f op) (commit_settlement n (ne
 
 abbrev pub DirectsOk : (tid : Id) → (clock : ℕ) → RecordOp → (bytes : List ℕ) → (position moment : ℕ) → UnitsState → VolumeState → VolumeState → Type 0
 DirectsOk tid clock op bytes position moment s v w = (n : Node) (name : List ℕ) (file : File) → IsAskedAlone (file_in op) s v n name file → next_id n ≡ tid → n.clock ≡ clock →
-    KeepsUp (alone_early n name file (change_said op bytes)) (alone_late n name file (change_said op bytes)) (direct_act n name file (change_said op bytes)) n →
-    IsDone (alone_early n name file (change_said op bytes)) (alone_late n name file (change_said op bytes)) (direct_act n name file (change_said op bytes)) (operation_answer file (change_said op bytes)) (position_line position) n s w × (moment ≡ next_moment n)
+    KeepsUp (alone_refused_before_reading n name file (change_said op bytes)) (alone_refused_after_reading n name file (change_said op bytes)) (direct_act n name file (change_said op bytes)) n →
+    IsDone (alone_refused_before_reading n name file (change_said op bytes)) (alone_refused_after_reading n name file (change_said op bytes)) (direct_act n name file (change_said op bytes)) (operation_answer file (change_said op bytes)) (position_line position) n s w × (moment ≡ next_moment n)
 
 abbrev pub DirectsErr : (tid : Id) → (clock : ℕ) → RecordOp → (bytes : List ℕ) → RecErr → UnitsState → VolumeState → VolumeState → Type 0
 DirectsErr tid clock op bytes e s v w = (n : Node) (name : List ℕ) (file : File) → IsAskedAlone (file_in op) s v n name file → next_id n ≡ tid → n.clock ≡ clock →
-    KeepsUp (alone_early n name file (change_said op bytes)) (alone_late n name file (change_said op bytes)) (direct_act n name file (change_said op bytes)) n →
-    IsNotDone e (alone_early n name file (change_said op bytes)) (alone_late n name file (change_said op bytes)) (direct_act n name file (change_said op bytes)) n w.store.disk
+    KeepsUp (alone_refused_before_reading n name file (change_said op bytes)) (alone_refused_after_reading n name file (change_said op bytes)) (direct_act n name file (change_said op bytes)) n →
+    IsNotDone e (alone_refused_before_reading n name file (change_said op bytes)) (alone_refused_after_reading n name file (change_said op bytes)) (direct_act n name file (change_said op bytes)) n w.store.disk
 
 -- Acts of the table. Nothing refuses one.
 

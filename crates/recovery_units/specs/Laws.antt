@@ -1,5 +1,8 @@
 -- What holds of a node and its volume over acts that no unit takes part in.
 use Rattle.std.specs.Prelude.{◌≡◌, ℕ, ◌+◌, ◌-◌, ◌*◌, ◌<◌, ◌≤◌, List, [], Bool, false, Some, None, length, option_map, replicate, slice_set}
+use Rattle.block_disk.specs.Sizes.{content_start}
+use Rattle.vms_model.specs.Limits.{file_limit, slot_limit}
+use Rattle.vms_model.specs.Blocks.{directory_start, log_start}
 use Rattle.file_base.specs.declared.head.FileHead.{FileHead}
 use Rattle.file_base.specs.declared.head.Save.{Save}
 use Rattle.file_base.specs.declared.head.Span.{Span}
@@ -39,21 +42,21 @@ use Rattle.recovery_units.specs.Calls.{IsNumbered, cause_line, change_said, read
 -- A volume that was just made, with so many log slots and blocks of a journal: it has no file, its journal no entry, and its home tells no boot and no settlement.
 pub record IsMade (content : List (List ℕ)) (v : Catalog) (slots journal : ℕ) : Type 0 where
   pub slots_are : v.home.slots ≡ slots
-  pub few : slots ≤ 512
+  pub few : slots ≤ slot_limit
   pub journal_is : v.home.ru_blocks ≡ journal
   pub boot : v.home.boot ≡ 0
   pub greatest : v.home.greatest_moment.0 ≡ 0
   pub last : v.home.last ≡ None
-  pub heads : v.heads ≡ replicate 64 None
+  pub heads : v.heads ≡ replicate file_limit None
   pub first : v.ru.first ≡ 0
   pub end : v.ru.end ≡ 0
   pub some : 0 < v.ru.blocks
-  pub within : v.ru.start - 518 + v.ru.blocks ≤ length content
+  pub within : v.ru.start - content_start + v.ru.blocks ≤ length content
   pub log : IsEmptyVolume v.home content
 
 -- the block of a file's number is written, which has this head from then on
 abbrev pub HeadWritten : (f : ℕ) → FileHead → VolumeState → VolumeState → Type 0
-HeadWritten f h v w = (w.catalog ≡ record v.catalog { heads = slice_set v.catalog.heads f (Some h) }) × ((bytes : List ℕ) × (w.store.current ≡ option_map (λ blocks. slice_set blocks (519 + f - 518) bytes) v.store.current)) × (w.store.disk.size ≡ v.store.disk.size)
+HeadWritten f h v w = (w.catalog ≡ record v.catalog { heads = slice_set v.catalog.heads f (Some h) }) × ((bytes : List ℕ) × (w.store.current ≡ option_map (λ blocks. slice_set blocks (directory_start + f - content_start) bytes) v.store.current)) × (w.store.disk.size ≡ v.store.disk.size)
 
 -- The head of a file once it has this mark, where this is the greatest moment on the disk: its journal begins in a ring of the content, at a whole block behind the
 -- end of the one before, or it ends.
@@ -94,13 +97,13 @@ pub record KeepsNodes : Type 0 where
       HeadWritten f new v w → w.store.current ≡ Some content → EachWhole content → MarksHead mark n.durable.greatest content h new → IsKept s w (acted (Marks name mark) n)
   -- such a file is saved, once a copy of its buckets stands in a free run
   pub saves : (s : UnitsState) (v w : VolumeState) (n : Node) (f : ℕ) (h : FileHead) (name : List ℕ) (save : Save) (content : List (List ℕ)) → IsKept s v n → IsUp n → IsInOrder s v → IsNamed v.catalog.heads f h name → first_to_change f s.begun ≡ None →
-      HeadWritten f (saved_head save h) v w → w.store.current ≡ Some content → EachWhole content → 584 ≤ save.start → ((old : List (List ℕ)) → v.store.current ≡ Some old → IsSaveOf n.durable.greatest old h save) → IsKept s w (acted (Saves name save.start) n)
+      HeadWritten f (saved_head save h) v w → w.store.current ≡ Some content → EachWhole content → log_start ≤ save.start → ((old : List (List ℕ)) → v.store.current ≡ Some old → IsSaveOf n.durable.greatest old h save) → IsKept s w (acted (Saves name save.start) n)
   -- blocks of a free run are written
   pub free : (s : UnitsState) (v w : VolumeState) (n : Node) (h : FileHead) (content : List (List ℕ)) → IsKept s v n → IsInOrder s v → IsFreeRun (data_area (sizes_of v.catalog.home)) (all_extents v.catalog.heads) h.start (h.alloc * h.bucket) →
       w.catalog ≡ v.catalog → w.store.disk.size ≡ v.store.disk.size → AgreesOut (in_extent h) v.store.current w.store.current → w.store.current ≡ Some content → EachWhole content → IsKept s w n
   -- a file without records is made in a free run, under a new name, at the lowest number that is free
-  pub creates : (s : UnitsState) (v w : VolumeState) (n : Node) (f : ℕ) (h : FileHead) (file : File) (content new : List (List ℕ)) → IsKept s v n → IsInOrder s v → f < 64 → head_at v.catalog.heads f ≡ None →
-      ((g : ℕ) → g < f → head_at v.catalog.heads g ≡ None → ⊥) → NoneNamed v.catalog.heads 64 h.name → IsFreeRun (data_area (sizes_of v.catalog.home)) (all_extents v.catalog.heads) h.start (h.alloc * h.bucket) → file.history.live ≡ [] → v.store.current ≡ Some content → IsFile content h file → ((c : List (List ℕ)) → IsCarried c f h file.carried) → HeadWritten f h v w → w.store.current ≡ Some new → EachWhole new →
+  pub creates : (s : UnitsState) (v w : VolumeState) (n : Node) (f : ℕ) (h : FileHead) (file : File) (content new : List (List ℕ)) → IsKept s v n → IsInOrder s v → f < file_limit → head_at v.catalog.heads f ≡ None →
+      ((g : ℕ) → g < f → head_at v.catalog.heads g ≡ None → ⊥) → NoneNamed v.catalog.heads file_limit h.name → IsFreeRun (data_area (sizes_of v.catalog.home)) (all_extents v.catalog.heads) h.start (h.alloc * h.bucket) → file.history.live ≡ [] → v.store.current ≡ Some content → IsFile content h file → ((c : List (List ℕ)) → IsCarried c f h file.carried) → HeadWritten f h v w → w.store.current ≡ Some new → EachWhole new →
       IsKept s w (acted (Creates f file) n)
   -- where no slot of the log has a serial, none is freed for it
   pub unlogged : (serial : Id) (ss : Slots) → has_slot serial ss ≡ false → forgotten serial ss ≡ ss

@@ -1,6 +1,9 @@
 -- The unsettled units of a node as their callers see them, and the node of the world that they and a volume are.
 use Rattle.std.specs.Prelude.{◌≡◌, ◌≤◌, ◌<◌, ◌⊎◌, ◌||◌, not, ◌+◌, ◌-◌, ◌^◌, ℕ, List, [], ◌∷◌, ◌++◌, Bool, true, false, Option, Some, None, map, length, if◌then◌else◌}
 use Rattle.std.specs.List.{AllByRecursion, list_any}
+use Rattle.block_disk.specs.Sizes.{greatest_disk_size, least_disk_size}
+use Rattle.vms_model.specs.Limits.{branch_limit, file_limit, moment_ceiling}
+use Rattle.vms_model.specs.Blocks.{log_start}
 use Rattle.careful_write.specs.State.{IsIdle}
 use Rattle.change_set.specs.Files.{free_frames}
 use Rattle.commit_protocol.specs.Allowed.{is_prepared}
@@ -154,22 +157,22 @@ owed (u ∷ us) = owed_for u.prepared u.positions + owed us
 pub record IsInOrder (s : UnitsState) (v : VolumeState) : Type 0 where
   pub idle : IsIdle v.store
   pub frames : 32 ≤ free_frames v.store.pool
-  pub heads : length v.catalog.heads ≡ 64
+  pub heads : length v.catalog.heads ≡ file_limit
   pub sound : IsSound v.catalog.home.node v.store.disk.size v.catalog
   pub holds : Holds v
-  pub least : 4096 ≤ v.store.disk.size
-  pub most : v.store.disk.size ≤ 65536
+  pub least : least_disk_size ≤ v.store.disk.size
+  pub most : v.store.disk.size ≤ greatest_disk_size
   pub ascends : v.catalog.ru.first ≤ v.catalog.ru.end
   pub room : v.catalog.ru.end - v.catalog.ru.first + owed s.begun ≤ ring_size v.catalog.ru
   pub within : AllByRecursion (λ (u : OpenUnit). Ascend v.catalog.ru.first v.catalog.ru.end u.positions) s.begun
-  pub few : length s.begun ≤ 64
-  pub slots : 584 + length s.log ≤ v.catalog.ru.start
+  pub few : length s.begun ≤ branch_limit
+  pub slots : log_start + length s.log ≤ v.catalog.ru.start
   pub images : AllSettlementsFit (map Some s.begun) v.catalog.heads
 
 -- Numbers of the volume that only grow are far from their ends: the journal's end, those of the journals of images, and the greatest moment.
 pub record IsEarly (v : VolumeState) : Type 0 where
   pub low : v.catalog.ru.end + 2 ^ 22 ≤ 2 ^ 62
-  pub moment : v.catalog.home.greatest_moment.0 < 24000001000066
+  pub moment : v.catalog.home.greatest_moment.0 < moment_ceiling
   pub images : images_end v.catalog.heads + 2 ^ 24 ≤ 2 ^ 62
 
 -- no unit is of this branch

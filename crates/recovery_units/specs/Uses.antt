@@ -12,7 +12,7 @@ abbrev pub IsCounted : DiskState → Type 0
 IsCounted d = (d.faults < 2 ^ 64) × (d.stops < 2 ^ 64)
 
 -- from one state of a disk to a later one: no count falls, and what is told stays told
-pub record Goes (old new : DiskState) : Type 0 where
+pub record DiskAdvances (old new : DiskState) : Type 0 where
   pub size : new.size ≡ old.size
   pub calls : new.calls ≡ old.calls
   pub faults : IsCounted old → old.faults ≤ new.faults
@@ -37,7 +37,7 @@ down_of (Err e) = Some e
 -- What a call leaves of a volume, however it ends: its frames are as free; the node and its boot are the same; and numbers that only grow have grown by no more
 -- than so many settlements at this clock, and by no more than a journal's ring has bytes.
 pub record Grows (settlements clock : ℕ) (v w : VolumeState) : Type 0 where
-  pub goes : Goes v.store.disk w.store.disk
+  pub goes : DiskAdvances v.store.disk w.store.disk
   pub pool : w.store.pool ≡ v.store.pool
   pub node : w.catalog.home.node ≡ v.catalog.home.node
   pub boot : w.catalog.home.boot ≡ v.catalog.home.boot

@@ -1,5 +1,6 @@
 //! The calls.
 ghost use Rattle.std.specs.Prelude.{◌≡◌, ◌≤◌, ◌<◌, ◌+◌, ℕ, max, [], Some, None, true, false, IfOk, IfErr, IfSome, IsSome, OnOk, OnErr, length, map, option_copied, option_map, nat_le};
+ghost use Rattle.vms_model.specs.Limits.{branch_limit, moment_ceiling, slot_limit};
 ghost use Rattle.file_base.specs.declared.head.FileHead.{FileHead as HeadSaid};
 ghost use Rattle.vms_base.specs.Ids.{tid_of, serial_of};
 ghost use Rattle.vms_base.specs.Keys.{key_of};
@@ -47,12 +48,12 @@ pub trait RecoveryUnits: Drop {
 
     /// Whether 64 units are unsettled.
     fn is_full(&self) -> bool
-        ensures { result ≡ nat_le 64 (length (state self.now).begun) };
+        ensures { result ≡ nat_le branch_limit (length (state self.now).begun) };
 
     /// How many slots the log has.
     fn slots(&self) -> usize
         ensures value { result ≡ length (state self.now).log }
-        ensures few { result ≤ 512 };
+        ensures few { result ≤ slot_limit };
 
     /// The record in a slot of the log, from 0 on. None where that slot has none.
     fn record_at(&self, slot: u32) -> Option<&LogRec>
@@ -64,7 +65,7 @@ pub trait RecoveryUnits: Drop {
 
     /// A unit begins. Nothing is written.
     fn begin(&mut self, tid: Tid, serial: Serial)
-        requires room { length (state self.old).begun < 64 }
+        requires room { length (state self.old).begun < branch_limit }
         requires fresh { IsNew (serial_of serial) (state self.old) }
         ensures { state self.new ≡ with_begun (tid_of tid) (serial_of serial) (state self.old) };
 
@@ -148,7 +149,7 @@ pub trait RecoveryUnits: Drop {
     ) -> Result<(u32, Moment), RecErr>
         requires order { IsInOrder (state self.old) volume.old }
         requires early { IsEarly volume.old }
-        requires clock { clock.0 < 24000001000066 }
+        requires clock { clock.0 < moment_ceiling }
         requires file { (h : HeadSaid) × (head_at volume.old.catalog.heads (file_in op.now) ≡ Some h) }
         requires number { IsNumbered op.now }
         ensures units { state self.new ≡ state self.old }
@@ -203,7 +204,7 @@ pub trait RecoveryUnits: Drop {
         requires may { IfSome (slot_of (option_copied logged)) (λ r. MayLog (serial_of serial.now) r (state self.old).log) }
         requires order { IsInOrder (state self.old) volume.old }
         requires early { IsEarly volume.old }
-        requires clock { clock.0 < 24000001000066 }
+        requires clock { clock.0 < moment_ceiling }
         ensures units { OnOk result (state self.new ≡ committed (serial_of serial.now) (slot_of (option_copied logged.entry)) (state self.old)) }
         ensures order { OnOk result (IsInOrder (state self.new) volume.new) }
         ensures grows { Grows 1 clock.0 volume.old volume.new }
@@ -225,7 +226,7 @@ pub trait RecoveryUnits: Drop {
         requires unit { IsSome (unit_of (serial_of serial.now) (state self.old).begun) }
         requires order { IsInOrder (state self.old) volume.old }
         requires early { IsEarly volume.old }
-        requires clock { clock.0 < 24000001000066 }
+        requires clock { clock.0 < moment_ceiling }
         ensures units { OnOk result (IfSome (unit_of (serial_of serial.now) (state self.old).begun) (λ u. state self.new ≡ aborted u (state self.old))) }
         ensures order { OnOk result (IsInOrder (state self.new) volume.new) }
         ensures grows { Grows 1 clock.0 volume.old volume.new }
@@ -287,15 +288,15 @@ pub trait RecoveryUnits: Drop {
         requires empty { HasNoUnit (state self.old) }
         requires order { IsInOrder (record (state self.old) { log = [] }) volume.old }
         requires early { IsEarly volume.old }
-        requires moment { volume.old.catalog.home.greatest_moment.0 + 64 ≤ 24000001000066 }
-        requires clock { clock.0 + 64 ≤ 24000001000066 }
+        requires moment { volume.old.catalog.home.greatest_moment.0 + branch_limit ≤ moment_ceiling }
+        requires clock { clock.0 + branch_limit ≤ moment_ceiling }
         requires none { out.old ≡ nothing_told }
         ensures units { OnOk result (AreOfBranches (state self.new).begun (branches_of (map log_record_of out.new.prepared))) }
         ensures begins { OnOk result (MayBegin out.new (state self.new).log) }
         ensures order { OnOk result (IsInOrder (state self.new) volume.new) }
-        ensures grows { Grows 64 (clock.0 + 64) volume.old volume.new }
+        ensures grows { Grows branch_limit (clock.0 + branch_limit) volume.old volume.new }
         ensures images { OnOk result (ImagesGrow volume.old volume.new) }
-        ensures room { OnOk result (volume.new.catalog.home.greatest_moment.0 + length (state self.new).begun ≤ max volume.old.catalog.home.greatest_moment.0 clock.0 + 64) }
+        ensures room { OnOk result (volume.new.catalog.home.greatest_moment.0 + length (state self.new).begun ≤ max volume.old.catalog.home.greatest_moment.0 clock.0 + branch_limit) }
         ensures moments { AllByRecursion (λ (u : SettledSaid). u.moment.0 ≤ volume.new.catalog.home.greatest_moment.0) out.new.settled }
         ensures cause { Caused (down_of result) volume.old.store.disk volume.new.store.disk }
         ensures done { OnOk result (ReopensOk clock.0 out.new volume.old (state self.new) volume.new) }

@@ -1,5 +1,6 @@
 //! Settlements, and what a restart finds, as they are told.
 ghost use Rattle.std.specs.Prelude.{◌≡◌, ◌<◌, ◌++◌, ◌∷◌, [], IfOk, length};
+ghost use Rattle.vms_model.specs.Limits.{branch_limit, slot_limit};
 ghost use Rattle.recovery_units.specs.Told.{nothing_told};
 
 use std::alloc::{AllocError, Global};
@@ -25,13 +26,14 @@ pub struct Reopened {
 
 impl Model for Reopened {
     ghost use Rattle.std.specs.Prelude.{◌≤◌, vec_capacity};
+    ghost use Rattle.vms_model.specs.Limits.{branch_limit, slot_limit};
     ghost use Rattle.recovery_units.specs.Told.{ReopenedTold};
 
     ghost Value = { ReopenedTold };
 
     ghost view = { λ r. record { settled = r.settled.items; prepared = r.prepared.items; committed = r.committed.items } };
 
-    ghost invariant = { λ r. (64 ≤ vec_capacity r.settled) × (64 ≤ vec_capacity r.prepared) × (512 ≤ vec_capacity r.committed) };
+    ghost invariant = { λ r. (branch_limit ≤ vec_capacity r.settled) × (branch_limit ≤ vec_capacity r.prepared) × (slot_limit ≤ vec_capacity r.committed) };
 }
 
 impl Reopened {
@@ -69,7 +71,7 @@ impl Reopened {
 
     /// Tells one settlement more, behind the others.
     pub fn push(&mut self, unit: SettledUnit)
-        requires { length self.old.settled < 64 }
+        requires { length self.old.settled < branch_limit }
         ensures { self.new ≡ record self.old { settled = self.old.settled ++ unit ∷ [] } }
     {
         self.settled.push_reserved(unit);
@@ -77,7 +79,7 @@ impl Reopened {
 
     /// Tells the record of one prepared branch more, behind the others.
     pub fn push_prepared(&mut self, logged: &LogRec)
-        requires { length self.old.prepared < 64 }
+        requires { length self.old.prepared < branch_limit }
         ensures { self.new ≡ record self.old { prepared = self.old.prepared ++ logged.now ∷ [] } }
     {
         self.prepared.push_reserved(logged.copy());
@@ -85,7 +87,7 @@ impl Reopened {
 
     /// Tells one committed record more, behind the others.
     pub fn push_committed(&mut self, logged: &LogRec)
-        requires { length self.old.committed < 512 }
+        requires { length self.old.committed < slot_limit }
         ensures { self.new ≡ record self.old { committed = self.old.committed ++ logged.now ∷ [] } }
     {
         self.committed.push_reserved(logged.copy());

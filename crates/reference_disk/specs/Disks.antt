@@ -3,6 +3,7 @@ use Rattle.std.specs.Prelude.{ℕ, ◌+◌, ◌*◌, ◌≤◌, List, [], ◌∷
 use Rattle.vms_model.specs.Ids.{Id}
 use Rattle.vms_model.specs.Keys.{End}
 use Rattle.vms_model.specs.Keys as keys
+use Rattle.vms_model.specs.Limits.{slot_limit}
 use Rattle.transcript_model.specs.Lines as line
 use Rattle.records_model.specs.History.{first_to_change}
 use Rattle.unit_laws.specs.Journal.{JournalEntry, empty_journal, entries_size, owed, units_in}
@@ -99,6 +100,6 @@ one_line None = []
 -- The log has no more slots than a log may have. The bytes of the journal's entries and those that its units are owed are no more than its blocks have, which
 -- are no more than a volume may have.
 pub record HasRoom (d : world.Durable) : Type 0 where
-  pub slots : length d.log ≤ 512
+  pub slots : length d.log ≤ slot_limit
   pub journal : d.journal ≤ 8192
   pub bytes : entries_size d.units.entries + owed (units_in d.units.entries) ≤ 512 * d.journal

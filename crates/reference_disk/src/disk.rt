@@ -1,5 +1,6 @@
 // What a node's disk has, and what acts make of it.
 ghost use Rattle.std.specs.Prelude.{◌≡◌, ◌+◌, ◌<◌, ◌≤◌, ◌^◌, ◌++◌, ℕ, List, [], ◌∷◌, Some, None, map, option_map, length, OnOk, IfOk};
+ghost use Rattle.vms_model.specs.Limits.{slot_limit};
 ghost use Rattle.script_lang.specs.Statements.{form_of, recovery_of, setting_of};
 ghost use Rattle.script_model.specs.Statements as said;
 ghost use Rattle.transcript_model.specs.Lines as model;
@@ -102,7 +103,7 @@ impl Durable {
         size: u32,
         form: Form,
     ) -> Result<Vec<Line>, AllocError>
-        requires { length self.old.log.items ≤ 512 }
+        requires { length self.old.log.items ≤ slot_limit }
         ensures creates { OnOk result (durable_of self.new ≡ (after_creation name blocks bucket size (form_of form) (durable_of self.old)).durable) }
         ensures shows { IfOk result (λ lines. map line_of lines.items ≡ model.Normal ∷ []) }
     {
@@ -145,7 +146,7 @@ impl Durable {
 
     // Where the lowest run of so many free blocks begins; where there is none, that is anywhere.
     fn start_for(&self, blocks: u32, need: u64) -> u64
-        requires { length self.now.log.items ≤ 512 }
+        requires { length self.now.log.items ≤ slot_limit }
         ensures { result ≡ answers.start_of (world.lowest_free (node_on [] blocks (durable_of self.now)) need) }
     {
         match self.lowest_free(blocks, need) {
@@ -163,7 +164,7 @@ impl Durable {
         name: &FileName,
         setting: Setting,
     ) -> Result<Vec<Line>, AllocError>
-        requires { length self.old.log.items ≤ 512 }
+        requires { length self.old.log.items ≤ slot_limit }
         ensures marks { OnOk result (durable_of self.new ≡ (node_after_rows (answers.sets (node_on [] blocks (durable_of self.old)) name.now (setting_of setting)) (node_on [] blocks (durable_of self.old))).durable) }
         ensures shows { IfOk result (λ lines. map line_of lines.items ≡ model.Normal ∷ []) }
     {
@@ -181,7 +182,7 @@ impl Durable {
         locks: &[Lock],
         name: &FileName,
     ) -> Result<Vec<Line>, AllocError>
-        requires { length self.old.log.items ≤ 512 }
+        requires { length self.old.log.items ≤ slot_limit }
         ensures saves { let n = node_on [] blocks (durable_of self.old) in OnOk result (durable_of self.new ≡ (node_after_rows (answers.to_file n name.now (λ f. answers.on_free n (answers.blocks_of f) (world.Saves name.now))) n).durable) }
         ensures shows { let n = node_on [] blocks (durable_of self.old) in IfOk result (λ lines. map line_of lines.items ≡ answers.file_told n name.now (λ f. model.NormalSave f.carried.after.end n.durable.greatest) ∷ []) }
     {
@@ -200,7 +201,7 @@ impl Durable {
         name: &FileName,
         need: u64,
     ) -> Result<Vec<Line>, AllocError>
-        requires slots { length self.old.log.items ≤ 512 }
+        requires slots { length self.old.log.items ≤ slot_limit }
         requires need { Some need ≡ option_map answers.blocks_of (world.find_file name.now (durable_of self.old).directory) }
         ensures saves { let n = node_on [] blocks (durable_of self.old) in OnOk result (durable_of self.new ≡ (node_after_rows (answers.to_file n name.now (λ f. answers.on_free n (answers.blocks_of f) (world.Saves name.now))) n).durable) }
         ensures shows { let n = node_on [] blocks (durable_of self.old) in IfOk result (λ lines. map line_of lines.items ≡ answers.file_told n name.now (λ f. model.NormalSave f.carried.after.end n.durable.greatest) ∷ []) }
@@ -238,7 +239,7 @@ impl Durable {
         name: &FileName,
         way: &Recovery,
     ) -> Result<Vec<Line>, AllocError>
-        requires { length self.old.log.items ≤ 512 }
+        requires { length self.old.log.items ≤ slot_limit }
         ensures recovers { let n = node_on [] blocks (durable_of self.old) in OnOk result (durable_of self.new ≡ (node_after_rows (answers.to_file n name.now (answers.recovers n name.now (recovery_of way.now))) n).durable) }
         ensures shows { let n = node_on [] blocks (durable_of self.old) in IfOk result (λ lines. map line_of lines.items ≡ answers.file_told n name.now (λ f. model.NormalCount (length (entries (answers.records_recovered (recovery_of way.now) f)))) ∷ []) }
     {
@@ -258,7 +259,7 @@ impl Durable {
         way: &Recovery,
         given: Load,
     ) -> Result<Vec<Line>, AllocError>
-        requires slots { length self.old.log.items ≤ 512 }
+        requires slots { length self.old.log.items ≤ slot_limit }
         requires given { IsGiven (recovery_of way.now) (world.find_file name.now (durable_of self.old).directory) (Some given) }
         ensures recovers { let n = node_on [] blocks (durable_of self.old) in OnOk result (durable_of self.new ≡ (node_after_rows (answers.to_file n name.now (answers.recovers n name.now (recovery_of way.now))) n).durable) }
         ensures shows { let n = node_on [] blocks (durable_of self.old) in IfOk result (λ lines. map line_of lines.items ≡ answers.file_told n name.now (λ f. model.NormalCount (length (entries (answers.records_recovered (recovery_of way.now) f)))) ∷ []) }

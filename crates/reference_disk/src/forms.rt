@@ -1,5 +1,7 @@
 // How files and volumes may be sized.
 ghost use Rattle.std.specs.Prelude.{◌≡◌, ◌+◌, ◌-◌, ◌^◌, ◌≤◌, ◌<◌, ◌&&◌, nat_le};
+ghost use Rattle.vms_model.specs.Limits.{key_limit};
+ghost use Rattle.vms_model.specs.Blocks.{log_start};
 ghost use Rattle.script_model.specs.Statements as said;
 ghost use Rattle.script_lang.specs.Statements.{form_of};
 ghost use Rattle.run_model.specs.Answers as answers;
@@ -26,7 +28,7 @@ fn are_sizes(bucket: u32, size: u32) -> bool
 
 // Whether a key of so many bytes at this position is within a record of this size.
 fn is_key_form(size: u32, position: u32, key_size: u32) -> bool
-    ensures { result ≡ (answers.is_within 1 64 key_size && nat_le (position + key_size) size) }
+    ensures { result ≡ (answers.is_within 1 key_limit key_size && nat_le (position + key_size) size) }
 {
     is_within(1, 64, u64::from(key_size))
         && u64::from(position) + u64::from(key_size) <= u64::from(size)
@@ -80,7 +82,7 @@ pub fn blocks_for(bucket: u32, size: u32, form: Form) -> u64
 
 /// Where the blocks for files begin.
 pub fn area_start(slots: u32, journal: u32) -> u64
-    ensures start { result ≡ 584 + slots + journal }
+    ensures start { result ≡ log_start + slots + journal }
     ensures within { result ≤ 2 ^ 34 }
 {
     584 + u64::from(slots) + u64::from(journal)

@@ -1,5 +1,6 @@
 // The slots of a node's log.
 ghost use Rattle.std.specs.Prelude.{◌≡◌, ◌≤◌, ◌+◌, ℕ, None, map, option_map, length, replicate, IfOk};
+ghost use Rattle.vms_model.specs.Limits.{slot_limit};
 ghost use Rattle.commit_protocol.specs.Messages.{LogRecord};
 ghost use Rattle.log_laws.specs.Slots as log;
 ghost use Rattle.run_model.specs.Answers as answers;
@@ -267,7 +268,7 @@ pub fn record_lines(
     slot: u32,
     slots: &[Option<LogRec>],
 ) -> Result<Vec<Line>, AllocError>
-    requires { slot + length slots.now ≤ 512 }
+    requires { slot + length slots.now ≤ slot_limit }
     ensures { IfOk result (λ v. map line_of v.items ≡ map answers.log_line (log.slot_records slot (slots_of slots.now))) }
 {
     match slots {

@@ -1,5 +1,6 @@
 // What refuses requests by what the disk has.
 ghost use Rattle.std.specs.Prelude.{◌≡◌, ◌+◌, ◌<◌, ◌≤◌, ◌^◌, ℕ, [], Some, map, option_map, length, IfOk};
+ghost use Rattle.vms_model.specs.Limits.{slot_limit};
 ghost use Rattle.unit_laws.specs.Journal.{end_of as end_said};
 ghost use Rattle.run_model.specs.Answers as answers;
 ghost use Rattle.run_model.specs.Operations as operations;
@@ -106,7 +107,7 @@ impl Durable {
         ensures { option_map line_of result ≡ answers.of_file (disk_node self.now) name.now answers.is_marked }
     {
         let f = find_file(self.directory.as_slice(), name)?;
-        refused_if(!f.recovery_units, Line::NotMarked)
+        refused_if(!f.recovery_units, Line::NotForUnits)
     }
 
     /// The refusal that a file that is there has no such journal of images.
@@ -166,7 +167,7 @@ impl Durable {
 
     /// The refusal that no run of free blocks is so long, on a disk of so many blocks.
     pub fn volume_full(&self, blocks: u32, need: u64) -> Option<Line>
-        requires { length self.now.log.items ≤ 512 }
+        requires { length self.now.log.items ≤ slot_limit }
         ensures { option_map line_of result ≡ answers.volume_full (node_on [] blocks (durable_of self.now)) need }
     {
         let longest = self.runs(blocks, need).longest;
@@ -175,7 +176,7 @@ impl Durable {
 
     /// The refusal that no run of free blocks is as long as a file's buckets. None also where there is no such file.
     pub fn backup_full(&self, blocks: u32, name: &FileName) -> Result<Option<Line>, AllocError>
-        requires { length self.now.log.items ≤ 512 }
+        requires { length self.now.log.items ≤ slot_limit }
         ensures { let n = node_on [] blocks (durable_of self.now) in IfOk result (λ refusal. option_map line_of refusal ≡ answers.of_file n name.now (λ f. answers.volume_full n (answers.blocks_of f))) }
     {
         match self.blocks_taken(name)? {
@@ -192,7 +193,7 @@ impl Durable {
         name: &FileName,
         way: &Recovery,
     ) -> Result<Option<Line>, AllocError>
-        requires { length self.now.log.items ≤ 512 }
+        requires { length self.now.log.items ≤ slot_limit }
         ensures { let n = node_on [] blocks (durable_of self.now) in IfOk result (λ refusal. option_map line_of refusal ≡ answers.of_file n name.now (λ f. answers.volume_full n (answers.blocks_recovered (recovery_of way.now) f))) }
     {
         match self.recovered_at(alloc, name, way)? {
@@ -203,7 +204,7 @@ impl Durable {
 
     /// The refusal that no run of free blocks is as long as the journal of a setting. None where it wants none.
     pub fn setting_full(&self, blocks: u32, setting: Setting) -> Option<Line>
-        requires { length self.now.log.items ≤ 512 }
+        requires { length self.now.log.items ≤ slot_limit }
         ensures { option_map line_of result ≡ answers.setting_full (node_on [] blocks (durable_of self.now)) (setting_of setting) }
     {
         match setting {
@@ -306,7 +307,7 @@ impl Durable {
 
     // The runs of free blocks on the disk.
     fn runs(&self, blocks: u32, need: u64) -> Runs
-        requires { length self.now.log.items ≤ 512 }
+        requires { length self.now.log.items ≤ slot_limit }
         ensures longest { result.longest ≡ world.longest_free (node_on [] blocks (durable_of self.now)) }
         ensures lowest { result.lowest ≡ world.lowest_free (node_on [] blocks (durable_of self.now)) need }
     {
@@ -317,7 +318,7 @@ impl Durable {
 
     /// Where the lowest run of so many free blocks begins.
     pub fn lowest_free(&self, blocks: u32, need: u64) -> Option<u64>
-        requires { length self.now.log.items ≤ 512 }
+        requires { length self.now.log.items ≤ slot_limit }
         ensures { result ≡ world.lowest_free (node_on [] blocks (durable_of self.now)) need }
     {
         self.runs(blocks, need).lowest
@@ -325,7 +326,7 @@ impl Durable {
 
     /// What refuses a file of so many blocks: no place for a file is free, or no run of free blocks is so long. None where there is room.
     pub fn room_for(&self, blocks: u32, need: u64) -> Option<Line>
-        requires { length self.now.log.items ≤ 512 }
+        requires { length self.now.log.items ≤ slot_limit }
         ensures { option_map line_of result ≡ answers.room_for need (node_on [] blocks (durable_of self.now)) }
     {
         match free_place(self.directory.as_slice()) {

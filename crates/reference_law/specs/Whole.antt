@@ -1,5 +1,6 @@
 -- A script without a fault: each statement is done whole, or refused by its cause. What is shown then is a function of the script, and is what a run shows.
 use Rattle.std.specs.Prelude.{ℕ, List, [], ◌∷◌, ◌++◌, Bool, Option, Some, None, ◌&&◌, nat_le, ◌+◌, if◌then◌else◌, map, length}
+use Rattle.vms_model.specs.Limits.{line_limit, line_size_limit, script_size_limit}
 use Rattle.transcript_model.specs.Outside.{behind}
 use Rattle.transcript_model.specs.Lines as line
 use Rattle.transcript_model.specs.Lines.{Line, lines_text}
@@ -49,7 +50,7 @@ pub record Ended : Type 0 where
 
 -- the next line is within the limits of a script, and no more than a million have begun
 abbrev pub is_in_limits : List Entry → ScriptLine → Bool
-is_in_limits es source = nat_le (length source.text) 20000 && nat_le (size_before es + size_of source) 67108864 && nat_le (number_after es) 1000000
+is_in_limits es source = nat_le (length source.text) line_size_limit && nat_le (size_before es + size_of source) script_size_limit && nat_le (number_after es) line_limit
 
 -- a line shows these lines
 abbrev pub entry : ScriptLine → List Line → Entry

@@ -4,6 +4,7 @@ use Rattle.std.specs.Prelude.{◌++◌, map, nat_le, nat_lt}
 use Rattle.std.specs.List.{list_any}
 use Rattle.std.specs.Option.{option_and_then}
 use Rattle.std.proofs.lemmas.Bool.{and_from, leb-false, lt-ltb}
+use Rattle.vms_model.specs.Limits.{manager_limit}
 use Rattle.transcript_model.specs.Lines as line
 use Rattle.transcript_model.specs.Lines.{Line}
 use Rattle.script_model.specs.Statements.{AckEvent, DeclareRm, JoinRm, Named}
@@ -14,7 +15,7 @@ use Rattle.commit_protocol.specs.Rows.{Replied}
 use Rattle.commit_protocol.specs.Table.{Branch, find_serial, holds}
 use Rattle.vms_model.specs.Ids.{Id}
 use Rattle.run_model.specs.Answers as answers
-use Rattle.run_model.specs.Answers.{Known, Recorded, Unheard, Unsettled, awaited_reply, branch_labelled, declared_manager, has_joined, in_state, is_joinable, known, known_branch, known_manager, known_serial, made_label, made_name, manager_limit, more_managers, serial_named, service, unsettled_label}
+use Rattle.run_model.specs.Answers.{Known, Recorded, Unheard, Unsettled, awaited_reply, branch_labelled, declared_manager, has_joined, in_state, is_joinable, known, known_branch, known_manager, known_serial, made_label, made_name, more_managers, serial_named, service, unsettled_label}
 use Rattle.run_model.specs.Operations.{first_of, refused_if}
 use Rattle.run_model.specs.World.{Declares, Node, Shared, acted, find_branch, find_record, tm_of}
 use Rattle.log_laws.specs.Slots.{committed_of, records_in, waiting_for}

@@ -1,12 +1,13 @@
 -- Refusals one behind another.
 use Rattle.std.proofs.Common.{◌≡◌, ℕ, List, Option, Some, None, length, nat_lt, refl, sym, ap, ◌∙◌}
 use Rattle.std.specs.Option.{option_and_then}
+use Rattle.vms_model.specs.Limits.{change_limit}
 use Rattle.transcript_model.specs.Lines as line
 use Rattle.script_model.specs.Statements.{Operation}
 use Rattle.records_model.specs.Records.{Change}
 use Rattle.vms_model.specs.Ids.{Id}
 use Rattle.commit_protocol.specs.Table.{Branch}
-use Rattle.run_model.specs.Answers.{branch_labelled, change_limit, changes_at, direct_refused, found_refused, images_full, journal_full, more_changes, more_locks, of_file, operation_refused}
+use Rattle.run_model.specs.Answers.{branch_labelled, changes_at, direct_refused, found_refused, images_full, journal_full, more_changes, more_locks, of_file, operation_refused}
 use Rattle.run_model.specs.Operations.{file_full, first_of, keys_held, refused_if}
 use Rattle.run_model.specs.World.{Node, Shared, next_id, serial_labelled}
 use Rattle.reference_disk.specs.Disks.{branch_with}

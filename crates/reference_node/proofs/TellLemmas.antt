@@ -19,7 +19,7 @@ use Rattle.run_model.specs.World.{Node, Shared, Tables, acted, next_moment, shar
 use Rattle.reference_world.specs.Standing.{line_of}
 use Rattle.reference_world.specs.declared.line.Line.{Line}
 use Rattle.reference_disk.specs.Disks.{one_line}
-use Rattle.reference_node.specs.Telling.{AllTellable, Applies, AppliesAll, HasTime, IsTellable, MayApply, Tells, done_by, with_records, with_tm}
+use Rattle.reference_node.specs.Telling.{AllTellable, Applies, AppliesAll, AppliesEvent, HasTime, IsTellable, MayApply, done_by, with_records, with_tm}
 use Rattle.reference_index.proofs.ListLemmas.{behind_first, parts}
 use Rattle.reference_node.proofs.KeyLemmas.{after_as, row_as}
 use Rattle.reference_node.proofs.Viewing.{acknowledge_still, release_still}
@@ -355,7 +355,7 @@ undone_time count k n o is h = subst (λ (x : Node). HasTime count x) (sym is) (
 -- An event was told to a table, which is this before it, and that behind it.
 
 pub told_whole : (e : Event) (name : List ℕ) (before behind : Tm) (s t : Shared) (n o m : Node) (lines : List Line) → with_tm (record before { node = name }) o ≡ n → tm_of n ≡ record before { node = name } → with_tm (tm_of o) m ≡ with_tm behind m →
-    behind ≡ after (row before e) before → AppliesAll (row (record before { node = name }) e) (record before { node = name }) s o lines t m → Tells e s n lines t m
+    behind ≡ after (row before e) before → AppliesAll (row (record before { node = name }) e) (record before { node = name }) s o lines t m → AppliesEvent e s n lines t m
 told_whole e name before behind s t n o m lines there table kept stepped all =
     let tm : Tm = record before { node = name } in
     let left : after (row tm e) tm ≡ record (after (row before e) before) { node = name } = ap (λ acts. after acts tm) (row_as name before e) ∙ after_as name (row before e) before in

@@ -5,6 +5,7 @@ use Rattle.std.specs.Prelude.{if◌then◌else◌, map, not, ◌&&◌, nat_le, n
 use Rattle.std.proofs.lemmas.Bool.Decides.{nat_tests}
 use Rattle.vms_model.specs.Ids.{Id}
 use Rattle.vms_model.specs.Transactions.{Commit as ToCommit, Abort as ToAbort, SyncFail, SegFail, Reason, Outcome}
+use Rattle.vms_model.specs.Limits.{message_limit}
 use Rattle.transcript_model.specs.Lines as line
 use Rattle.commit_protocol.specs.Allowed.{allowed, has_room, is_active, is_prepared, is_working, may_authorise, may_end, there_is}
 use Rattle.commit_protocol.specs.Messages.{Message, Name, RmEvent, LogRecord, Prepare as ToPrepare}
@@ -21,7 +22,7 @@ use Rattle.run_model.specs.World.{Node, Shared, Tables, acted, next_moment, shar
 use Rattle.reference_world.specs.Standing.{line_of}
 use Rattle.reference_world.specs.declared.line.Line.{Line}
 use Rattle.reference_node.specs.Nodes.{Does}
-use Rattle.reference_node.specs.Telling.{CanTell, HasTime, Tells, TellsThen}
+use Rattle.reference_node.specs.Telling.{AppliesEvent, CanTell, HasTime, TellsThen}
 use Rattle.reference_branches.specs.Lines.{answer_else, answer_shown}
 
 -- What is drawn before an event.
@@ -173,7 +174,7 @@ shown_answer (Prepares b ∷ todo) s n = shown_answer todo _ _
 shown_answer (Leaves k ∷ todo) s n = shown_answer todo _ _
 shown_answer (Acknowledges k ∷ todo) s n = shows_acknowledged k n.volatile.records _ ∙ shown_answer todo _ _
 shown_answer (Releases i x ∷ todo) s n = shows_released i x n.volatile.records _ ∙ shown_answer todo _ _
-shown_answer (Sends m ∷ todo) s n = shows_sent (nat_lt (length s.wire) world.message_limit) (length s.wire + 1) m _ ∙ shown_answer todo _ _
+shown_answer (Sends m ∷ todo) s n = shows_sent (nat_lt (length s.wire) message_limit) (length s.wire + 1) m _ ∙ shown_answer todo _ _
 shown_answer (Prints (Started k) ∷ todo) s n = shown_answer todo _ _
 shown_answer (Prints (Ended t why) ∷ todo) s n = shown_answer todo _ _
 shown_answer (Prints (Told e k x) ∷ todo) s n = shows_told (answers.is_declared n x) e k x _ ∙ shown_answer todo _ _

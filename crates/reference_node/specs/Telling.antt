@@ -88,7 +88,7 @@ abbrev pub MayApply : List Key → (tid : Id) → List Effect → Node → Type 
 MayApply before tid effects n = (tm : Tm) × (acts : List Act) × (effects_of acts tm.records ≡ effects) × AllTellable before tid acts tm.records n.durable.log
 
 -- An event was told to the table: the lines of its rows were shown, and the node and what nodes share are those after them.
-pub record Tells (e : Event) (s : Shared) (n : Node) (shown : List Line) (t : Shared) (m : Node) : Type 0 where
+pub record AppliesEvent (e : Event) (s : Shared) (n : Node) (shown : List Line) (t : Shared) (m : Node) : Type 0 where
   pub shows : map line_of shown ≡ lines_of_rows (table_rows (row (tm_of n) e) s n)
   pub shared : t ≡ shared_after_rows (table_rows (row (tm_of n) e) s n) s
   pub node : m ≡ node_after_rows (table_rows (row (tm_of n) e) s n) n

@@ -1,5 +1,6 @@
 // What requests of records do that nothing refuses.
 ghost use Rattle.std.specs.Prelude.{◌≡◌, ◌+◌, ◌<◌, ◌≤◌, ◌^◌, ◌∷◌, true, None, Some, map, length, OnOk, IfOk};
+ghost use Rattle.vms_model.specs.Limits.{slot_limit};
 ghost use Rattle.commit_protocol.specs.Allowed.{is_working};
 ghost use Rattle.commit_protocol.specs.Table.{first};
 ghost use Rattle.script_lang.specs.Statements.{form_of, recovery_of, setting_of, side_of};
@@ -181,7 +182,7 @@ impl Node {
         size: u32,
         form: Form,
     ) -> Result<Vec<Line>, AllocError>
-        requires { length self.old.durable.log.items ≤ 512 }
+        requires { length self.old.durable.log.items ≤ slot_limit }
         ensures { (s : world.Shared) → IfOk result (λ lines. Does s (node_of self.old) (service (said.Create name bucket size (form_of form))) lines.items (node_of self.new) s) }
     {
         self.durable
@@ -195,7 +196,7 @@ impl Node {
         name: &FileName,
         setting: Setting,
     ) -> Result<Vec<Line>, AllocError>
-        requires { length self.old.durable.log.items ≤ 512 }
+        requires { length self.old.durable.log.items ≤ slot_limit }
         ensures { (s : world.Shared) → IfOk result (λ lines. Does s (node_of self.old) (service (said.SetFile name.now (setting_of setting))) lines.items (node_of self.new) s) }
     {
         self.durable
@@ -204,7 +205,7 @@ impl Node {
 
     /// BACKUP.
     pub fn backup(&mut self, alloc: Global, name: &FileName) -> Result<Vec<Line>, AllocError>
-        requires { length self.old.durable.log.items ≤ 512 }
+        requires { length self.old.durable.log.items ≤ slot_limit }
         ensures { (s : world.Shared) → IfOk result (λ lines. Does s (node_of self.old) (service (said.Backup name.now)) lines.items (node_of self.new) s) }
     {
         self.durable
@@ -218,7 +219,7 @@ impl Node {
         name: &FileName,
         way: &Recovery,
     ) -> Result<Vec<Line>, AllocError>
-        requires { length self.old.durable.log.items ≤ 512 }
+        requires { length self.old.durable.log.items ≤ slot_limit }
         ensures { (s : world.Shared) → IfOk result (λ lines. Does s (node_of self.old) (service (said.Recover name.now (recovery_of way.now))) lines.items (node_of self.new) s) }
     {
         self.durable

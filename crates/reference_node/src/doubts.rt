@@ -1,6 +1,7 @@
 // The prepared branches of a node, and what a coordinator answers them.
 ghost use Rattle.std.specs.Prelude.{◌≡◌, ◌+◌, ◌-◌, ◌<◌, ◌≤◌, ◌^◌, true, map, drop, length, option_map, OnOk, IfOk};
 ghost use Rattle.std.specs.List.{list_any};
+ghost use Rattle.vms_model.specs.Limits.{branch_limit};
 ghost use Rattle.commit_protocol.specs.Messages.{Inquire};
 ghost use Rattle.commit_protocol.specs.Rows.{up};
 ghost use Rattle.commit_protocol.specs.Table.{same_key as same_key_said, find, cut};
@@ -27,7 +28,7 @@ impl Node {
     // The unsettled branches from this place on, in order of start.
     fn branches_from(&self, alloc: Global, place: u32) -> Result<Vec<BranchState>, AllocError>
         ensures branches { IfOk result (λ v. map branch_said v.items ≡ drop place (node_of self.now).volatile.branches) }
-        ensures few { IfOk result (λ v. length v.items ≤ 64 - place) }
+        ensures few { IfOk result (λ v. length v.items ≤ branch_limit - place) }
     {
         if self.table.branch_count() <= place as usize {
             return Ok(Vec::new(alloc));
@@ -45,7 +46,7 @@ impl Node {
     /// The serials of its prepared branches, in the order of their preparation.
     pub fn in_doubt(&self, alloc: Global) -> Result<Vec<Id>, AllocError>
         ensures serials { IfOk result (λ v. map id_of v.items ≡ serials_in_doubt (protocol.arranged (node_of self.now).volatile.preparation (node_of self.now).volatile.branches)) }
-        ensures few { IfOk result (λ v. length v.items ≤ 64) }
+        ensures few { IfOk result (λ v. length v.items ≤ branch_limit) }
     {
         let branches = self.branches_from(alloc, 0)?;
         let all = arranged(alloc, self.preparation.as_slice(), branches)?;

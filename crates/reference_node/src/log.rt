@@ -1,5 +1,6 @@
 // The transaction log of a node, as it is shown.
 ghost use Rattle.std.specs.Prelude.{◌≤◌, length, IfOk};
+ghost use Rattle.vms_model.specs.Limits.{slot_limit};
 ghost use Rattle.run_model.specs.Answers.{service};
 ghost use Rattle.run_model.specs.World as world;
 ghost use Rattle.script_model.specs.Statements as said;
@@ -14,7 +15,7 @@ use std::alloc::{AllocError, Global};
 impl Node {
     /// LMCP SHOW.
     pub fn show_log(&self, alloc: Global) -> Result<Vec<Line>, AllocError>
-        requires slots { length self.now.durable.log.items ≤ 512 }
+        requires slots { length self.now.durable.log.items ≤ slot_limit }
         ensures { (s : world.Shared) → IfOk result (λ lines. Does s (node_of self.now) (service said.LmcpShow) lines.items (node_of self.now) s) }
     {
         let slots = self.durable.log.as_slice();
@@ -28,7 +29,7 @@ impl Node {
 
     /// LMCP DUMP.
     pub fn dump_log(&self, alloc: Global) -> Result<Vec<Line>, AllocError>
-        requires slots { length self.now.durable.log.items ≤ 512 }
+        requires slots { length self.now.durable.log.items ≤ slot_limit }
         ensures { (s : world.Shared) → IfOk result (λ lines. Does s (node_of self.now) (service said.LmcpDump) lines.items (node_of self.now) s) }
     {
         let slots = self.durable.log.as_slice();

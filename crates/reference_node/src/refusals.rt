@@ -1,5 +1,6 @@
 // What refuses each request before it does anything.
 ghost use Rattle.std.specs.Prelude.{◌≡◌, ◌+◌, ◌^◌, ◌<◌, ◌≤◌, ℕ, List, map, option_map, length, not, IfOk};
+ghost use Rattle.vms_model.specs.Limits.{slot_limit};
 ghost use Rattle.script_model.specs.Statements as said;
 ghost use Rattle.script_lang.specs.declared.literals.Literals.{Literals as LiteralsSaid};
 ghost use Rattle.script_lang.specs.Statements.{form_of, named_of, recovery_of, request_of, setting_of, side_of};
@@ -543,7 +544,7 @@ impl Node {
     fn late_plain(&self, shared: &Shared, request: &Request) -> Option<Line>
         requires plain { IsPlain request.now }
         requires end { end_of (journal_of self.now.durable.units) < 2 ^ 64 }
-        requires slots { length self.now.durable.log.items ≤ 512 }
+        requires slots { length self.now.durable.log.items ≤ slot_limit }
         ensures { (lit : LiteralsSaid) → option_map line_of result ≡ (service (request_of lit request.now)).refused_after_reading (shared_of shared.now) (node_of self.now) }
     {
         match request {
@@ -581,7 +582,7 @@ impl Node {
         lit: &Literals,
     ) -> Result<Option<Line>, AllocError>
         requires end { end_of (journal_of self.now.durable.units) < 2 ^ 64 }
-        requires slots { length self.now.durable.log.items ≤ 512 }
+        requires slots { length self.now.durable.log.items ≤ slot_limit }
         requires drawn { self.now.drawn + 1 < 2 ^ 32 }
         ensures { IfOk result (λ refusal. option_map line_of refusal ≡ (service (request_of lit.now request.now)).refused_after_reading (shared_of shared.now) (node_of self.now)) }
     {

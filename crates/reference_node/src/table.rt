@@ -22,7 +22,7 @@ ghost use Rattle.reference_disk.specs.Disks.{logged_tid, one_line};
 ghost use Rattle.reference_node.specs.Nodes.{node_of, released_by, settled_by};
 ghost use Rattle.reference_branches.specs.Branches.{shared_of, tid_among};
 ghost use Rattle.reference_branches.specs.Lines.{key_line, settlement_line};
-ghost use Rattle.reference_node.specs.Telling.{AllTellable, Applies, AppliesAll, CanTell, HasTime, IsTellable, MayApply, Tells, prepared_by, settled_logged, settlement_so, with_log};
+ghost use Rattle.reference_node.specs.Telling.{AllTellable, Applies, AppliesAll, AppliesEvent, CanTell, HasTime, IsTellable, MayApply, prepared_by, settled_logged, settlement_so, with_log};
 
 use crate::node::Node;
 use reference_branches::{Shared, branch_among, branch_in, reason_for, settled_line};
@@ -271,7 +271,7 @@ impl Node {
     ) -> Result<Vec<Line>, AllocError>
         requires allowed { allowed (world.tm_of (node_of self.old)) (event_of event.now) ≡ true }
         requires can { CanTell (node_of self.old) }
-        ensures tells { IfOk result (λ lines. Tells (event_of event.now) (shared_of shared.old) (node_of self.old) lines.items (shared_of shared.new) (node_of self.new)) }
+        ensures tells { IfOk result (λ lines. AppliesEvent (event_of event.now) (shared_of shared.old) (node_of self.old) lines.items (shared_of shared.new) (node_of self.new)) }
         ensures time { (count : ℕ) → HasTime (count + 2048) (node_of self.old) → OnOk result (HasTime count (node_of self.new)) }
     {
         let before = self.keys(alloc)?;

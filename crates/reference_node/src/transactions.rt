@@ -2,6 +2,7 @@
 ghost use Rattle.std.specs.Prelude.{◌≡◌, ◌+◌, ◌<◌, ◌≤◌, ◌^◌, ℕ, true, Some, None, map, option_map, length, OnOk, IfOk};
 ghost use Rattle.std.specs.Option.{option_and_then};
 ghost use Rattle.vms_model.specs.Times.{CanBeWritten};
+ghost use Rattle.vms_model.specs.Limits.{slot_limit};
 ghost use Rattle.script_model.specs.Statements as said;
 ghost use Rattle.script_lang.specs.Statements.{named_of};
 ghost use Rattle.transcript_model.specs.Lines as model;
@@ -82,7 +83,7 @@ impl Node {
         seconds: Option<u32>,
     ) -> Result<Vec<Line>, AllocError>
         requires room { answers.more_branches (node_of self.old) ≡ None }
-        requires slots { length (node_of self.old).durable.log ≤ 512 }
+        requires slots { length (node_of self.old).durable.log ≤ slot_limit }
         requires drawn { self.old.drawn + 1 < 2 ^ 32 }
         requires can { CanTell (node_of self.old) }
         ensures does { IfOk result (λ lines. Does (shared_of shared.old) (node_of self.old) (service (said.StartTrans label.now seconds)) lines.items (node_of self.new) (shared_of shared.new)) }
@@ -129,7 +130,7 @@ impl Node {
         label: &Label,
     ) -> Result<Vec<Line>, AllocError>
         requires room { answers.more_branches (node_of self.old) ≡ None }
-        requires slots { length (node_of self.old).durable.log ≤ 512 }
+        requires slots { length (node_of self.old).durable.log ≤ slot_limit }
         requires drawn { self.old.drawn + 1 < 2 ^ 32 }
         requires can { CanTell (node_of self.old) }
         requires made { answers.made_label (shared_of shared.old) (node_of self.old) label.now ≡ None }

@@ -73,7 +73,7 @@ fn is_behind(after: Option<KeyRef<'_>>, key: KeyRef<'_>) -> bool
 // A record that is to be new is there.
 fn put_refused(f: &File, rows: &[Row<'_>], number: Option<u32>, bytes: &[u8]) -> Option<Line>
     requires { AreRowsOf f.now rows.now }
-    ensures { option_map line_of result ≡ operations.put_refused (organization_of f.now.organization) (operations.standing_of (file_of f.now)) number bytes.now }
+    ensures { option_map line_of result ≡ operations.put_refused (organization_of f.now.organization) (operations.current_records (file_of f.now)) number bytes.now }
 {
     if let Some(n) = number {
         let found = record_in(f, rows, KeyRef::Number(u64::from(n)));

@@ -6,10 +6,3 @@ mod script;
 
 pub use rack::Place;
 pub use script::{Ending, Shown, reference_transcript, reference_transcript_of};
-
-#[cfg(test)]
-mod rack_tests;
-#[cfg(test)]
-mod recovery_tests;
-#[cfg(test)]
-mod tests;

@@ -1,5 +1,6 @@
 // A whole script, line after line.
 ghost use Rattle.std.specs.Prelude.{true, None, ◌≡◌, ◌+◌, ◌*◌, ◌<◌, ◌≤◌, ℕ, List, [], ◌∷◌, length, take, drop, map, codes, if◌then◌else◌, OnOk, IfOk};
+ghost use Rattle.vms_model.specs.Limits.{line_limit, line_size_limit, script_size_limit};
 ghost use Rattle.transcript_model.specs.Script.{ScriptLine, lines_of};
 ghost use Rattle.run_model.specs.Transcript.{Entry};
 ghost use Rattle.script_lang.specs.declared.literals.Literals.{Literals as LiteralsSaid};
@@ -77,9 +78,9 @@ impl Reading {
 
     // Whether the next line is within the limits of a script.
     fn is_in_limits(&self, line: &[u8], ended: bool) -> bool
-        ensures line { result ≡ true → length line.now ≤ 20000 }
-        ensures number { result ≡ true → self.now.number ≤ 1000000 }
-        ensures size { result ≡ true → self.now.size ≤ 67108864 }
+        ensures line { result ≡ true → length line.now ≤ line_size_limit }
+        ensures number { result ≡ true → self.now.number ≤ line_limit }
+        ensures size { result ≡ true → self.now.size ≤ script_size_limit }
         ensures limits { (es : List Entry) → Stands self.now es → result ≡ is_in_limits es (record { text = line.now; ended = ended }) }
     {
         let size = line.len() + usize::from(ended);
@@ -91,9 +92,9 @@ impl Reading {
 
     // A line is passed.
     fn pass(&mut self, line: &[u8], ended: bool)
-        requires line { length line.now ≤ 20000 }
-        requires number { self.old.number ≤ 1000000 }
-        requires size { self.old.size ≤ 67108864 }
+        requires line { length line.now ≤ line_size_limit }
+        requires number { self.old.number ≤ line_limit }
+        requires size { self.old.size ≤ script_size_limit }
         ensures number { self.new.number ≡ self.old.number + 1 }
         ensures size { self.new.size ≡ self.old.size + (length line.now + (if ended then 1 else 0)) }
         ensures text { self.new.text ≡ self.old.text }
@@ -105,9 +106,9 @@ impl Reading {
 
     // Serves a line, and tells whether the script goes on behind it.
     fn turn(&mut self, alloc: Global, line: &[u8], ended: bool) -> Result<bool, AllocError>
-        requires line { length line.now ≤ 20000 }
-        requires number { self.old.number ≤ 1000000 }
-        requires size { self.old.size ≤ 67108864 }
+        requires line { length line.now ≤ line_size_limit }
+        requires number { self.old.number ≤ line_limit }
+        requires size { self.old.size ≤ script_size_limit }
         requires fit { IsFit (units_left self.old.number) (world_of self.old.rack) }
         requires few { length (world_of self.old.rack).nodes ≤ 8 }
         ensures turns { (es : List Entry) (more : List ScriptLine) → Stands self.old es → is_in_limits es (record { text = line.now; ended = ended }) ≡ true →

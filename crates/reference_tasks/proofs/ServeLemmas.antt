@@ -4,7 +4,7 @@ use Rattle.std.specs.Prelude.{not, ◌||◌}
 use Rattle.transcript_model.specs.Lines as line
 use Rattle.run_model.specs.Answers.{Service, powers, refused_before_reading, spoils}
 use Rattle.run_model.specs.Operations.{refused_if}
-use Rattle.run_model.specs.Steps.{lines_of_rows, node_after, node_after_rows, occupied, ready_node, shared_after_rows, shared_then, spoilt}
+use Rattle.run_model.specs.Steps.{lines_of_rows, node_after, node_after_rows, occupied, ready_node, shared_after_rows, shared_then, with_unknown_volume}
 use Rattle.run_model.specs.World.{Lost, Node, Shared, powered}
 use Rattle.world_laws.specs.Nodes.{IsKeptDisk, IsKeptNode}
 use Rattle.reference_world.specs.Standing.{line_of}
@@ -39,7 +39,7 @@ serves_done s t u n o m e shown allowed readied refuses does occupies =
 -- A node once its disk runs again.
 
 pub ready_still : (e : Service) (n : Node) → powers e ≡ false → ready_node Lost 0 e n ≡ n
-ready_still e n is = ap (λ b. (let m : Node = if b then spoilt (spoils e) (powered Lost 0 n) else n in m)) is
+ready_still e n is = ap (λ b. (let m : Node = if b then with_unknown_volume (spoils e) (powered Lost 0 n) else n in m)) is
 
 disk_kept : (n o : Node) → o.name ≡ n.name → o.durable ≡ n.durable → IsKeptDisk n → IsKeptDisk o
 disk_kept n o name durable h = subst (λ d. IsKeptDisk (record o { durable = d })) (sym durable) (subst (λ x. IsKeptDisk (record o { name = x; durable = n.durable })) (sym name) (record {
@@ -63,7 +63,7 @@ disk_kept n o name durable h = subst (λ d. IsKeptDisk (record o { durable = d }
 pub ready_kept : (e : Service) (n o : Node) → o ≡ ready_node Lost 0 e n → IsKeptDisk n → spoils e ≡ false → IsKeptDisk o
 ready_kept e n o readied h clean = subst IsKeptDisk (sym readied) (go (powers e) (spoils e) clean)
   where
-    go : (p q : Bool) → q ≡ false → IsKeptDisk (if p then spoilt q (powered Lost 0 n) else n)
+    go : (p q : Bool) → q ≡ false → IsKeptDisk (if p then with_unknown_volume q (powered Lost 0 n) else n)
     go false q clean = h
     go true false clean = disk_kept n (powered Lost 0 n) refl refl h
     go true true clean = let never : ⊥ = cc in absurd never
@@ -71,7 +71,7 @@ ready_kept e n o readied h clean = subst IsKeptDisk (sym readied) (go (powers e)
 pub ready_units : (e : Service) (n o : Node) → o ≡ ready_node Lost 0 e n → HasUnits 1 n → HasUnits 1 o
 ready_units e n o readied h = subst (HasUnits 1) (sym readied) (go (powers e) (spoils e))
   where
-    go : (p q : Bool) → HasUnits 1 (if p then spoilt q (powered Lost 0 n) else n)
+    go : (p q : Bool) → HasUnits 1 (if p then with_unknown_volume q (powered Lost 0 n) else n)
     go false q = h
     go true false = record { journal = h.journal; boot = h.boot; drawn = h.drawn; time = record { greatest = h.time.greatest; clock = h.time.clock; end = h.time.end } }
     go true true = record { journal = h.journal; boot = h.boot; drawn = h.drawn; time = record { greatest = h.time.greatest; clock = h.time.clock; end = h.time.end } }
@@ -85,7 +85,7 @@ can_tell s n h w up =
 pub ready_can : (s : Shared) (e : Service) (n o : Node) → o ≡ ready_node Lost 0 e n → IsKeptNode s n → HasUnits 1 n → o.up ≡ true → CanTell o
 ready_can s e n o readied h w = subst (λ x. x.up ≡ true → CanTell x) (sym readied) (go (powers e) (spoils e))
   where
-    go : (p q : Bool) → (let m : Node = if p then spoilt q (powered Lost 0 n) else n in m.up ≡ true → CanTell m)
+    go : (p q : Bool) → (let m : Node = if p then with_unknown_volume q (powered Lost 0 n) else n in m.up ≡ true → CanTell m)
     go false q up = can_tell s n h w up
     go true false up = let c = can_tell s n h w up in record { told = c.told; within = c.within; time = record { greatest = c.time.greatest; clock = c.time.clock; end = c.time.end } }
     go true true up = let c = can_tell s n h w up in record { told = c.told; within = c.within; time = record { greatest = c.time.greatest; clock = c.time.clock; end = c.time.end } }
@@ -94,7 +94,7 @@ ready_can s e n o readied h w = subst (λ x. x.up ≡ true → CanTell x) (sym r
 pub ready_slots : (e : Service) (n o : Node) → o ≡ ready_node Lost 0 e n → o.durable.log ≡ n.durable.log
 ready_slots e n o readied = ap (λ (x : Node). x.durable.log) readied ∙ go (powers e) (spoils e)
   where
-    go : (p q : Bool) → (if p then spoilt q (powered Lost 0 n) else n).durable.log ≡ n.durable.log
+    go : (p q : Bool) → (if p then with_unknown_volume q (powered Lost 0 n) else n).durable.log ≡ n.durable.log
     go false q = refl
     go true false = refl
     go true true = refl

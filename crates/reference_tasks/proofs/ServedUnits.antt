@@ -16,7 +16,7 @@ use Rattle.vms_model.specs.Transactions.{Aborted}
 use Rattle.transcript_model.specs.Lines as line
 use Rattle.run_model.specs.Answers as answers
 use Rattle.run_model.specs.Answers.{Row, Service, Telling, adds, all_acted, all_shared, begins, boot_rows, just, left_active, powers, refused_before_reading, service, silent, spoils, starts, table_rows, told_if, told_rows, unit_key}
-use Rattle.run_model.specs.Steps.{begun, node_after, node_after_rows, ready_node, spoilt, whole}
+use Rattle.run_model.specs.Steps.{begun, node_after, node_after_rows, ready_node, whole, with_unknown_volume}
 use Rattle.run_model.specs.World as world
 use Rattle.run_model.specs.World.{Act, Boots, Label, Lost, Node, Shared, acted, powered, tm_of}
 use Rattle.commit_protocol.specs.World.{undo_all}
@@ -200,7 +200,7 @@ ready_passed n o m e readied p =
     let pd = p.drawn in
     record { journal = p.journal ∙ j; boot = omega (arith, b, pb); drawn = omega (arith, d, pd) }
   where
-    go : (p q : Bool) → Same n (if p then spoilt q (powered Lost 0 n) else n)
+    go : (p q : Bool) → Same n (if p then with_unknown_volume q (powered Lost 0 n) else n)
     go false q = (refl, refl, refl)
     go true false = (refl, refl, refl)
     go true true = (refl, refl, refl)

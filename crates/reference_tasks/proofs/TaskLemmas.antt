@@ -12,7 +12,7 @@ use Rattle.run_model.specs.World.{Boots, Lost, Node, Shared, acted, powered}
 use Rattle.reference_world.specs.Standing.{line_of}
 use Rattle.reference_world.specs.declared.line.Line.{Line}
 use Rattle.reference_tasks.specs.Tasks.{IsTelling, Performs}
-use Rattle.reference_node.specs.Telling.{Restarts as HasRestarted, Tells}
+use Rattle.reference_node.specs.Telling.{AppliesEvent, Restarts as HasRestarted}
 use Rattle.reference_tasks.specs.declared.tasks.TaskShown.{TaskShown}
 use Rattle.reference_node.proofs.BootLemmas.{undone_shares}
 use Rattle.reference_tasks.proofs.ServeLemmas.{ready_still}
@@ -54,7 +54,7 @@ no_more : (xs : List line.Line) → xs ++ [] ≡ xs
 no_more [] = refl
 no_more (x ∷ xs) = ap (λ ys. x ∷ ys) (no_more xs)
 
-pub told_up : (s t : Shared) (n m : Node) (event : Event) (before : List line.Line) (e : Service) (told : List Line) (shown : TaskShown) → IsTelling event before n e → n.up ≡ true → Tells event s n told t m →
+pub told_up : (s t : Shared) (n m : Node) (event : Event) (before : List line.Line) (e : Service) (told : List Line) (shown : TaskShown) → IsTelling event before n e → n.up ≡ true → AppliesEvent event s n told t m →
     map line_of shown.lines.items ≡ before ++ map line_of told → line_of shown.answer ≡ line.Normal → shown.ends ≡ false → Performs s n e shown m t
 told_up s t n m event before e told shown is up tells lines answer ends =
     let unoccupied : (u : Shared) → occupied e u ≡ u = λ u. ap (λ b. (let v : Shared = record u { in_use = u.in_use || b } in v)) is.occupies ∙ ap (λ b. (let v : Shared = record u { in_use = b } in v)) (not_more u.in_use) in

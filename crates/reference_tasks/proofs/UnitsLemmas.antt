@@ -4,10 +4,10 @@ use Rattle.commit_protocol.specs.Rows.{Event, row}
 use Rattle.commit_protocol.specs.Table.{Act, Accepts, Acknowledges, Leaves, Notes, Prepares, Prints, Releases, Sends, Settles, Undoes}
 use Rattle.commit_protocol.specs.World.{undo_all}
 use Rattle.run_model.specs.Answers.{Service, left_active, powers, spoils, table_rows, unit_key}
-use Rattle.run_model.specs.Steps.{node_after_rows, ready_node, spoilt}
+use Rattle.run_model.specs.Steps.{node_after_rows, ready_node, with_unknown_volume}
 use Rattle.run_model.specs.World.{Boots, Lost, Node, Shared, Tables, acted, next_moment, powered, tm_of}
 use Rattle.reference_world.specs.declared.line.Line.{Line}
-use Rattle.reference_node.specs.Telling.{HasTime, Restarts, Tells}
+use Rattle.reference_node.specs.Telling.{AppliesEvent, HasTime, Restarts}
 use Rattle.reference_node.proofs.TellLemmas.{less_time}
 use Rattle.reference_tasks.specs.Serving.{HasUnits}
 
@@ -64,14 +64,14 @@ units_pass units n m passes journal boot drawn h = record {
 pub units_ready : (units : ℕ) (e : Service) (n o : Node) → o ≡ ready_node Lost 0 e n → HasUnits units n → HasUnits units o
 units_ready units e n o readied h = subst (HasUnits units) (sym readied) (go (powers e) (spoils e))
   where
-    go : (p q : Bool) → HasUnits units (if p then spoilt q (powered Lost 0 n) else n)
+    go : (p q : Bool) → HasUnits units (if p then with_unknown_volume q (powered Lost 0 n) else n)
     go false q = h
     go true false = record { journal = h.journal; boot = h.boot; drawn = h.drawn; time = record { greatest = h.time.greatest; clock = h.time.clock; end = h.time.end } }
     go true true = record { journal = h.journal; boot = h.boot; drawn = h.drawn; time = record { greatest = h.time.greatest; clock = h.time.clock; end = h.time.end } }
 
 -- A node that told its table an event, and one that came up.
 
-pub told_units : (units : ℕ) (e : Event) (s t : Shared) (n m : Node) (shown : List Line) → Tells e s n shown t m → ((count : ℕ) → HasTime (count + 2048) n → HasTime count m) → HasUnits (units + 1) n → HasUnits units m
+pub told_units : (units : ℕ) (e : Event) (s t : Shared) (n m : Node) (shown : List Line) → AppliesEvent e s n shown t m → ((count : ℕ) → HasTime (count + 2048) n → HasTime count m) → HasUnits (units + 1) n → HasUnits units m
 told_units units e s t n m shown tells passes h =
     let acts = row (tm_of n) e in
     let boot : m.durable.boot ≡ n.durable.boot = ap (λ (x : Node). x.durable.boot) tells.node ∙ rows_boot acts s n in
@@ -89,7 +89,7 @@ boot_units units s n m shown restarts passes h =
 pub time_ready : (count : ℕ) (e : Service) (n o : Node) → o ≡ ready_node Lost 0 e n → HasTime count n → HasTime count o
 time_ready count e n o readied h = subst (HasTime count) (sym readied) (go (powers e) (spoils e))
   where
-    go : (p q : Bool) → HasTime count (if p then spoilt q (powered Lost 0 n) else n)
+    go : (p q : Bool) → HasTime count (if p then with_unknown_volume q (powered Lost 0 n) else n)
     go false q = h
     go true false = record { greatest = h.greatest; clock = h.clock; end = h.end }
     go true true = record { greatest = h.greatest; clock = h.clock; end = h.end }

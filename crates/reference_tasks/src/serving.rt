@@ -1,5 +1,6 @@
 // What a node serves of requests.
 ghost use Rattle.std.specs.Prelude.{◌≡◌, ◌+◌, ◌<◌, ◌≤◌, ◌^◌, ℕ, true, false, None, length, OnOk, IfOk};
+ghost use Rattle.vms_model.specs.Limits.{slot_limit};
 ghost use Rattle.run_model.specs.Steps.{ready_node};
 ghost use Rattle.run_model.specs.Answers.{powers, refused_before_reading, service, spoils};
 ghost use Rattle.run_model.specs.World as world;
@@ -44,7 +45,7 @@ fn act_on_branches(
     requires tells { TellsTable request.now }
     requires early { (service (request_of lit.now request.now)).refused_before_reading (shared_of shared.old) (node_of node.old) ≡ None }
     requires late { (service (request_of lit.now request.now)).refused_after_reading (shared_of shared.old) (node_of node.old) ≡ None }
-    requires slots { length (node_of node.old).durable.log ≤ 512 }
+    requires slots { length (node_of node.old).durable.log ≤ slot_limit }
     requires drawn { node.old.drawn + 1 < 2 ^ 32 }
     requires can { CanTell (node_of node.old) }
     ensures does { IfOk result (λ lines. Does (shared_of shared.old) (node_of node.old) (service (request_of lit.now request.now)) lines.items (node_of node.new) (shared_of shared.new)) }

@@ -806,7 +806,7 @@ fn put_words(out: &mut Vec<u8>, line: &Line) -> Result<(), AllocError>
         Line::BadRecordNumber => put(out, b"RMS$_MRN"),
         Line::BadRecordSize => put(out, b"RMS$_RSZ"),
         Line::NoSuchTransaction => put(out, b"SS$_NOSUCHTID"),
-        Line::NotMarked => put(out, b"NOTRU"),
+        Line::NotForUnits => put(out, b"NOTRU"),
         Line::NeedsUnit => put(out, b"RMS$_NRU"),
         Line::NoJournal => put(out, b"NOTMARKED"),
         Line::NoSave => put(out, b"NOSAVE"),

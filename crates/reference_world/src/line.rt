@@ -91,7 +91,7 @@ pub enum Line {
     NoSuchManager,
     WrongState,
     InDoubt(Id, NodeName),
-    NotMarked,
+    NotForUnits,
     NeedsUnit,
     NoJournal,
     NoSave,

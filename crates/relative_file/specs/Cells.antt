@@ -1,5 +1,6 @@
 -- The cells of a relative file, and the map that they mean.
 use Rattle.std.specs.Prelude.{◌≡◌, ◌≤◌, ◌<◌, ℕ, ◌+◌, ◌-◌, ◌*◌, ◌/◌, ◌%◌, ◌&&◌, ◌++◌, Bool, true, List, [], ◌∷◌, length, take, drop, replicate, Option, Some, None, IfSome, option_map, if◌then◌else◌, nat_le, min, slice_index, bytes_eq}
+use Rattle.block_disk.specs.Sizes.{content_start}
 use Rattle.careful_write.specs.Reads.{SameButReads}
 use Rattle.careful_write.specs.State.{StoreState}
 use Rattle.file_base.specs.declared.head.FileHead.{FileHead}
@@ -31,7 +32,7 @@ cells_end h = 16 + cells_in h * (h.mrs + 2)
 
 -- the first block of the bucket of cell n, in the content
 abbrev pub first_of : FileHead → ℕ → ℕ
-first_of h n = h.start - 518 + (n - 1) / cells_in h * h.bucket
+first_of h n = h.start - content_start + (n - 1) / cells_in h * h.bucket
 
 -- the first byte of cell n in its bucket
 abbrev pub place_of : FileHead → ℕ → ℕ
@@ -107,7 +108,7 @@ pub record WritesCell (h : FileHead) (n : ℕ) (value : List ℕ) (old new : Sto
   pub long : IfSome old.current (λ b. length (bucket_at h b (first_of h n)) ≡ 512 * h.bucket)
   pub state : SameButReads (record old {
     current = option_map (λ b. with_bucket bytes b (first_of h n) h.bucket) old.current;
-    touched = with_numbers (518 + first_of h n) h.bucket old.touched;
+    touched = with_numbers (content_start + first_of h n) h.bucket old.touched;
   }) new
 
 -- a key and a value of a relative file
@@ -133,7 +134,7 @@ Anything = Unit {0}
 
 -- the first block of the i-th bucket, in the content
 abbrev pub bucket_first : FileHead → ℕ → ℕ
-bucket_first h i = h.start - 518 + i * h.bucket
+bucket_first h i = h.start - content_start + i * h.bucket
 
 -- the first buckets are empty
 abbrev pub EmptyTo : FileHead → ℕ → List (List ℕ) → Type 0

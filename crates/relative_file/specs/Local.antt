@@ -3,6 +3,7 @@ use Rattle.std.specs.Prelude.{◌≡◌, ◌≤◌, ◌<◌, ◌+◌, ◌-◌, �
 use Rattle.std.proofs.Common.{take, drop, sym, ap, ◌∙◌, arith}
 use Rattle.std.proofs.lemmas.Bool.Decides.{nat_tests}
 use Rattle.std.proofs.lemmas.Nat.{div_below}
+use Rattle.block_disk.specs.Sizes.{content_start}
 use Rattle.file_base.specs.declared.head.FileHead.{FileHead}
 use Rattle.vms_model.specs.Keys.{Key, Number, Text, End}
 use Rattle.file_base.specs.Bytes.{piece_at}
@@ -31,7 +32,7 @@ local_law h a b form agrees = λ i key. at_key key i
     at_key (Number m) = if_same (has_cell h m) _ _ (λ there.
         let lies = bucket_within m h.mrn h.alloc (cells_in h) h.bucket there form.cells form.one in
         ap (λ x. record_in h.mrs (piece_at (as_read h x) (place_of h m) (h.mrs + 2)))
-        (bucket_bytes_agree a b (first_of h m) h.bucket (λ k from to. agrees k (in_extent_is (h.start - 518) (h.alloc * h.bucket) k (omega arith) (omega (arith, lies))))))
+        (bucket_bytes_agree a b (first_of h m) h.bucket (λ k from to. agrees k (in_extent_is (h.start - content_start) (h.alloc * h.bucket) k (omega arith) (omega (arith, lies))))))
     at_key (Text t) = refl
     at_key End = refl
 

@@ -1,5 +1,6 @@
 //! A bucket of a file: a header, and cells behind it.
 ghost use Rattle.std.specs.Prelude.{◌↔◌, ◌≡◌, ◌≤◌, ◌+◌, ◌-◌, ◌*◌, List, IsTrue, Some, OnOk, IfSome, length, take};
+ghost use Rattle.block_disk.specs.Sizes.{content_start};
 ghost use Rattle.careful_write.specs.Down.{answered};
 ghost use Rattle.careful_write.specs.Reads.{SameButReads};
 ghost use Rattle.frame_pool.specs.Pool.{IsOut};
@@ -100,7 +101,7 @@ pub(crate) fn read_bucket<D: Disk>(
     ensures state { SameButReads (with_frame frame.now (frame_of store.new.pool frame.now) (record store.old { disk = answered result store.old.disk })) store.new }
     ensures reads { store.new.reads ≤ store.old.reads + head.now.bucket }
     ensures out { IsOut store.new.pool frame.now }
-    ensures read { OnOk result (IfSome store.old.current (λ blocks. take (512 * head.now.bucket) (frame_of store.new.pool frame.now) ≡ bucket_at head.now blocks (first - 518))) }
+    ensures read { OnOk result (IfSome store.old.current (λ blocks. take (512 * head.now.bucket) (frame_of store.new.pool frame.now) ≡ bucket_at head.now blocks (first - content_start))) }
 {
     match load_bucket(store, frame, first, head.bucket) {
         Ok(()) => {

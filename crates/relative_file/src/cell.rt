@@ -1,6 +1,7 @@
 //! A cell: the record's length, and room for the longest record.
 ghost use Rattle.std.specs.Prelude.{◌≡◌, ◌≤◌, ◌<◌, ◌+◌, ◌*◌, ◌/◌, ◌%◌, ℕ, [], ◌∷◌, true, false, Some, None, IfSome, IfNone, length};
 ghost use Rattle.byteorder.specs.Endian.{little_bytes, little_number};
+ghost use Rattle.vms_model.specs.Limits.{record_limit};
 ghost use Rattle.file_base.specs.Bytes.{piece_at, spliced};
 ghost use Rattle.relative_file.specs.Cells.{record_in, cell_of, FirstIn, NoneIn};
 
@@ -11,7 +12,7 @@ use vms_base::Record;
 /// The record of a cell, where it has one.
 pub(crate) fn read_cell(bytes: &[u8], at: usize, mrs: usize, out: &mut Record) -> bool
     requires within { at + mrs + 2 ≤ length bytes.now }
-    requires longest { mrs ≤ 8160 }
+    requires longest { mrs ≤ record_limit }
     ensures some { result ≡ true → record_in mrs (piece_at bytes.now at (mrs + 2)) ≡ Some out.new }
     ensures none { result ≡ false → record_in mrs (piece_at bytes.now at (mrs + 2)) ≡ None }
 {
@@ -33,7 +34,7 @@ pub(crate) fn first_record(
 ) -> Option<usize>
     requires within { 16 + to * (mrs + 2) ≤ length bytes.now }
     requires small { length bytes.now ≤ 8192 }
-    requires longest { mrs ≤ 8160 }
+    requires longest { mrs ≤ record_limit }
     ensures found { IfSome result (λ k. FirstIn mrs bytes.now from to k out.new) }
     ensures none { IfNone result (NoneIn mrs bytes.now from to) }
 {
@@ -57,7 +58,7 @@ fn size_bytes(size: u16) -> [u8; 2]
 /// Writes a cell with this record, and zeros behind it; an absent one has no bytes.
 pub(crate) fn write_cell(bytes: &mut [u8], at: usize, mrs: usize, value: &[u8])
     requires within { at + mrs + 2 ≤ length bytes.old }
-    requires longest { mrs ≤ 8160 }
+    requires longest { mrs ≤ record_limit }
     requires holds { length value.now ≤ mrs }
     ensures { bytes.new ≡ spliced bytes.old at (cell_of mrs value.now) }
 {

@@ -1,9 +1,12 @@
 //! Cells of a file over the blocks of its extent.
 ghost use Rattle.std.specs.Prelude.{◌≡◌, ◌≤◌, ◌<◌, ◌+◌, ◌-◌, ◌*◌, ◌/◌, ◌^◌, ℕ, List, Bool, true, false, Option, Some, None, length, OnOk, OnErr, IfOk, IfSome, IfNone, option_map, unwrap_or, slice_set};
 ghost use Rattle.std.specs.Option.{option_copied};
+ghost use Rattle.block_disk.specs.Sizes.{content_start, greatest_disk_size};
+ghost use Rattle.vms_model.specs.Limits.{record_limit};
 ghost use Rattle.careful_write.specs.Down.{answered};
 ghost use Rattle.careful_write.specs.Reads.{SameButReads};
 ghost use Rattle.frame_pool.specs.Pool.{IsOut};
+ghost use Rattle.careful_write.specs.Sizes.{group_limit};
 ghost use Rattle.file_base.specs.Bytes.{piece_at, spliced};
 ghost use Rattle.change_set.specs.Buckets.{frame_of, with_frame, bucket_bytes, with_bucket, with_numbers};
 ghost use Rattle.change_set.specs.Files.{IsPlaced, free_frames, fell, unstaged};
@@ -22,11 +25,11 @@ use vms_base::Record;
 fn cell_place(head: &FileHead, n: u32) -> (u32, usize)
     requires form { IsRelative head.now }
     requires there { has_cell head.now n ≡ true }
-    requires placed { 518 ≤ head.now.start }
-    requires fits { head.now.start + head.now.alloc * head.now.bucket ≤ 65536 }
+    requires placed { content_start ≤ head.now.start }
+    requires fits { head.now.start + head.now.alloc * head.now.bucket ≤ greatest_disk_size }
     requires blocks { head.now.bucket ≤ 16 }
     requires records { head.now.mrs + 32 ≤ 512 * head.now.bucket }
-    ensures first { result.0 ≡ 518 + first_of head.now n }
+    ensures first { result.0 ≡ content_start + first_of head.now n }
     ensures place { result.1 ≡ place_of head.now n }
 {
     let cells = cells(head);
@@ -69,7 +72,7 @@ pub(crate) fn get_cell<D: Disk>(
 fn put_cell<D: Disk>(store: &mut Store<D>, frame: &Frame, place: usize, mrs: u16, value: &[u8])
     requires out { IsOut store.old.pool frame.now }
     requires within { place + mrs + 2 ≤ 8192 }
-    requires longest { mrs ≤ 8160 }
+    requires longest { mrs ≤ record_limit }
     requires holds { length value.now ≤ mrs }
     ensures size { length (frame_of store.old.pool frame.now) ≡ 8192 }
     ensures put { store.new ≡ with_frame frame.now (spliced (frame_of store.old.pool frame.now) place (cell_of mrs value.now)) store.old }
@@ -90,10 +93,10 @@ pub(crate) fn set_cell<D: Disk>(
     requires there { has_cell head.now n ≡ true }
     requires frames { 1 ≤ free_frames store.old.pool }
     requires holds { length value.now ≤ head.now.mrs }
-    requires room { length store.old.touched + head.now.bucket ≤ 512 }
+    requires room { length store.old.touched + head.now.bucket ≤ group_limit }
     ensures ok { OnOk result (WritesCell head.now n value.now store.old store.new) }
     ensures err { OnErr result (SameButReads (record store.old { disk = answered result store.old.disk }) store.new) }
-    ensures whole { IfSome store.old.current (λ blocks. length blocks + 518 ≡ store.old.disk.size) }
+    ensures whole { IfSome store.old.current (λ blocks. length blocks + content_start ≡ store.old.disk.size) }
 {
     let (first, place) = cell_place(head, n);
     let frame = take_frame(store);

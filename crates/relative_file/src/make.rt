@@ -1,8 +1,10 @@
 //! The empty relative file.
 ghost use Rattle.std.specs.Prelude.{◌≡◌, ◌≤◌, ◌<◌, ◌+◌, ◌-◌, ◌*◌, ◌/◌, ℕ, List, Option, Some, None, [], length, take, OnOk, OnErr, IfSome, option_map};
+ghost use Rattle.block_disk.specs.Sizes.{content_start};
 ghost use Rattle.careful_write.specs.Down.{Counts};
 ghost use Rattle.careful_write.specs.State.{IsIdle};
 ghost use Rattle.frame_pool.specs.Pool.{IsOut};
+ghost use Rattle.careful_write.specs.Sizes.{group_limit};
 ghost use Rattle.change_set.specs.Buckets.{frame_of, with_frame};
 ghost use Rattle.change_set.specs.Files.{IsPlaced, free_frames, in_extent, AgreesOut, LeavesOut, unstaged};
 ghost use Rattle.relative_file.specs.Cells.{IsRelative, cells_in, empty_bucket, EmptyTo, Empties};
@@ -32,11 +34,11 @@ fn stage_empty<D: Disk>(head: &FileHead, store: &mut Store<D>, i: u32)
     requires placed { IsPlaced head.now store.old.disk }
     requires there { i < head.now.alloc }
     requires frames { 1 ≤ free_frames store.old.pool }
-    requires room { length store.old.touched + head.now.bucket ≤ 512 }
+    requires room { length store.old.touched + head.now.bucket ≤ group_limit }
     ensures empty { Empties head.now i store.old.current store.new.current }
     ensures rest { store.new ≡ record store.old { current = store.new.current; touched = store.new.touched } }
     ensures few { length store.new.touched ≤ length store.old.touched + head.now.bucket }
-    ensures whole { IfSome store.old.current (λ b. length b + 518 ≡ store.old.disk.size) }
+    ensures whole { IfSome store.old.current (λ b. length b + content_start ≡ store.old.disk.size) }
 {
     let first = head.start + i * head.bucket as u32;
     let frame = take_frame(store);
@@ -52,7 +54,7 @@ fn stage_many<D: Disk>(head: &FileHead, store: &mut Store<D>, from: u32, end: u3
     requires there { end ≤ head.now.alloc }
     requires frames { 1 ≤ free_frames store.old.pool }
     requires unstaged { store.old.touched ≡ [] }
-    requires few { (end - from) * head.now.bucket ≤ 512 }
+    requires few { (end - from) * head.now.bucket ≤ group_limit }
     ensures empty { IfSome store.old.current (EmptyTo head.now from) → IfSome store.new.current (EmptyTo head.now end) }
     ensures outside { AgreesOut (in_extent head.now) store.old.current store.new.current }
     ensures rest { store.new ≡ record store.old { current = store.new.current; touched = store.new.touched } }
@@ -74,7 +76,7 @@ fn write_many<D: Disk>(
     requires there { end ≤ head.now.alloc }
     requires frames { 1 ≤ free_frames store.old.pool }
     requires idle { IsIdle store.old }
-    requires few { (end - from) * head.now.bucket ≤ 512 }
+    requires few { (end - from) * head.now.bucket ≤ group_limit }
     ensures empty { OnOk result (IfSome store.old.current (EmptyTo head.now from) → IfSome store.new.current (EmptyTo head.now end)) }
     ensures outside { OnOk result (AgreesOut (in_extent head.now) store.old.current store.new.current) }
     ensures idle { OnOk result (IsIdle store.new) }

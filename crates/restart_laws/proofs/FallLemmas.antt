@@ -15,7 +15,7 @@ use Rattle.unit_laws.specs.Units.{Map, map_in, earliest_before, Represents, IsOr
 use Rattle.unit_laws.specs.Layouts.{slot_restored, leaf_restored, layout_restored}
 use Rattle.unit_laws.proofs.RepresentLemmas.{group_keeps}
 use Rattle.run_model.specs.World.{File}
-use Rattle.directory_model.specs.Files.{IsFile, IsPlace, StandsCarried, head_at, file_at}
+use Rattle.directory_model.specs.Files.{IsFile, IsPlace, AgreesOnCarried, head_at, file_at}
 use Rattle.directory_model.specs.Restoring.{AlikeBare, bare, bare_leaf, bare_layout, IsLeft, IsPlaceLeft, IsPlaceRestorable, CanRestore, IsLayoutOf, IsGrouped, IsPlaceGrouped}
 use Rattle.directory_model.proofs.Moving.{carried_moved, head_moved, same_organization}
 use Rattle.restart_laws.specs.Falls.{FallsLeave, GroupsLeave}
@@ -67,7 +67,7 @@ file_grouped a b h new file left group = record {
   can = group.can;
 }
 
-place_grouped : (a b : List (List ℕ)) (f : ℕ) (o o' : Option FileHead) (p : Option File) → IsPlaceLeft a f o p → IsPlaceGrouped a o p b o' → ((h : FileHead) → o ≡ Some h → StandsCarried h a b) → IsPlaceLeft b f o' p
+place_grouped : (a b : List (List ℕ)) (f : ℕ) (o o' : Option FileHead) (p : Option File) → IsPlaceLeft a f o p → IsPlaceGrouped a o p b o' → ((h : FileHead) → o ≡ Some h → AgreesOnCarried h a b) → IsPlaceLeft b f o' p
 place_grouped a b f None None None left group stands = tt
 place_grouped a b f None (Some new) None left group stands = absurd group
 place_grouped a b f None o' (Some file) left group stands = absurd left

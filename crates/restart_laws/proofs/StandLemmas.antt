@@ -14,7 +14,7 @@ use Rattle.unit_laws.specs.Units.{map_in, HasImages, HasLatest, Represents}
 use Rattle.unit_laws.specs.Journal.{Journal}
 use Rattle.unit_laws.specs.Layouts.{slot_restored, leaf_restored, layout_restored}
 use Rattle.run_model.specs.World.{File, IsPreparedUnit}
-use Rattle.directory_model.specs.Files.{StandsIn, head_at, file_at, layout_of}
+use Rattle.directory_model.specs.Files.{AgreesOnFile, head_at, file_at, layout_of}
 use Rattle.directory_model.specs.Restoring.{AlikeBare, bare_layout, IsLeft, IsPlaceLeft, IsPlacePrepared, IsGrouped, IsRestored}
 use Rattle.directory_model.proofs.Standing.{carried_stands}
 use Rattle.restart_laws.specs.Falls.{LeftStands, PreparedStays, StaysUndone}
@@ -36,7 +36,7 @@ file_left_stands a b h file agrees left = record {
   can = can_stand h.organization h a b file.history.live left.head.form agrees left.laid left.can;
 }
 
-place_left_stands : (a b : List (List ℕ)) (f : ℕ) (o : Option FileHead) (p : Option File) → ((h : FileHead) → o ≡ Some h → StandsIn h a b) → IsPlaceLeft a f o p → IsPlaceLeft b f o p
+place_left_stands : (a b : List (List ℕ)) (f : ℕ) (o : Option FileHead) (p : Option File) → ((h : FileHead) → o ≡ Some h → AgreesOnFile h a b) → IsPlaceLeft a f o p → IsPlaceLeft b f o p
 place_left_stands a b f None None agree left = tt
 place_left_stands a b f None (Some file) agree left = absurd left
 place_left_stands a b f (Some h) None agree left = absurd left
@@ -49,7 +49,7 @@ left_stands a b heads directory agree left = record {
   each = λ f. place_left_stands a b f (head_at heads f) (file_at directory f) (agree f) (left.each f);
 }
 
-prepared_place : (units : Journal) (a b : List (List ℕ)) (f : ℕ) (o : Option FileHead) (p : Option File) → ((h : FileHead) → o ≡ Some h → StandsIn h a b) → IsPlaceLeft a f o p → IsPlacePrepared units a o p → IsPlacePrepared units b o p
+prepared_place : (units : Journal) (a b : List (List ℕ)) (f : ℕ) (o : Option FileHead) (p : Option File) → ((h : FileHead) → o ≡ Some h → AgreesOnFile h a b) → IsPlaceLeft a f o p → IsPlacePrepared units a o p → IsPlacePrepared units b o p
 prepared_place units a b f None p agree left stands = tt
 prepared_place units a b f (Some h) None agree left stands = tt
 prepared_place units a b f (Some h) (Some file) agree left stands = subst (λ (m : Map). AllByRecursion (λ (l : LiveChanges). IsPreparedUnit units l.serial → HasLatest m l.changes) file.history.live) (map_same a b h left.0.head.form (agree h refl).own left.0.laid) stands

@@ -35,7 +35,7 @@ use Rattle.run_model.specs.Locks.{is_locked}
 use Rattle.run_model.specs.World as world
 use Rattle.run_model.specs.World.{Node, File, Settlement, acted, changed_file, directly_changed, settled_file}
 use Rattle.world_laws.proofs.DirectLemmas.{live_same}
-use Rattle.directory_model.specs.Files.{AreFiles, IsFoundAt, IsNamed, IsPlace, StandsIn, head_at, file_at}
+use Rattle.directory_model.specs.Files.{AreFiles, IsFoundAt, IsNamed, IsPlace, AgreesOnFile, head_at, file_at}
 use Rattle.directory_model.specs.Restoring.{AreRestorable, CanRestore, CanRestoreBy, IsPlaceRestorable}
 use Rattle.directory_model.specs.Laws.{SameBut}
 use Rattle.directory_model.proofs.Acts.{none_at, quiet_directory, settled_directory}
@@ -60,7 +60,7 @@ can_stand Sequential h a b ls form agrees laid can = all_as (λ (l : LiveChanges
 can_stand Relative h a b ls form agrees laid can = can
 can_stand Indexed h a b ls form agrees laid can = all_as (λ (l : LiveChanges). CanRestoreBy Indexed h a l.changes) (λ (l : LiveChanges). CanRestoreBy Indexed h b l.changes) ls (λ l can. rooms_stand h a b l.changes l.changes form agrees laid can) can
 
-pub place_stands : (a b : List (List ℕ)) (f : ℕ) (o : Option FileHead) (p : Option File) → ((h : FileHead) → o ≡ Some h → StandsIn h a b) → IsPlace a f o p → IsPlaceRestorable a o p → IsPlaceRestorable b o p
+pub place_stands : (a b : List (List ℕ)) (f : ℕ) (o : Option FileHead) (p : Option File) → ((h : FileHead) → o ≡ Some h → AgreesOnFile h a b) → IsPlace a f o p → IsPlaceRestorable a o p → IsPlaceRestorable b o p
 place_stands a b f None p agree is can = tt
 place_stands a b f (Some h) None agree is can = tt
 place_stands a b f (Some h) (Some file) agree is can = can_stand h.organization h a b file.history.live is.0.head.form (agree h refl).own is.0.laid can

@@ -25,7 +25,7 @@ use Rattle.unit_laws.specs.Layouts.{slot_restored, leaf_restored, layout_restore
 use Rattle.unit_laws.proofs.Tests.{both_ways}
 use Rattle.unit_laws.proofs.HistoryLaws.{aborts_one, undoes_one}
 use Rattle.run_model.specs.World.{Node, File, Settlement, AreUnitsOf, settled_file, settled_layout}
-use Rattle.directory_model.specs.Files.{StandsCarried, head_at, file_at, layout_of}
+use Rattle.directory_model.specs.Files.{AgreesOnCarried, head_at, file_at, layout_of}
 use Rattle.directory_model.specs.Restoring.{AlikeBare, bare, bare_layout, IsLeft, IsPlaceLeft, AreLeft, IsRestored, IsPlaceRestored, AreRestored, IsPlaceRestorable, AreRestorable, CanRestore, CanRestoreBy, IsLayoutOf}
 use Rattle.directory_model.specs.Laws.{carrying, settled_buckets}
 use Rattle.directory_model.proofs.Moving.{carried_moved, head_again, head_moved, same_organization}
@@ -182,7 +182,7 @@ file_settled a b h new file s abort left orderly back can =
     subst (λ (o : Outcome). IsLeft b new (record file { history = settled_at s.serial o s.moment file.history; layout = settled_layout o (changes_by s.serial file.history.live) file.layout })) (sym abort)
     (file_aborted a b h new file s.serial s.moment left orderly back (subst (λ (o : Outcome). CanRestore new b (settled_at s.serial o s.moment file.history).live) abort can))
 
-place_settled : (a b : List (List ℕ)) (f : ℕ) (o o' : Option FileHead) (p : Option File) (s : Settlement) → s.outcome ≡ Abort → ((file : File) → p ≡ Some file → IsOrderly file.history) → IsPlaceLeft a f o p → IsPlaceRestored s.serial a o p b o' → ((h : FileHead) → o ≡ Some h → StandsCarried h a b) →
+place_settled : (a b : List (List ℕ)) (f : ℕ) (o o' : Option FileHead) (p : Option File) (s : Settlement) → s.outcome ≡ Abort → ((file : File) → p ≡ Some file → IsOrderly file.history) → IsPlaceLeft a f o p → IsPlaceRestored s.serial a o p b o' → ((h : FileHead) → o ≡ Some h → AgreesOnCarried h a b) →
     IsPlaceRestorable b o' (option_map (settled_file s) p) → IsPlaceLeft b f o' (option_map (λ file. carrying file.carried (settled_file s file)) p)
 place_settled a b f None None None s abort orderly left back stands can = tt
 place_settled a b f None (Some new) None s abort orderly left back stands can = absurd back

@@ -9,7 +9,7 @@ use Rattle.vms_model.specs.Transactions.{Abort}
 use Rattle.unit_laws.specs.Journal.{Journal, RecoveryUnit, find_unit, units_in}
 use Rattle.commit_protocol.specs.Table as table
 use Rattle.run_model.specs.World.{Node, File, Settlement, AreUnitsOf, Tables, acted, settlement_of}
-use Rattle.directory_model.specs.Files.{AreFiles, StandsIn, head_at}
+use Rattle.directory_model.specs.Files.{AgreesOnFile, AreFiles, head_at}
 use Rattle.directory_model.specs.Laws.{settled_buckets}
 use Rattle.directory_model.specs.Restoring.{AreRestorable, AreLeft, AreGrouped, AreRestored, IsLeft, IsGrouped, IsRestored, StandPrepared}
 
@@ -26,10 +26,10 @@ PreparedStand = (content : List (List ℕ)) (heads : List (Option FileHead)) (n 
 
 -- contents in which all that each file has stands have the same left of the files
 abbrev pub LeftStands : Type 0
-LeftStands = (a b : List (List ℕ)) (heads : List (Option FileHead)) (directory : List (Option File)) → ((f : ℕ) (h : FileHead) → head_at heads f ≡ Some h → StandsIn h a b) → AreLeft a heads directory → AreLeft b heads directory
+LeftStands = (a b : List (List ℕ)) (heads : List (Option FileHead)) (directory : List (Option File)) → ((f : ℕ) (h : FileHead) → head_at heads f ≡ Some h → AgreesOnFile h a b) → AreLeft a heads directory → AreLeft b heads directory
 
 abbrev pub PreparedStays : Type 0
-PreparedStays = (units : Journal) (a b : List (List ℕ)) (heads : List (Option FileHead)) (directory : List (Option File)) → ((f : ℕ) (h : FileHead) → head_at heads f ≡ Some h → StandsIn h a b) → AreLeft a heads directory →
+PreparedStays = (units : Journal) (a b : List (List ℕ)) (heads : List (Option FileHead)) (directory : List (Option File)) → ((f : ℕ) (h : FileHead) → head_at heads f ≡ Some h → AgreesOnFile h a b) → AreLeft a heads directory →
     StandPrepared units a heads directory → StandPrepared units b heads directory
 
 -- a group of an undo leaves what can be undone further

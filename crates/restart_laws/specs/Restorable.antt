@@ -1,6 +1,7 @@
 -- What unsettled branches changed can be restored, over each act of a node that is up.
 use Rattle.std.specs.Prelude.{◌≡◌, ℕ, ◌-◌, ◌<◌, ◌≤◌, List, [], ◌∷◌, Bool, true, false, Option, Some, None, map, replicate, slice_set, drop}
 use Rattle.std.specs.List.{AllByRecursion}
+use Rattle.vms_model.specs.Limits.{file_limit}
 use Rattle.file_base.specs.declared.head.FileHead.{FileHead}
 use Rattle.file_base.specs.declared.head.Organization.TheVariants.{Sequential}
 use Rattle.change_set.specs.Files.{AgreesOn, SameFile}
@@ -16,7 +17,7 @@ use Rattle.records_model.specs.History.{LiveChanges, is_held, same_id}
 use Rattle.run_model.specs.Operations.{in_order, removed}
 use Rattle.run_model.specs.World.{Node, File, Mark, Settlement, AreUnitsOf, Formats, Creates, Marks, Saves, Tables, Changes, Directs, acted, settlement_of}
 use Rattle.commit_protocol.specs.Table as table
-use Rattle.directory_model.specs.Files.{AreFiles, IsFoundAt, IsNamed, IsWithin, StandsIn, head_at, file_at}
+use Rattle.directory_model.specs.Files.{AreFiles, IsFoundAt, IsNamed, IsWithin, AgreesOnFile, head_at, file_at}
 use Rattle.directory_model.specs.Restoring.{AreRestorable, AreRestored}
 use Rattle.directory_model.specs.Laws.{SameBut}
 use Rattle.restart_laws.specs.Units.{MayChange}
@@ -42,10 +43,10 @@ SameLive (Some file) (Some other) = other.history.live ≡ file.history.live
 -- What unsettled branches changed can be restored in contents that agree on the files, on a new volume, beside a new file or a marked one, after changes that are committed
 -- at once, and once one of the branches is settled.
 pub record KeepsRestorable : Type 0 where
-  pub stands : (a b : List (List ℕ)) (heads : List (Option FileHead)) (directory : List (Option File)) → ((f : ℕ) (h : FileHead) → head_at heads f ≡ Some h → StandsIn h a b) → AreFiles a heads directory →
+  pub stands : (a b : List (List ℕ)) (heads : List (Option FileHead)) (directory : List (Option File)) → ((f : ℕ) (h : FileHead) → head_at heads f ≡ Some h → AgreesOnFile h a b) → AreFiles a heads directory →
       AreRestorable a heads directory → AreRestorable b heads directory
-  pub formats : (content : List (List ℕ)) (n : Node) (slots journal : ℕ) → AreRestorable content (replicate 64 None) (acted (Formats slots journal) n).durable.directory
-  pub creates : (content : List (List ℕ)) (heads : List (Option FileHead)) (n : Node) (f : ℕ) (h : FileHead) (file : File) → AreFiles content heads n.durable.directory → f < 64 → file.history.live ≡ [] →
+  pub formats : (content : List (List ℕ)) (n : Node) (slots journal : ℕ) → AreRestorable content (replicate file_limit None) (acted (Formats slots journal) n).durable.directory
+  pub creates : (content : List (List ℕ)) (heads : List (Option FileHead)) (n : Node) (f : ℕ) (h : FileHead) (file : File) → AreFiles content heads n.durable.directory → f < file_limit → file.history.live ≡ [] →
       AreRestorable content heads n.durable.directory → AreRestorable content (slice_set heads f (Some h)) (acted (Creates f file) n).durable.directory
   pub marks : (content : List (List ℕ)) (heads : List (Option FileHead)) (n : Node) (f : ℕ) (h new : FileHead) (name : List ℕ) (mark : Mark) → AreFiles content heads n.durable.directory → IsNamed heads f h name → SameBuckets h new →
       AreRestorable content heads n.durable.directory → AreRestorable content (slice_set heads f (Some new)) (acted (Marks name mark) n).durable.directory

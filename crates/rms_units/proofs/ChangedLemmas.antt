@@ -9,7 +9,7 @@ use Rattle.record_files.specs.Any.{IsFile, IsLaidOut}
 use Rattle.record_locks.specs.Locks.{Lock, holder, with_locks}
 use Rattle.record_operations.specs.declared.errors.RecErr.{RecErr}
 use Rattle.record_operations.specs.Causes.{Cause, IfRefused, down_in}
-use Rattle.unit_journal.specs.Groups.{Breaks, Caused, Goes, Grows}
+use Rattle.unit_journal.specs.Groups.{Breaks, Caused, DiskAdvances, Grows}
 use Rattle.unit_journal.specs.Leaving.{FellIn}
 use Rattle.unit_journal.specs.Settling.{next_moment}
 use Rattle.unit_journal.specs.Spans.{entered, longer}
@@ -25,7 +25,7 @@ use Rattle.volume_files.specs.Staging.{TellsSet}
 use Rattle.volume_files.proofs.StagingLemmas.{stages_read}
 use Rattle.unit_votes.proofs.Settled.{breaks_from}
 use Rattle.key_changes.specs.declared.asked.KeyChange.{KeyChange}
-use Rattle.rms_units.specs.Calls.{ChangesKey, CommitsChange, KeyBroke, MakesEntry, MakesKey, change_late, direct_late}
+use Rattle.rms_units.specs.Calls.{ChangesKey, CommitsChange, KeyBroke, MakesEntry, MakesKey, change_refused_after_reading, direct_refused_after_reading}
 use Rattle.unit_journal.specs.Entries.{change_entry}
 use Rattle.key_changes.specs.Changing.{after_change, before_change, keys_asked, locks_refuse}
 use Rattle.kept_files.specs.Own.{own_change}
@@ -40,8 +40,8 @@ module _ (e : RecErr) (P : Cause → Type 0) (E : Type 0) (v w : VolumeState) (i
   refused_grows settlements clock = either_way e (λ cause. P cause × SameVolume v w) (λ down. E × FellIn down v w) (λ _. Grows settlements clock v w) is
       (λ cause x. grows_nowhere settlements clock v w (ap (λ (y : VolumeState). y.catalog) x.1)) (λ down x. fell_grows settlements clock down v w x.1)
 
-  pub refused_goes : Goes v.store.disk w.store.disk
-  refused_goes = either_way e (λ cause. P cause × SameVolume v w) (λ down. E × FellIn down v w) (λ _. Goes v.store.disk w.store.disk) is (λ cause x. same_goes v w x.1) (λ down x. fell_goes down v w x.1)
+  pub refused_goes : DiskAdvances v.store.disk w.store.disk
+  refused_goes = either_way e (λ cause. P cause × SameVolume v w) (λ down. E × FellIn down v w) (λ _. DiskAdvances v.store.disk w.store.disk) is (λ cause x. same_goes v w x.1) (λ down x. fell_goes down v w x.1)
 
   pub refused_caused : Caused (down_in e) v.store.disk w.store.disk
   refused_caused = either_way e (λ cause. P cause × SameVolume v w) (λ down. E × FellIn down v w) (λ d. Caused d v.store.disk w.store.disk) is (λ cause x. tt) (λ down x. fell_caused down v w x.1)
@@ -97,7 +97,7 @@ module _ (u : OpenUnit) (file : ℕ) (h : FileHead) (how : KeyChange) (key : Key
       (enters_from v x same file h (λ k. is_some (holder s.locks file k)) key (after_change how told) (change_entry u.tid u.serial file key (after_change how told)) (change_entry u.tid u.serial file key (before_change how found)) made m)
 
   pub changed : (place : ℕ) (by : Id) (t : UnitsState) → by ≡ u.serial → locks_refuse (Some by) file (keys_asked h how key) s.locks ≡ None →
-      ((a : List (List ℕ)) → v.store.current ≡ Some a → IsFile h → IsLaidOut h a → change_late u file h how key value s v a ≡ None) → MakesEntry u file h how key told found s.locks x w →
+      ((a : List (List ℕ)) → v.store.current ≡ Some a → IsFile h → IsLaidOut h a → change_refused_after_reading u file h how key value s v a ≡ None) → MakesEntry u file h how key told found s.locks x w →
       t.units ≡ with_unit place (with_position x.catalog.ru.end file u) s.units → has_changed (with_position x.catalog.ru.end file u) file ≡ true → t.locks ≡ with_locks by file (keys_asked h how key) s.locks → ChangesKey place u file h how key value s v t w
   changed place by t serial early late makes units noted locks = record {
     early = subst (λ (b : Id). locks_refuse (Some b) file (keys_asked h how key) s.locks ≡ None) serial early;
@@ -113,7 +113,7 @@ module _ (u : OpenUnit) (file : ℕ) (h : FileHead) (how : KeyChange) (key : Key
   }
 
   pub broken : (by : Id) → by ≡ u.serial → locks_refuse (Some by) file (keys_asked h how key) s.locks ≡ None →
-      ((a : List (List ℕ)) → v.store.current ≡ Some a → IsFile h → IsLaidOut h a → change_late u file h how key value s v a ≡ None) → Breaks (MakesEntry u file h how key told found s.locks x) x w → KeyBroke u file h how key value s v w
+      ((a : List (List ℕ)) → v.store.current ≡ Some a → IsFile h → IsLaidOut h a → change_refused_after_reading u file h how key value s v a ≡ None) → Breaks (MakesEntry u file h how key told found s.locks x) x w → KeyBroke u file h how key value s v w
   broken by serial early late breaks = record {
     early = subst (λ (b : Id). locks_refuse (Some b) file (keys_asked h how key) s.locks ≡ None) serial early;
     breaks = breaks_from (MakesEntry u file h how key told found s.locks x) (MakesKey u file h how key value s v) v x w (same_content v x same)
@@ -130,7 +130,7 @@ module _ (tid : Tid) (clock moment : ℕ) (file : ℕ) (h : FileHead) (how : Key
   at = next ∙ (λ i. next_moment clock (same i).catalog.home)
 
   abbrev Late : Type 0
-  Late = (a : List (List ℕ)) → v.store.current ≡ Some a → IsFile h → IsLaidOut h a → direct_late file h how key value s a ≡ None
+  Late = (a : List (List ℕ)) → v.store.current ≡ Some a → IsFile h → IsLaidOut h a → direct_refused_after_reading file h how key value s a ≡ None
 
   commits : Late → (made : VolumeState) → Told told moment x made → CommitsChange tid clock file h how key value s v made
   commits late made m = record {

@@ -19,7 +19,7 @@ use Rattle.image_appends.specs.Images.{HasRoom}
 use Rattle.unit_cuts.specs.Records.{OfRecords}
 use Rattle.unit_cuts.specs.Truncating.{AllTold, BreaksCut, CommitsCut, CutEntries, CutsFile, EntersCut, MakesCut, TellCut, TellsCutIf, WritesBehind, WritesImages, cut_entries, keys_cut, span_behind, with_entries_if}
 use Rattle.rms_units.specs.State.{UnitsState}
-use Rattle.rms_units.specs.Truncating.{IsCut, IsDirectCut, cut_late, direct_cut_late}
+use Rattle.rms_units.specs.Truncating.{IsCut, IsDirectCut, cut_refused_after_reading, direct_cut_refused_after_reading}
 
 module _ (v x : VolumeState) (alike : SameVolume v x) where
   behind_from : (kept : Bool) (s : Span) (es : List Entry) (w : VolumeState) → WritesBehind kept s es x w → WritesBehind kept s es v w
@@ -89,12 +89,12 @@ module _ (v x : VolumeState) (alike : SameVolume v x) where
 
   pub breaks_cut_from : (u : OpenUnit) (file : ℕ) (h : FileHead) (from : ℕ) (s : UnitsState) (w : VolumeState) → BreaksCut h (IsCut u file h from s x) x w → BreaksCut h (IsCut u file h from s v) v w
   breaks_cut_from u file h from s w = breaks_from h (IsCut u file h from s x) (IsCut u file h from s v) w (λ made c. record {
-    late = subst (λ (y : VolumeState). OfRecords h y (λ m. cut_late u file h from s y m ≡ None)) alike c.late;
+    late = subst (λ (y : VolumeState). OfRecords h y (λ m. cut_refused_after_reading u file h from s y m ≡ None)) alike c.late;
     entries = c.entries;
     makes = cut_from u.tid u.serial file h from c.entries made c.makes;
   })
 
-  pub breaks_direct_from : (file : ℕ) (h : FileHead) (from : ℕ) (tid : Tid) (clock moment : ℕ) (s : UnitsState) (w : VolumeState) → moment ≡ next_moment clock v.catalog.home → OfRecords h v (λ m. direct_cut_late file h from s m ≡ None) →
+  pub breaks_direct_from : (file : ℕ) (h : FileHead) (from : ℕ) (tid : Tid) (clock moment : ℕ) (s : UnitsState) (w : VolumeState) → moment ≡ next_moment clock v.catalog.home → OfRecords h v (λ m. direct_cut_refused_after_reading file h from s m ≡ None) →
       BreaksCut h (λ made. (es : CutEntries) × CommitsCut file h from es tid moment s.units.places x made) x w → BreaksCut h (IsDirectCut tid clock file h from s v) v w
   breaks_direct_from file h from tid clock moment s w at late = breaks_from h (λ made. (es : CutEntries) × CommitsCut file h from es tid moment s.units.places x made) (IsDirectCut tid clock file h from s v) w (λ made c. record {
     late = late;

@@ -12,7 +12,7 @@ use Rattle.image_room.specs.Room.{images_refused}
 use Rattle.unit_cuts.specs.Moving.{ImagesFit}
 use Rattle.unit_cuts.specs.Truncating.{entry_sizes, keys_cut}
 use Rattle.rms_units.specs.State.{IsEarly, IsInOrder, UnitsState}
-use Rattle.rms_units.specs.Truncating.{cut_late, direct_cut_late}
+use Rattle.rms_units.specs.Truncating.{cut_refused_after_reading, direct_cut_refused_after_reading}
 use Rattle.rms_units.proofs.ImageSound.{rooms_to_change, rooms_to_settle}
 use Rattle.rms_units.proofs.OrderLemmas.{ring_behind, ring_of}
 use Rattle.record_operations.specs.Causes.{Cause}
@@ -47,22 +47,22 @@ module _ (s : UnitsState) (v : VolumeState) (file : ℕ) (h : FileHead) (o : IsI
 
 -- nothing refuses it for want of room
 pub late_none : (u : OpenUnit) (file : ℕ) (h : FileHead) (from : ℕ) (s : UnitsState) (v : VolumeState) (m : Map) (size : ℕ) → size ≡ entry_sizes m (keys_cut h from) → journal_refused v.catalog.ru s.units.places u size ≡ None →
-    images_refused h file s.units.places (has_changed u file) (entry_sizes empty_map (keys_cut h from)) size ≡ None → cut_late u file h from s v m ≡ None
+    images_refused h file s.units.places (has_changed u file) (entry_sizes empty_map (keys_cut h from)) size ≡ None → cut_refused_after_reading u file h from s v m ≡ None
 late_none u file h from s v m size is fits free =
     second_is _ _ None (ap (journal_refused v.catalog.ru s.units.places u) (sym is) ∙ fits) (ap (images_refused h file s.units.places (has_changed u file) (entry_sizes empty_map (keys_cut h from))) (sym is) ∙ free)
 
-pub direct_late_none : (file : ℕ) (h : FileHead) (from : ℕ) (s : UnitsState) (m : Map) (size : ℕ) → size ≡ entry_sizes m (keys_cut h from) → images_refused h file s.units.places false (entry_sizes empty_map (keys_cut h from)) size ≡ None → direct_cut_late file h from s m ≡ None
+pub direct_late_none : (file : ℕ) (h : FileHead) (from : ℕ) (s : UnitsState) (m : Map) (size : ℕ) → size ≡ entry_sizes m (keys_cut h from) → images_refused h file s.units.places false (entry_sizes empty_map (keys_cut h from)) size ≡ None → direct_cut_refused_after_reading file h from s m ≡ None
 direct_late_none file h from s m size is free = ap (images_refused h file s.units.places false (entry_sizes empty_map (keys_cut h from))) (sym is) ∙ free
 
 -- or this does
-pub late_journal : (u : OpenUnit) (file : ℕ) (h : FileHead) (from : ℕ) (s : UnitsState) (v : VolumeState) (m : Map) (size : ℕ) (cause : Cause) → size ≡ entry_sizes m (keys_cut h from) → journal_refused v.catalog.ru s.units.places u size ≡ Some cause → cut_late u file h from s v m ≡ Some cause
+pub late_journal : (u : OpenUnit) (file : ℕ) (h : FileHead) (from : ℕ) (s : UnitsState) (v : VolumeState) (m : Map) (size : ℕ) (cause : Cause) → size ≡ entry_sizes m (keys_cut h from) → journal_refused v.catalog.ru s.units.places u size ≡ Some cause → cut_refused_after_reading u file h from s v m ≡ Some cause
 late_journal u file h from s v m size cause is full = first_is _ _ cause (ap (journal_refused v.catalog.ru s.units.places u) (sym is) ∙ full)
 
 pub late_images : (u : OpenUnit) (file : ℕ) (h : FileHead) (from : ℕ) (s : UnitsState) (v : VolumeState) (m : Map) (size : ℕ) (cause : Cause) → size ≡ entry_sizes m (keys_cut h from) → journal_refused v.catalog.ru s.units.places u size ≡ None →
-    images_refused h file s.units.places (has_changed u file) (entry_sizes empty_map (keys_cut h from)) size ≡ Some cause → cut_late u file h from s v m ≡ Some cause
+    images_refused h file s.units.places (has_changed u file) (entry_sizes empty_map (keys_cut h from)) size ≡ Some cause → cut_refused_after_reading u file h from s v m ≡ Some cause
 late_images u file h from s v m size cause is fits full =
     second_is _ _ (Some cause) (ap (journal_refused v.catalog.ru s.units.places u) (sym is) ∙ fits) (ap (images_refused h file s.units.places (has_changed u file) (entry_sizes empty_map (keys_cut h from))) (sym is) ∙ full)
 
 pub direct_late_images : (file : ℕ) (h : FileHead) (from : ℕ) (s : UnitsState) (m : Map) (size : ℕ) (cause : Cause) → size ≡ entry_sizes m (keys_cut h from) → images_refused h file s.units.places false (entry_sizes empty_map (keys_cut h from)) size ≡ Some cause →
-    direct_cut_late file h from s m ≡ Some cause
+    direct_cut_refused_after_reading file h from s m ≡ Some cause
 direct_late_images file h from s m size cause is full = ap (images_refused h file s.units.places false (entry_sizes empty_map (keys_cut h from))) (sym is) ∙ full

@@ -6,7 +6,7 @@ use Rattle.file_base.specs.declared.head.FileHead.{FileHead}
 use Rattle.file_base.specs.declared.head.Organization.{Organization}
 use Rattle.file_base.specs.declared.head.Organization.TheVariants.{Sequential, Relative, Indexed}
 use Rattle.record_operations.specs.Asking.{is_of_key, written}
-use Rattle.record_operations.specs.Causes.{BadRecordSize, Cause, NeedsUnit, NotMarked, cause_if, first_cause}
+use Rattle.record_operations.specs.Causes.{BadRecordSize, Cause, NeedsUnit, NotForUnits, cause_if, first_cause}
 use Rattle.record_operations.specs.Forms.{form_refused, key_refused, least_size, place_refused, size_refused}
 use Rattle.record_operations.specs.declared.ops.RecordOp.{RecordOp}
 use Rattle.record_operations.specs.declared.ops.RecordOp.TheVariants as op
@@ -17,7 +17,7 @@ use Rattle.volume.specs.State.{VolumeState}
 use Rattle.volume_files.proofs.Places.{fits_at}
 use Rattle.key_changes.specs.declared.asked.KeyChange.{KeyChange}
 use Rattle.key_changes.specs.declared.asked.KeyChange.TheVariants as change
-use Rattle.rms_units.specs.Calls.{change_early, direct_early}
+use Rattle.rms_units.specs.Calls.{change_refused_before_reading, direct_refused_before_reading}
 use Rattle.key_changes.specs.Keys.{change_in, key_in, position_by}
 use Rattle.rms_units.specs.State.{IsInOrder, UnitsState}
 use Rattle.rms_units.proofs.Refusing.{second_is}
@@ -25,10 +25,10 @@ use Rattle.rms_units.proofs.RoomLemmas.{not_refused}
 
 -- What is allowed before keys are looked at.
 
-pub change_allowed : (h : FileHead) (o : RecordOp) (value : List ℕ) → form_refused h o (length value) ≡ None → h.marks.ru ≡ true → change_early h o value ≡ None
-change_allowed h o value form marked = second_is (form_refused h o (length value)) (cause_if (not h.marks.ru) NotMarked) None form (ap (λ (b : Bool). cause_if (not b) NotMarked) marked)
+pub change_allowed : (h : FileHead) (o : RecordOp) (value : List ℕ) → form_refused h o (length value) ≡ None → h.marks.ru ≡ true → change_refused_before_reading h o value ≡ None
+change_allowed h o value form marked = second_is (form_refused h o (length value)) (cause_if (not h.marks.ru) NotForUnits) None form (ap (λ (b : Bool). cause_if (not b) NotForUnits) marked)
 
-pub direct_allowed : (h : FileHead) (o : RecordOp) (value : List ℕ) → form_refused h o (length value) ≡ None → h.marks.ru ≡ false → direct_early h o value ≡ None
+pub direct_allowed : (h : FileHead) (o : RecordOp) (value : List ℕ) → form_refused h o (length value) ≡ None → h.marks.ru ≡ false → direct_refused_before_reading h o value ≡ None
 direct_allowed h o value form marked = second_is (form_refused h o (length value)) (cause_if h.marks.ru NeedsUnit) None form (ap (λ (b : Bool). cause_if b NeedsUnit) marked)
 
 -- What a form allows.

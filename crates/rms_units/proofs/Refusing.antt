@@ -4,7 +4,7 @@ use Rattle.careful_write.specs.declared.down.Down.{Down}
 use Rattle.vms_base.specs.Ids.{serial_of}
 use Rattle.record_operations.specs.declared.errors.RecErr.{RecErr}
 use Rattle.record_operations.specs.declared.errors.RecErr.TheVariants as err
-use Rattle.record_operations.specs.Causes.{Cause, BadParameter, BadOperation, BadRecordNumber, BadRecordSize, NotMarked, NeedsUnit, Locked, RecordExists, KeyExists, RecordNotFound, EndOfFile, KeyChanged, Changes, Locks, FileFull, JournalFull, AfterImagesFull, BeforeImagesFull, IfRefused, IsRefusal, cause_of, down_in, first_cause}
+use Rattle.record_operations.specs.Causes.{Cause, BadParameter, BadOperation, BadRecordNumber, BadRecordSize, NotForUnits, NeedsUnit, Locked, RecordExists, KeyExists, RecordNotFound, EndOfFile, KeyChanged, Changes, Locks, FileFull, JournalFull, AfterImagesFull, BeforeImagesFull, IfRefused, IsRefusal, cause_of, down_in, first_cause}
 
 -- a refusal for a cause that is told
 pub refused_by : (e : RecErr) (told : Option Cause) (P : Cause → Type 0) (Q : Down → Type 0) → cause_of e ≡ told → IsRefusal e → ((cause : Cause) → told ≡ Some cause → P cause) → IfRefused e P Q
@@ -12,7 +12,7 @@ refused_by err.BadParameter told P Q is some says = says BadParameter (sym is)
 refused_by err.BadOperation told P Q is some says = says BadOperation (sym is)
 refused_by err.BadRecordNumber told P Q is some says = says BadRecordNumber (sym is)
 refused_by err.BadRecordSize told P Q is some says = says BadRecordSize (sym is)
-refused_by err.NotMarked told P Q is some says = says NotMarked (sym is)
+refused_by err.NotForUnits told P Q is some says = says NotForUnits (sym is)
 refused_by err.NeedsUnit told P Q is some says = says NeedsUnit (sym is)
 refused_by (err.Locked by) told P Q is some says = says (Locked (serial_of by)) (sym is)
 refused_by err.RecordExists told P Q is some says = says RecordExists (sym is)
@@ -34,7 +34,7 @@ refused_so err.BadParameter P R Q S is f g = f BadParameter is
 refused_so err.BadOperation P R Q S is f g = f BadOperation is
 refused_so err.BadRecordNumber P R Q S is f g = f BadRecordNumber is
 refused_so err.BadRecordSize P R Q S is f g = f BadRecordSize is
-refused_so err.NotMarked P R Q S is f g = f NotMarked is
+refused_so err.NotForUnits P R Q S is f g = f NotForUnits is
 refused_so err.NeedsUnit P R Q S is f g = f NeedsUnit is
 refused_so (err.Locked by) P R Q S is f g = f (Locked (serial_of by)) is
 refused_so err.RecordExists P R Q S is f g = f RecordExists is
@@ -56,7 +56,7 @@ either_way err.BadParameter P Q R is f g = f BadParameter is
 either_way err.BadOperation P Q R is f g = f BadOperation is
 either_way err.BadRecordNumber P Q R is f g = f BadRecordNumber is
 either_way err.BadRecordSize P Q R is f g = f BadRecordSize is
-either_way err.NotMarked P Q R is f g = f NotMarked is
+either_way err.NotForUnits P Q R is f g = f NotForUnits is
 either_way err.NeedsUnit P Q R is f g = f NeedsUnit is
 either_way (err.Locked by) P Q R is f g = f (Locked (serial_of by)) is
 either_way err.RecordExists P Q R is f g = f RecordExists is

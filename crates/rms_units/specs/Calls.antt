@@ -23,7 +23,7 @@ use Rattle.key_changes.specs.declared.asked.KeyChange.{KeyChange}
 use Rattle.key_changes.specs.declared.asked.KeyChange.TheVariants as change
 use Rattle.record_operations.specs.declared.errors.RecErr.{RecErr}
 use Rattle.record_operations.specs.Asking.{file_in, is_of_key, read_file_in, written}
-use Rattle.record_operations.specs.Causes.{Cause, NotMarked, NeedsUnit, cause_of, cause_if, first_cause, IfRefused}
+use Rattle.record_operations.specs.Causes.{Cause, NotForUnits, NeedsUnit, cause_of, cause_if, first_cause, IfRefused}
 use Rattle.key_changes.specs.Changing.{after_change, before_change, file_refused, found_refused, changes_refused, keys_asked, keys_refused, locks_refuse, need_of}
 use Rattle.unit_journal.specs.Entries.{change_entry, settled_entry}
 use Rattle.key_changes.specs.Keys.{change_in, key_in, position_by}
@@ -48,15 +48,15 @@ abbrev pub holding : (serial : Id) → (file : ℕ) → List Key → UnitsState 
 holding serial file keys s = record s { locks = with_locks serial file keys s.locks }
 
 -- what refuses a read for a unit before a record is looked for
-abbrev pub read_early : FileHead → ReadOp → Option Cause
-read_early h op = first_cause (read_form_refused h op) (cause_if (not h.marks.ru) NotMarked)
+abbrev pub read_refused_before_reading : FileHead → ReadOp → Option Cause
+read_refused_before_reading h op = first_cause (read_form_refused h op) (cause_if (not h.marks.ru) NotForUnits)
 
 -- A read for a unit is refused: before a record is looked for; by what is found; or since too many keys would be held with it.
 abbrev pub ReadRefused : OpenUnit → FileHead → ReadOp → Cause → UnitsState → VolumeState → Type 0
 ReadRefused u h op cause s v =
-    (read_early h op ≡ Some cause)
-    ⊎ ((read_early h op ≡ None) × OfRecords h v (FindsNone op (Some u.serial) s.locks cause))
-    ⊎ ((read_early h op ≡ None) × ((key : Key) × (bytes : List ℕ) × OfRecords h v (Finds op (Some u.serial) s.locks key bytes) × (keys_refused (read_file_in op) (key ∷ []) s.locks ≡ Some cause)))
+    (read_refused_before_reading h op ≡ Some cause)
+    ⊎ ((read_refused_before_reading h op ≡ None) × OfRecords h v (FindsNone op (Some u.serial) s.locks cause))
+    ⊎ ((read_refused_before_reading h op ≡ None) × ((key : Key) × (bytes : List ℕ) × OfRecords h v (Finds op (Some u.serial) s.locks key bytes) × (keys_refused (read_file_in op) (key ∷ []) s.locks ≡ Some cause)))
 
 -- A read of a key reads as many blocks at the most as a walk to it in the file.
 abbrev pub ReadsFew : FileHead → ReadOp → VolumeState → VolumeState → Type 0
@@ -65,7 +65,7 @@ ReadsFew h (read.Next file after) v w = ⊤
 
 -- A unit has read a record, which it holds from then on.
 pub record ReadsOk (u : OpenUnit) (h : FileHead) (op : ReadOp) (key : Key) (bytes : List ℕ) (s : UnitsState) (v : VolumeState) (t : UnitsState) (w : VolumeState) : Type 0 where
-  pub early : read_early h op ≡ None
+  pub early : read_refused_before_reading h op ≡ None
   pub finds : OfRecords h v (Finds op (Some u.serial) s.locks key bytes)
   pub few : keys_refused (read_file_in op) (key ∷ []) s.locks ≡ None
   pub held : t ≡ holding u.serial (read_file_in op) (key ∷ []) s
@@ -73,7 +73,7 @@ pub record ReadsOk (u : OpenUnit) (h : FileHead) (op : ReadOp) (key : Key) (byte
 
 -- nothing refuses a read for a unit before a record is read
 abbrev pub MayRead : OpenUnit → FileHead → ReadOp → UnitsState → Type 0
-MayRead u h op s = (read_early h op ≡ None) × (locks_refuse (Some u.serial) (read_file_in op) (read_keys op) s.locks ≡ None)
+MayRead u h op s = (read_refused_before_reading h op ≡ None) × (locks_refuse (Some u.serial) (read_file_in op) (read_keys op) s.locks ≡ None)
 
 -- A read was refused, and nothing changed; or the disk went down in one that nothing had refused.
 abbrev pub ReadsErr : OpenUnit → FileHead → ReadOp → RecErr → UnitsState → VolumeState → UnitsState → VolumeState → Type 0
@@ -97,12 +97,12 @@ LooksErr h op e s v w = IfRefused e (λ cause. LookRefused h op cause s v × Sam
 -- Changes of one key.
 
 -- what refuses a unit's change of a file before its keys are looked at
-abbrev pub change_early : FileHead → RecordOp → (value : List ℕ) → Option Cause
-change_early h o value = first_cause (form_refused h o (length value)) (cause_if (not h.marks.ru) NotMarked)
+abbrev pub change_refused_before_reading : FileHead → RecordOp → (value : List ℕ) → Option Cause
+change_refused_before_reading h o value = first_cause (form_refused h o (length value)) (cause_if (not h.marks.ru) NotForUnits)
 
 -- what refuses a unit's change of one key then, where this is the content: what the key has, a quota, or want of space
-abbrev pub change_late : OpenUnit → (file : ℕ) → FileHead → KeyChange → Key → (value : List ℕ) → UnitsState → VolumeState → List (List ℕ) → Option Cause
-change_late u file h how key value s v content =
+abbrev pub change_refused_after_reading : OpenUnit → (file : ℕ) → FileHead → KeyChange → Key → (value : List ℕ) → UnitsState → VolumeState → List (List ℕ) → Option Cause
+change_refused_after_reading u file h how key value s v content =
     let found = map_of h content key in
     first_cause (found_refused h how key found value) (first_cause (changes_refused 1 u) (first_cause (keys_refused file (keys_asked h how key) s.locks)
     (first_cause (file_refused h (need_of h content how (length value))) (first_cause (journal_refused v.catalog.ru s.units.places u (entry_size key (before_change how (unwrap_or found []))))
@@ -112,7 +112,7 @@ change_late u file h how key value s v content =
 abbrev pub KeyRefused : OpenUnit → (file : ℕ) → FileHead → KeyChange → Key → (value : List ℕ) → Cause → UnitsState → VolumeState → Type 0
 KeyRefused u file h how key value cause s v =
     (locks_refuse (Some u.serial) file (keys_asked h how key) s.locks ≡ Some cause)
-    ⊎ ((locks_refuse (Some u.serial) file (keys_asked h how key) s.locks ≡ None) × ((a : List (List ℕ)) → v.store.current ≡ Some a → IsFile h → IsLaidOut h a → change_late u file h how key value s v a ≡ Some cause))
+    ⊎ ((locks_refuse (Some u.serial) file (keys_asked h how key) s.locks ≡ None) × ((a : List (List ℕ)) → v.store.current ≡ Some a → IsFile h → IsLaidOut h a → change_refused_after_reading u file h how key value s v a ≡ Some cause))
 
 -- A volume has what a unit's change makes of it, with an entry in the journal that tells that the key had what was found.
 abbrev pub MakesEntry : OpenUnit → (file : ℕ) → FileHead → KeyChange → Key → (value found : List ℕ) → List Lock → VolumeState → VolumeState → Type 0
@@ -120,7 +120,7 @@ MakesEntry u file h how key value found locks v made = EntersKey file h (λ k. i
 
 -- so with what the key had, where nothing that stands, no quota and no want of space refuses it
 pub record MakesKey (u : OpenUnit) (file : ℕ) (h : FileHead) (how : KeyChange) (key : Key) (value : List ℕ) (s : UnitsState) (v made : VolumeState) : Type 0 where
-  pub late : (a : List (List ℕ)) → v.store.current ≡ Some a → IsFile h → IsLaidOut h a → change_late u file h how key value s v a ≡ None
+  pub late : (a : List (List ℕ)) → v.store.current ≡ Some a → IsFile h → IsLaidOut h a → change_refused_after_reading u file h how key value s v a ≡ None
   pub found : List ℕ
   pub had : OfRecords h v (λ m. before_change how (unwrap_or (m key) []) ≡ before_change how found)
   pub enters : MakesEntry u file h how key value found s.locks v made
@@ -145,23 +145,23 @@ ChangesKeyErr u file h how key value e s v t w = (t ≡ s) × IfRefused e (λ ca
 -- A change that a unit asked for is made, of a key or of the records from a position on, and its position is told: that of a record that was put into a
 -- sequential file, else 0.
 pub record ChangesOk (place : ℕ) (u : OpenUnit) (h : FileHead) (o : RecordOp) (bytes : List ℕ) (told : ℕ) (s : UnitsState) (v : VolumeState) (t : UnitsState) (w : VolumeState) : Type 0 where
-  pub early : change_early h o (written o bytes) ≡ None
+  pub early : change_refused_before_reading h o (written o bytes) ≡ None
   pub changes : is_of_key o ≡ true → ChangesKey place u (file_in o) h (change_in o) (key_in h o (written o bytes)) (written o bytes) s v t w
   pub cuts : (file from : ℕ) → o ≡ op.Truncate file from → ChangesCut place u file h from s v t w
   pub position : told ≡ position_by h.organization (change_in o) (key_in h o (written o bytes))
 
 -- what refuses it behind its form and the file's mark
 pub record IsRefusedLate (u : OpenUnit) (h : FileHead) (o : RecordOp) (value : List ℕ) (cause : Cause) (s : UnitsState) (v : VolumeState) : Type 0 where
-  pub allowed : change_early h o value ≡ None
+  pub allowed : change_refused_before_reading h o value ≡ None
   pub key : is_of_key o ≡ true → KeyRefused u (file_in o) h (change_in o) (key_in h o value) value cause s v
   pub cut : (file from : ℕ) → o ≡ op.Truncate file from → CutRefused u file h from cause s v
 
 abbrev pub ChangeRefused : OpenUnit → FileHead → RecordOp → (value : List ℕ) → Cause → UnitsState → VolumeState → Type 0
-ChangeRefused u h o value cause s v = (change_early h o value ≡ Some cause) ⊎ IsRefusedLate u h o value cause s v
+ChangeRefused u h o value cause s v = (change_refused_before_reading h o value ≡ Some cause) ⊎ IsRefusedLate u h o value cause s v
 
 -- the disk went down in one that nothing had refused, and it was perhaps under way
 pub record ChangeBroke (u : OpenUnit) (h : FileHead) (o : RecordOp) (value : List ℕ) (s : UnitsState) (v w : VolumeState) : Type 0 where
-  pub allowed : change_early h o value ≡ None
+  pub allowed : change_refused_before_reading h o value ≡ None
   pub key : is_of_key o ≡ true → KeyBroke u (file_in o) h (change_in o) (key_in h o value) value s v w
   pub cut : (file from : ℕ) → o ≡ op.Truncate file from → CutBroke u file h from s v w
 
@@ -172,12 +172,12 @@ ChangesErr u h o bytes e s v t w = (t ≡ s) × IfRefused e (λ cause. ChangeRef
 -- Changes without a unit.
 
 -- what refuses a change of a file without a unit before its keys are looked at
-abbrev pub direct_early : FileHead → RecordOp → (value : List ℕ) → Option Cause
-direct_early h o value = first_cause (form_refused h o (length value)) (cause_if h.marks.ru NeedsUnit)
+abbrev pub direct_refused_before_reading : FileHead → RecordOp → (value : List ℕ) → Option Cause
+direct_refused_before_reading h o value = first_cause (form_refused h o (length value)) (cause_if h.marks.ru NeedsUnit)
 
 -- what refuses one of one key then, where this is the content: what the key has, or want of space
-abbrev pub direct_late : (file : ℕ) → FileHead → KeyChange → Key → (value : List ℕ) → UnitsState → List (List ℕ) → Option Cause
-direct_late file h how key value s content =
+abbrev pub direct_refused_after_reading : (file : ℕ) → FileHead → KeyChange → Key → (value : List ℕ) → UnitsState → List (List ℕ) → Option Cause
+direct_refused_after_reading file h how key value s content =
     let found = map_of h content key in
     first_cause (found_refused h how key found value) (first_cause (file_refused h (need_of h content how (length value)))
     (images_refused h file s.units.places false (entry_size key (after_change how value)) (entry_size key (before_change how (unwrap_or found [])))))
@@ -186,11 +186,11 @@ direct_late file h how key value s content =
 abbrev pub DirectKeyRefused : (file : ℕ) → FileHead → KeyChange → Key → (value : List ℕ) → Cause → UnitsState → VolumeState → Type 0
 DirectKeyRefused file h how key value cause s v =
     (locks_refuse None file (keys_asked h how key) s.locks ≡ Some cause)
-    ⊎ ((locks_refuse None file (keys_asked h how key) s.locks ≡ None) × ((a : List (List ℕ)) → v.store.current ≡ Some a → IsFile h → IsLaidOut h a → direct_late file h how key value s a ≡ Some cause))
+    ⊎ ((locks_refuse None file (keys_asked h how key) s.locks ≡ None) × ((a : List (List ℕ)) → v.store.current ≡ Some a → IsFile h → IsLaidOut h a → direct_refused_after_reading file h how key value s a ≡ Some cause))
 
 -- a volume has what it makes of another at this clock, where nothing that stands and no want of space refuses it: the entries tell what was found at the key
 pub record CommitsChange (tid : Tid) (clock : ℕ) (file : ℕ) (h : FileHead) (how : KeyChange) (key : Key) (value : List ℕ) (s : UnitsState) (v made : VolumeState) : Type 0 where
-  pub late : (a : List (List ℕ)) → v.store.current ≡ Some a → IsFile h → IsLaidOut h a → direct_late file h how key value s a ≡ None
+  pub late : (a : List (List ℕ)) → v.store.current ≡ Some a → IsFile h → IsLaidOut h a → direct_refused_after_reading file h how key value s a ≡ None
   pub found : List ℕ
   pub had : OfRecords h v (λ m. before_change how (unwrap_or (m key) []) ≡ before_change how found)
   pub commits : CommitsKey file h (λ k. is_some (holder s.locks file k)) key (after_change how value) (own_change tid file key (after_change how value)) (own_change tid file key (before_change how found)) tid (next_moment clock v.catalog.home) s.units.places v made
@@ -211,23 +211,23 @@ DirectsKeyErr tid clock file h how key value e s v w = IfRefused e (λ cause. Di
 
 -- A change without a unit is made, and its position is told as that of a unit's change.
 pub record DirectsOk (tid : Tid) (clock : ℕ) (h : FileHead) (o : RecordOp) (bytes : List ℕ) (told : ℕ) (s : UnitsState) (v w : VolumeState) : Type 0 where
-  pub early : direct_early h o (written o bytes) ≡ None
+  pub early : direct_refused_before_reading h o (written o bytes) ≡ None
   pub changes : is_of_key o ≡ true → DirectsKey tid clock (file_in o) h (change_in o) (key_in h o (written o bytes)) (written o bytes) s v w
   pub cuts : (file from : ℕ) → o ≡ op.Truncate file from → DirectsCut tid clock file h from s v w
   pub position : told ≡ position_by h.organization (change_in o) (key_in h o (written o bytes))
 
 -- what refuses it behind its form and the file's mark
 pub record IsRefusedAlone (h : FileHead) (o : RecordOp) (value : List ℕ) (cause : Cause) (s : UnitsState) (v : VolumeState) : Type 0 where
-  pub allowed : direct_early h o value ≡ None
+  pub allowed : direct_refused_before_reading h o value ≡ None
   pub key : is_of_key o ≡ true → DirectKeyRefused (file_in o) h (change_in o) (key_in h o value) value cause s v
   pub cut : (file from : ℕ) → o ≡ op.Truncate file from → DirectCutRefused file h from cause s v
 
 abbrev pub DirectRefused : FileHead → RecordOp → (value : List ℕ) → Cause → UnitsState → VolumeState → Type 0
-DirectRefused h o value cause s v = (direct_early h o value ≡ Some cause) ⊎ IsRefusedAlone h o value cause s v
+DirectRefused h o value cause s v = (direct_refused_before_reading h o value ≡ Some cause) ⊎ IsRefusedAlone h o value cause s v
 
 -- the disk went down in one that nothing had refused, and it was perhaps under way
 pub record DirectBroke (tid : Tid) (clock : ℕ) (h : FileHead) (o : RecordOp) (value : List ℕ) (s : UnitsState) (v w : VolumeState) : Type 0 where
-  pub allowed : direct_early h o value ≡ None
+  pub allowed : direct_refused_before_reading h o value ≡ None
   pub key : is_of_key o ≡ true → DirectKeyBroke tid clock (file_in o) h (change_in o) (key_in h o value) value s v w
   pub cut : (file from : ℕ) → o ≡ op.Truncate file from → DirectCutBroke tid clock file h from s v w
 

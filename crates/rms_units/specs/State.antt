@@ -1,6 +1,8 @@
 -- The units of a node with the keys that they hold, and what holds of them and a volume on any disk.
 use Rattle.std.specs.Prelude.{◌≡◌, ◌≤◌, ◌<◌, ◌+◌, ◌-◌, ◌^◌, ℕ, List, [], ◌∷◌, Option, Some, false, length}
 use Rattle.std.specs.List.{All, AllByRecursion}
+use Rattle.block_disk.specs.Sizes.{greatest_disk_size, least_disk_size}
+use Rattle.vms_model.specs.Limits.{file_limit, moment_ceiling}
 use Rattle.careful_write.specs.State.{IsIdle}
 use Rattle.change_set.specs.Files.{free_frames}
 use Rattle.journal_model.specs.Ring.{ring_size}
@@ -55,11 +57,11 @@ AreAscending first end places = (p : ℕ) (u : OpenUnit) → unit_at places p �
 pub record IsInOrder (s : UnitsState) (v : VolumeState) : Type 0 where
   pub idle : IsIdle v.store
   pub frames : 32 ≤ free_frames v.store.pool
-  pub heads : length v.catalog.heads ≡ 64
+  pub heads : length v.catalog.heads ≡ file_limit
   pub sound : IsSound v.catalog.home.node v.store.disk.size v.catalog
   pub holds : Holds v
-  pub least : 4096 ≤ v.store.disk.size
-  pub most : v.store.disk.size ≤ 65536
+  pub least : least_disk_size ≤ v.store.disk.size
+  pub most : v.store.disk.size ≤ greatest_disk_size
   pub ascends : v.catalog.ru.first ≤ v.catalog.ru.end
   pub room : v.catalog.ru.end - v.catalog.ru.first + owed s.units.places ≤ ring_size v.catalog.ru
   pub within : AreWithin v.catalog.ru.first v.catalog.ru.end s.units.places
@@ -69,7 +71,7 @@ pub record IsInOrder (s : UnitsState) (v : VolumeState) : Type 0 where
 -- Numbers of the volume that only grow are far from their ends: the journal's end, those of the journals of images, and the greatest moment.
 pub record IsEarly (v : VolumeState) : Type 0 where
   pub low : v.catalog.ru.end + 2 ^ 22 ≤ 2 ^ 62
-  pub moment : v.catalog.home.greatest_moment.0 < 24000001000066
+  pub moment : v.catalog.home.greatest_moment.0 < moment_ceiling
   pub images : ImagesAreLow (2 ^ 24) v.catalog.heads
 
 -- the ends of the journals of images have grown by no more than a truncation may enter

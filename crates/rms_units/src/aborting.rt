@@ -1,5 +1,6 @@
 //! A unit is aborted.
 ghost use Rattle.std.specs.Prelude.{◌≡◌, ◌≤◌, ◌<◌, ◌+◌, IfOk, IfSome, IsSome, OnErr, OnOk, length};
+ghost use Rattle.vms_model.specs.Limits.{branch_limit, moment_ceiling};
 ghost use Rattle.careful_write.specs.Down.{Counts};
 ghost use Rattle.record_locks.specs.Locks.{released};
 ghost use Rattle.unit_journal.specs.Groups.{Grows};
@@ -32,12 +33,12 @@ pub(crate) fn abort_branch<D: Disk>(
     image: &mut Record,
     entry: &mut EntryBuf,
 ) -> Result<Moment, Down>
-    requires place { place < 64 }
+    requires place { place < branch_limit }
     requires there { IsSome (unit_at table.old.places place) }
     requires unit { IfSome (unit_at table.old.places place) (λ u. (tid_of branch.now.tid ≡ u.tid) × (serial_of branch.now.serial ≡ u.serial)) }
     requires order { IsInOrder (record { units = table.old; locks = locks.old.locks }) volume.old }
     requires early { IsEarly volume.old }
-    requires clock { clock.0 < 24000001000066 }
+    requires clock { clock.0 < moment_ceiling }
     ensures units { table.new ≡ without_place place table.old }
     ensures locks { locks.new ≡ record locks.old { locks = released (serial_of branch.now.serial) locks.old.locks } }
     ensures order { OnOk result (IsInOrder (record { units = table.new; locks = locks.new.locks }) volume.new) }

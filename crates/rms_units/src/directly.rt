@@ -1,5 +1,6 @@
 // Changes of one key by no unit.
 ghost use Rattle.std.specs.Prelude.{◌≡◌, ◌≤◌, ◌<◌, ℕ, List, [], false, None, OnOk, OnErr, IfOk, IfErr, IfSome, is_some, unwrap_or};
+ghost use Rattle.vms_model.specs.Limits.{moment_ceiling};
 ghost use Rattle.careful_write.specs.Down.{Counts};
 ghost use Rattle.change_set.specs.Files.{IsPlaced, free_frames};
 ghost use Rattle.record_files.specs.Any.{IsFile, IsLaidOut};
@@ -14,7 +15,7 @@ ghost use Rattle.image_appends.specs.declared.side.Side.TheVariants as sides;
 ghost use Rattle.image_room.specs.Room.{SettlementsFit, images_refused, kept_span};
 ghost use Rattle.unit_cuts.specs.Records.{OfRecords};
 ghost use Rattle.unit_journal.specs.Room.{entry_size as entry_said};
-ghost use Rattle.rms_units.specs.Calls.{DirectKeyRefused, direct_late};
+ghost use Rattle.rms_units.specs.Calls.{DirectKeyRefused, direct_refused_after_reading};
 ghost use Rattle.key_changes.specs.Changing.{IsFormed, MayBegin, after_change, before_change, keys_asked, locks_refuse};
 ghost use Rattle.kept_files.specs.Own.{own_change};
 ghost use Rattle.rms_units.specs.Making.{CommitsKey};
@@ -51,7 +52,7 @@ pub(crate) fn refuse_directly<D: Disk>(
     requires images { SettlementsFit sides.After asked.now.head asked.now.file table.now.places × SettlementsFit sides.Before asked.now.head asked.now.file table.now.places }
     requires ordered { IfSome (kept_span sides.After asked.now.head) (λ s. s.first ≤ s.end) × IfSome (kept_span sides.Before asked.now.head) (λ s. s.first ≤ s.end) }
     ensures early { OnOk result (locks_refuse None asked.now.file (keys_asked asked.now.head asked.now.change (key_of asked.now.key)) locks.now.locks ≡ None) }
-    ensures late { OnOk result ((a : List (List ℕ)) → volume.old.store.current ≡ Some a → IsFile asked.now.head → IsLaidOut asked.now.head a → direct_late asked.now.file asked.now.head asked.now.change (key_of asked.now.key) value.now (record { units = table.now; locks = locks.now.locks }) a ≡ None) }
+    ensures late { OnOk result ((a : List (List ℕ)) → volume.old.store.current ≡ Some a → IsFile asked.now.head → IsLaidOut asked.now.head a → direct_refused_after_reading asked.now.file asked.now.head asked.now.change (key_of asked.now.key) value.now (record { units = table.now; locks = locks.now.locks }) a ≡ None) }
     ensures had { OnOk result (OfRecords asked.now.head volume.old (λ m. before_change asked.now.change (unwrap_or (m (key_of asked.now.key)) []) ≡ before_change asked.now.change found.new)) }
     ensures rooms { OnOk result (images_refused asked.now.head asked.now.file table.now.places false (entry_said (key_of asked.now.key) (after_change asked.now.change value.now)) (entry_said (key_of asked.now.key) (before_change asked.now.change found.new)) ≡ None) }
     ensures begins { IfOk result (MayBegin asked.now.head volume.old (key_of asked.now.key)) }
@@ -106,7 +107,7 @@ pub(crate) fn make_directly<D: Disk>(
     requires early { IsEarly volume.old }
     requires formed { IsFormed asked.now value.now }
     requires rooms { images_refused asked.now.head asked.now.file table.now.places false (entry_said (key_of asked.now.key) (after_change asked.now.change value.now)) (entry_said (key_of asked.now.key) (before_change asked.now.change found.now)) ≡ None }
-    requires moment { moment.0 ≤ 24000001000066 }
+    requires moment { moment.0 ≤ moment_ceiling }
     ensures makes { OnOk result (CommitsKey asked.now.file asked.now.head (λ k. is_some (holder locks.now.locks asked.now.file k)) (key_of asked.now.key) (after_change asked.now.change value.now) (own_change tid asked.now.file (key_of asked.now.key) (after_change asked.now.change value.now)) (own_change tid asked.now.file (key_of asked.now.key) (before_change asked.now.change found.now)) tid moment.0 table.now.places volume.old volume.new) }
     ensures order { OnOk result (IsInOrder (record { units = table.now; locks = locks.now.locks }) volume.new) }
     ensures breaks { OnErr result (Breaks (CommitsKey asked.now.file asked.now.head (λ k. is_some (holder locks.now.locks asked.now.file k)) (key_of asked.now.key) (after_change asked.now.change value.now) (own_change tid asked.now.file (key_of asked.now.key) (after_change asked.now.change value.now)) (own_change tid asked.now.file (key_of asked.now.key) (before_change asked.now.change found.now)) tid moment.0 table.now.places volume.old) volume.old volume.new) }

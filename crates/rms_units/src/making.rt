@@ -1,8 +1,12 @@
 // What a change of one key makes of a volume.
 ghost use Rattle.std.specs.Prelude.{◌≡◌, ◌≤◌, ◌<◌, ◌+◌, ◌-◌, ◌^◌, ℕ, List, Some, IfOk, OnOk, OnErr, IfErr, length, option_map};
 ghost use Rattle.std.specs.Option.{option_copied};
+ghost use Rattle.block_disk.specs.Sizes.{greatest_disk_size, least_disk_size};
+ghost use Rattle.vms_model.specs.Limits.{file_limit};
+ghost use Rattle.vms_model.specs.Blocks.{log_start};
 ghost use Rattle.careful_write.specs.Down.{Counts};
 ghost use Rattle.careful_write.specs.State.{IsIdle};
+ghost use Rattle.careful_write.specs.Sizes.{staged_limit};
 ghost use Rattle.change_set.specs.Files.{free_frames};
 ghost use Rattle.journal_model.specs.Entries.{IsEntry};
 ghost use Rattle.journal_model.specs.Ring.{ring_size};
@@ -47,12 +51,12 @@ pub(crate) fn stage_key<D: Disk, H: Held>(
 ) -> Result<FileHead, Down>
     requires begins { MayBegin asked.now.head volume.old (key_of asked.now.key) from }
     requires there { head_at volume.old.catalog.heads asked.now.file ≡ Some asked.now.head }
-    requires whole { length volume.old.catalog.heads ≡ 64 }
+    requires whole { length volume.old.catalog.heads ≡ file_limit }
     requires sound { IsSound volume.old.catalog.home.node volume.old.store.disk.size volume.old.catalog }
-    requires least { 4096 ≤ volume.old.store.disk.size }
-    requires most { volume.old.store.disk.size ≤ 65536 }
+    requires least { least_disk_size ≤ volume.old.store.disk.size }
+    requires most { volume.old.store.disk.size ≤ greatest_disk_size }
     requires frames { 32 ≤ free_frames volume.old.store.pool }
-    requires staged { length volume.old.store.touched ≤ 64 }
+    requires staged { length volume.old.store.touched ≤ staged_limit }
     ensures stages { IfOk result (λ head. StagesFile asked.now.file asked.now.head 417 volume.old volume.new head) }
     ensures sets { IfOk result (λ head. TellsSet asked.now.head (H.held held.now) (key_of asked.now.key) (option_copied after.entry) volume.old volume.new head) }
     ensures down { IfErr result (λ down. FellIn down volume.old volume.new) }
@@ -77,15 +81,15 @@ pub(crate) fn set_key<D: Disk, H: Held>(
 ) -> Result<(), Down>
     requires begins { MayBegin asked.now.head volume.old (key_of asked.now.key) from }
     requires there { head_at volume.old.catalog.heads asked.now.file ≡ Some asked.now.head }
-    requires whole { length volume.old.catalog.heads ≡ 64 }
+    requires whole { length volume.old.catalog.heads ≡ file_limit }
     requires sound { IsSound volume.old.catalog.home.node volume.old.store.disk.size volume.old.catalog }
-    requires least { 4096 ≤ volume.old.store.disk.size }
-    requires most { volume.old.store.disk.size ≤ 65536 }
+    requires least { least_disk_size ≤ volume.old.store.disk.size }
+    requires most { volume.old.store.disk.size ≤ greatest_disk_size }
     requires frames { 32 ≤ free_frames volume.old.store.pool }
     requires idle { IsIdle volume.old.store }
     requires holds { Holds volume.old }
     requires ring { IsRing volume.old.catalog.ru volume.old.store.disk }
-    requires behind { 584 ≤ volume.old.catalog.ru.start }
+    requires behind { log_start ≤ volume.old.catalog.ru.start }
     requires key { 1 ≤ length (key_bytes (key_of asked.now.key)) }
     requires room { volume.old.catalog.ru.end - volume.old.catalog.ru.first + entry_size (key_of asked.now.key) (option_copied before) ≤ ring_size volume.old.catalog.ru }
     requires afters { FileHasRoom sides.After (entry_size (key_of asked.now.key) (option_copied after)) asked.now.file volume.old.catalog.heads volume.old.store.disk }
@@ -138,10 +142,10 @@ pub(crate) fn commit_key<D: Disk, H: Held>(
 ) -> Result<(), Down>
     requires begins { MayBegin asked.now.head volume.old (key_of asked.now.key) from }
     requires there { head_at volume.old.catalog.heads asked.now.file ≡ Some asked.now.head }
-    requires whole { length volume.old.catalog.heads ≡ 64 }
+    requires whole { length volume.old.catalog.heads ≡ file_limit }
     requires sound { IsSound volume.old.catalog.home.node volume.old.store.disk.size volume.old.catalog }
-    requires least { 4096 ≤ volume.old.store.disk.size }
-    requires most { volume.old.store.disk.size ≤ 65536 }
+    requires least { least_disk_size ≤ volume.old.store.disk.size }
+    requires most { volume.old.store.disk.size ≤ greatest_disk_size }
     requires frames { 32 ≤ free_frames volume.old.store.pool }
     requires idle { IsIdle volume.old.store }
     requires holds { Holds volume.old }

@@ -1,6 +1,7 @@
 // Changes of one key by a unit.
 ghost use Rattle.std.specs.Prelude.{◌≡◌, ◌≢◌, ◌≤◌, ◌<◌, ◌+◌, ◌-◌, ℕ, List, [], true, None, Some, OnOk, OnErr, IfOk, IfErr, IfSome, IsSome, length, unwrap_or, is_some};
 ghost use Rattle.std.specs.Option.{option_and_then};
+ghost use Rattle.vms_model.specs.Limits.{branch_limit, change_limit, lock_limit, record_limit};
 ghost use Rattle.careful_write.specs.Down.{Counts};
 ghost use Rattle.change_set.specs.Files.{IsPlaced, free_frames};
 ghost use Rattle.journal_model.specs.Ring.{ring_size};
@@ -14,7 +15,7 @@ ghost use Rattle.volume.specs.Catalogs.{head_at};
 ghost use Rattle.volume.specs.State.{SameVolume};
 ghost use Rattle.image_appends.specs.declared.side.Side.TheVariants as sides;
 ghost use Rattle.image_room.specs.Room.{SettlementsFit, images_refused, kept_span};
-ghost use Rattle.rms_units.specs.Calls.{KeyRefused, MakesEntry, change_late};
+ghost use Rattle.rms_units.specs.Calls.{KeyRefused, MakesEntry, change_refused_after_reading};
 ghost use Rattle.record_operations.specs.Causes.{IfRefused, IsRefusal, cause_of, first_cause};
 ghost use Rattle.key_changes.specs.Changing.{IsFormed, MayBegin, after_change, before_change, changes_refused, keys_asked, keys_refused, locks_refuse};
 ghost use Rattle.unit_journal.specs.Groups.{Breaks, Grows};
@@ -41,9 +42,9 @@ use volume::Volume;
 
 // Why a unit may not make one change more, or its keys may not be held: it made as many changes as it may, or more keys than may be would be held.
 fn quota_refusal(table: &UnitTable, locks: &Locks, place: u8, asked: &Asked) -> Option<RecErr>
-    requires place { place < 64 }
+    requires place { place < branch_limit }
     requires there { IsSome (unit_at table.now.places place) }
-    requires most { length locks.now.locks ≤ 4096 }
+    requires most { length locks.now.locks ≤ lock_limit }
     ensures refuses { IfSome (unit_at table.now.places place) (λ u. option_and_then cause_of result ≡ first_cause (changes_refused 1 u) (keys_refused asked.now.file (keys_asked asked.now.head asked.now.change (key_of asked.now.key)) locks.now.locks)) }
     ensures refusal { IfSome result IsRefusal }
 {
@@ -67,10 +68,10 @@ pub(crate) fn refuse_key<D: Disk>(
     value: &[u8],
     found: &mut Record,
 ) -> Result<Place, RecErr>
-    requires place { place < 64 }
+    requires place { place < branch_limit }
     requires unit { IfSome (unit_at table.now.places place) (λ u. u.serial ≡ serial_of serial) }
     requires there { IsSome (unit_at table.now.places place) }
-    requires most { length locks.now.locks ≤ 4096 }
+    requires most { length locks.now.locks ≤ lock_limit }
     requires placed { IsPlaced asked.now.head volume.old.store.disk }
     requires frames { 32 ≤ free_frames volume.old.store.pool }
     requires formed { IsFormed asked.now value.now }
@@ -82,7 +83,7 @@ pub(crate) fn refuse_key<D: Disk>(
     ensures quotas { OnOk result (IfSome (unit_at table.now.places place) (λ u. first_cause (changes_refused 1 u) (keys_refused asked.now.file (keys_asked asked.now.head asked.now.change (key_of asked.now.key)) locks.now.locks) ≡ None)) }
     ensures had { OnOk result (OfRecords asked.now.head volume.old (λ m. before_change asked.now.change (unwrap_or (m (key_of asked.now.key)) []) ≡ before_change asked.now.change found.new)) }
     ensures late { OnOk result ((u : OpenUnit) (a : List (List ℕ)) → unit_at table.now.places place ≡ Some u → volume.old.store.current ≡ Some a → IsFile asked.now.head → IsLaidOut asked.now.head a →
-        change_late u asked.now.file asked.now.head asked.now.change (key_of asked.now.key) value.now (record { units = table.now; locks = locks.now.locks }) volume.old a ≡ None) }
+        change_refused_after_reading u asked.now.file asked.now.head asked.now.change (key_of asked.now.key) value.now (record { units = table.now; locks = locks.now.locks }) volume.old a ≡ None) }
     ensures fits { OnOk result (IfSome (unit_at table.now.places place) (λ u. journal_refused volume.old.catalog.ru table.now.places u (entry_said (key_of asked.now.key) (before_change asked.now.change found.new)) ≡ None)) }
     ensures rooms { OnOk result (IfSome (unit_at table.now.places place) (λ u. images_refused asked.now.head asked.now.file table.now.places (has_changed u asked.now.file) (entry_said (key_of asked.now.key) (after_change asked.now.change value.now)) (entry_said (key_of asked.now.key) (before_change asked.now.change found.new)) ≡ None)) }
     ensures begins { IfOk result (MayBegin asked.now.head volume.old (key_of asked.now.key)) }
@@ -128,7 +129,7 @@ pub(crate) fn refuse_key<D: Disk>(
 
 /// How many bytes the entry takes that tells what the key has after a change, where a record of so many bytes is written.
 pub(crate) fn after_size(asked: &Asked, len: usize) -> u64
-    requires { len ≤ 8160 }
+    requires { len ≤ record_limit }
     ensures value { (value : List ℕ) → length value ≡ len → result ≡ entry_said (key_of asked.now.key) (after_change asked.now.change value) }
     ensures few { result ≤ 16432 }
 {
@@ -137,7 +138,7 @@ pub(crate) fn after_size(asked: &Asked, len: usize) -> u64
 
 // Lets a unit hold the keys of a change, the last of them first.
 fn hold(locks: &mut Locks, asked: &Asked, by: &Serial)
-    requires most { locks.old.most ≡ 4096 }
+    requires most { locks.old.most ≡ lock_limit }
     requires free { locks_refuse (Some (serial_of by.now)) asked.now.file (keys_asked asked.now.head asked.now.change (key_of asked.now.key)) locks.old.locks ≡ None }
     requires few { keys_refused asked.now.file (keys_asked asked.now.head asked.now.change (key_of asked.now.key)) locks.old.locks ≡ None }
     requires key { key_of asked.now.key ≢ End }
@@ -168,10 +169,10 @@ pub(crate) fn make_key<D: Disk>(
     requires head { head_at volume.old.catalog.heads asked.now.file ≡ Some asked.now.head }
     requires there { IsSome (unit_at table.old.places place) }
     requires unit { IfSome (unit_at table.old.places place) (λ u. (tid_of branch.now.tid ≡ u.tid) × (serial_of branch.now.serial ≡ u.serial)) }
-    requires changes { IfSome (unit_at table.old.places place) (λ u. length u.positions < 1024) }
+    requires changes { IfSome (unit_at table.old.places place) (λ u. length u.positions < change_limit) }
     requires fits { IfSome (unit_at table.old.places place) (λ u. journal_refused volume.old.catalog.ru table.old.places u (entry_said (key_of asked.now.key) (before_change asked.now.change found.now)) ≡ None) }
     requires rooms { IfSome (unit_at table.old.places place) (λ u. images_refused asked.now.head asked.now.file table.old.places (has_changed u asked.now.file) (entry_said (key_of asked.now.key) (after_change asked.now.change value.now)) (entry_said (key_of asked.now.key) (before_change asked.now.change found.now)) ≡ None) }
-    requires most { locks.old.most ≡ 4096 }
+    requires most { locks.old.most ≡ lock_limit }
     requires free { locks_refuse (Some (serial_of branch.now.serial)) asked.now.file (keys_asked asked.now.head asked.now.change (key_of asked.now.key)) locks.old.locks ≡ None }
     requires few { keys_refused asked.now.file (keys_asked asked.now.head asked.now.change (key_of asked.now.key)) locks.old.locks ≡ None }
     requires formed { IsFormed asked.now value.now }

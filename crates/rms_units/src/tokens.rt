@@ -22,12 +22,13 @@ pub struct ActiveUnit {
 
 impl Model for ActiveUnit {
     ghost use Rattle.std.specs.Prelude.{ℕ, ◌<◌};
+    ghost use Rattle.vms_model.specs.Limits.{branch_limit};
 
     ghost Value = { ℕ };
 
     ghost view = { λ u. u.place };
 
-    ghost invariant = { λ u. u.place < 64 };
+    ghost invariant = { λ u. u.place < branch_limit };
 }
 
 /// A unit that is prepared: it waits for its outcome. It is to be spent, or all units to be forgotten.
@@ -38,12 +39,13 @@ pub struct PreparedUnit {
 
 impl Model for PreparedUnit {
     ghost use Rattle.std.specs.Prelude.{ℕ, ◌<◌};
+    ghost use Rattle.vms_model.specs.Limits.{branch_limit};
 
     ghost Value = { ℕ };
 
     ghost view = { λ u. u.place };
 
-    ghost invariant = { λ u. u.place < 64 };
+    ghost invariant = { λ u. u.place < branch_limit };
 }
 
 /// What a unit votes.

@@ -1,6 +1,7 @@
 // Truncations of sequential files: which records go, and what refuses that.
 ghost use Rattle.std.specs.Prelude.{◌≡◌, ◌≤◌, ◌<◌, ◌+◌, ◌-◌, ◌*◌, [], List, false, None, Some, IfOk, IfErr, IfSome, IsSome, OnOk, OnErr, length, option_map};
 ghost use Rattle.std.specs.Option.{option_and_then};
+ghost use Rattle.vms_model.specs.Limits.{branch_limit, change_limit, file_limit, lock_limit};
 ghost use Rattle.change_set.specs.Files.{IsPlaced, free_frames};
 ghost use Rattle.file_base.specs.declared.head.Organization.TheVariants as organization;
 ghost use Rattle.careful_write.specs.Down.{Counts};
@@ -19,7 +20,7 @@ ghost use Rattle.volume.specs.State.{SameVolume};
 ghost use Rattle.key_changes.specs.Changing.{keys_refused, locks_refuse};
 ghost use Rattle.unit_cuts.specs.Records.{OfRecords};
 ghost use Rattle.rms_units.specs.State.{ImagesGrow, IsEarly, IsInOrder};
-ghost use Rattle.rms_units.specs.Truncating.{CutRefused, DirectCutRefused, IsCut, cut_asked, cut_early, direct_cut_early, number_refused, with_positions};
+ghost use Rattle.rms_units.specs.Truncating.{CutRefused, DirectCutRefused, IsCut, cut_asked, cut_refused_before_reading, direct_cut_refused_before_reading, number_refused, with_positions};
 ghost use Rattle.unit_cuts.specs.Truncating.{AreBegun, BreaksCut, CutEntries, MakesCut, begins_at, entry_sizes, keys_cut, removed_from};
 ghost use Rattle.image_appends.specs.declared.side.Side.TheVariants as sides;
 ghost use Rattle.image_room.specs.Room.{SettlementsFit, images_refused, kept_span};
@@ -58,7 +59,7 @@ pub(crate) fn cut_lock_refusal(locks: &Locks, by: &Option<Serial>, cut: &Cut) ->
 
 /// Why a truncation is not done by its numbers: no such record is there, or more go than a branch may change that has changed so many.
 pub(crate) fn cut_refusal(cut: &Cut, changed: usize) -> Option<RecErr>
-    requires few { changed ≤ 1024 }
+    requires few { changed ≤ change_limit }
     ensures refuses { option_and_then cause_of result ≡ number_refused changed (removed_from cut.now.head.count cut.now.from) }
     ensures some { result ≡ None → 1 ≤ removed_from cut.now.head.count cut.now.from }
     ensures refusal { IfSome result IsRefusal }
@@ -75,8 +76,8 @@ pub(crate) fn cut_refusal(cut: &Cut, changed: usize) -> Option<RecErr>
 
 /// Refuses a truncation with whose keys more would be held than may be.
 pub(crate) fn cut_quota_refusal(locks: &Locks, cut: &Cut) -> Option<RecErr>
-    requires few { removed_from cut.now.head.count cut.now.from ≤ 1024 }
-    requires most { length locks.now.locks ≤ 4096 }
+    requires few { removed_from cut.now.head.count cut.now.from ≤ change_limit }
+    requires most { length locks.now.locks ≤ lock_limit }
     ensures refuses { option_and_then cause_of result ≡ keys_refused cut.now.file (cut_asked cut.now.head cut.now.from) locks.now.locks }
     ensures refusal { IfSome result IsRefusal }
 {
@@ -106,18 +107,18 @@ pub(crate) fn refuse_cut_directly<D: Disk>(
     requires sequential { cut.now.head.organization ≡ organization.Sequential }
     requires images { SettlementsFit sides.After cut.now.head cut.now.file table.now.places × SettlementsFit sides.Before cut.now.head cut.now.file table.now.places }
     requires ordered { IfSome (kept_span sides.After cut.now.head) (λ s. s.first ≤ s.end) × IfSome (kept_span sides.Before cut.now.head) (λ s. s.first ≤ s.end) }
-    ensures early { OnOk result (direct_cut_early cut.now.file cut.now.head cut.now.from locks.now.locks ≡ None) }
-    ensures few { OnOk result (removed_from cut.now.head.count cut.now.from ≤ 1024) }
+    ensures early { OnOk result (direct_cut_refused_before_reading cut.now.file cut.now.head cut.now.from locks.now.locks ≡ None) }
+    ensures few { OnOk result (removed_from cut.now.head.count cut.now.from ≤ change_limit) }
     ensures some { OnOk result (1 ≤ removed_from cut.now.head.count cut.now.from) }
     ensures size { IfOk result (λ size. OfRecords cut.now.head volume.old (λ m. size ≡ entry_sizes m (keys_cut cut.now.head cut.now.from))) }
-    ensures most { IfOk result (λ size. size ≤ 8272 * 1024) }
-    ensures most_gone { OnOk result (entry_sizes empty_map (keys_cut cut.now.head cut.now.from) ≤ 8272 * 1024) }
+    ensures most { IfOk result (λ size. size ≤ 8272 * change_limit) }
+    ensures most_gone { OnOk result (entry_sizes empty_map (keys_cut cut.now.head cut.now.from) ≤ 8272 * change_limit) }
     ensures rooms { IfOk result (λ size. images_refused cut.now.head cut.now.file table.now.places false (entry_sizes empty_map (keys_cut cut.now.head cut.now.from)) size ≡ None) }
     ensures places { OnOk result (AreBegun cut.now.head volume.old room.new.places) }
     ensures same { OnOk result (SameVolume volume.old volume.new) }
     ensures err { IfErr result (λ e. IfRefused e
         (λ cause. DirectCutRefused cut.now.file cut.now.head cut.now.from cause (record { units = table.now; locks = locks.now.locks }) volume.old × SameVolume volume.old volume.new)
-        (λ down. (direct_cut_early cut.now.file cut.now.head cut.now.from locks.now.locks ≡ None) × FellIn down volume.old volume.new)) }
+        (λ down. (direct_cut_refused_before_reading cut.now.file cut.now.head cut.now.from locks.now.locks ≡ None) × FellIn down volume.old volume.new)) }
 {
     match cut_lock_refusal(locks, &None, cut) {
         Some(refusal) => return Err(refusal),
@@ -148,10 +149,10 @@ pub(crate) fn refuse_cut<D: Disk>(
     found: &mut Record,
     room: &mut CutRoom,
 ) -> Result<u64, RecErr>
-    requires place { place < 64 }
+    requires place { place < branch_limit }
     requires there { IsSome (unit_at table.now.places place) }
     requires unit { IfSome (unit_at table.now.places place) (λ u. serial_of serial.now ≡ u.serial) }
-    requires most { length locks.now.locks ≤ 4096 }
+    requires most { length locks.now.locks ≤ lock_limit }
     requires placed { IsPlaced cut.now.head volume.old.store.disk }
     requires frames { 32 ≤ free_frames volume.old.store.pool }
     requires sequential { cut.now.head.organization ≡ organization.Sequential }
@@ -159,20 +160,20 @@ pub(crate) fn refuse_cut<D: Disk>(
     requires free { volume.old.catalog.ru.end - volume.old.catalog.ru.first + owed table.now.places ≤ ring_size volume.old.catalog.ru }
     requires images { SettlementsFit sides.After cut.now.head cut.now.file table.now.places × SettlementsFit sides.Before cut.now.head cut.now.file table.now.places }
     requires ordered { IfSome (kept_span sides.After cut.now.head) (λ s. s.first ≤ s.end) × IfSome (kept_span sides.Before cut.now.head) (λ s. s.first ≤ s.end) }
-    ensures early { OnOk result (IfSome (unit_at table.now.places place) (λ u. cut_early u cut.now.file cut.now.head cut.now.from locks.now.locks ≡ None)) }
-    ensures few { OnOk result (IfSome (unit_at table.now.places place) (λ u. length u.positions + removed_from cut.now.head.count cut.now.from ≤ 1024)) }
+    ensures early { OnOk result (IfSome (unit_at table.now.places place) (λ u. cut_refused_before_reading u cut.now.file cut.now.head cut.now.from locks.now.locks ≡ None)) }
+    ensures few { OnOk result (IfSome (unit_at table.now.places place) (λ u. length u.positions + removed_from cut.now.head.count cut.now.from ≤ change_limit)) }
     ensures some { OnOk result (1 ≤ removed_from cut.now.head.count cut.now.from) }
-    ensures files { OnOk result (IfSome (unit_at table.now.places place) (λ u. length u.files ≡ 64)) }
+    ensures files { OnOk result (IfSome (unit_at table.now.places place) (λ u. length u.files ≡ file_limit)) }
     ensures size { IfOk result (λ size. OfRecords cut.now.head volume.old (λ m. size ≡ entry_sizes m (keys_cut cut.now.head cut.now.from))) }
     ensures fits { IfOk result (λ size. IfSome (unit_at table.now.places place) (λ u. journal_refused volume.old.catalog.ru table.now.places u size ≡ None)) }
-    ensures most { IfOk result (λ size. size ≤ 8272 * 1024) }
-    ensures most_gone { OnOk result (entry_sizes empty_map (keys_cut cut.now.head cut.now.from) ≤ 8272 * 1024) }
+    ensures most { IfOk result (λ size. size ≤ 8272 * change_limit) }
+    ensures most_gone { OnOk result (entry_sizes empty_map (keys_cut cut.now.head cut.now.from) ≤ 8272 * change_limit) }
     ensures rooms { IfOk result (λ size. IfSome (unit_at table.now.places place) (λ u. images_refused cut.now.head cut.now.file table.now.places (has_changed u cut.now.file) (entry_sizes empty_map (keys_cut cut.now.head cut.now.from)) size ≡ None)) }
     ensures places { OnOk result (AreBegun cut.now.head volume.old room.new.places) }
     ensures same { OnOk result (SameVolume volume.old volume.new) }
     ensures err { IfErr result (λ e. (u : OpenUnit) → unit_at table.now.places place ≡ Some u → IfRefused e
         (λ cause. CutRefused u cut.now.file cut.now.head cut.now.from cause (record { units = table.now; locks = locks.now.locks }) volume.old × SameVolume volume.old volume.new)
-        (λ down. (cut_early u cut.now.file cut.now.head cut.now.from locks.now.locks ≡ None) × FellIn down volume.old volume.new)) }
+        (λ down. (cut_refused_before_reading u cut.now.file cut.now.head cut.now.from locks.now.locks ≡ None) × FellIn down volume.old volume.new)) }
 {
     match cut_lock_refusal(locks, &Some(*serial), cut) {
         Some(refusal) => return Err(refusal),
@@ -210,11 +211,11 @@ pub(crate) fn refuse_cut<D: Disk>(
 
 // Lets a branch hold the records that go, and the file's end.
 fn hold_cut(locks: &mut Locks, cut: &Cut, by: &Serial)
-    requires most { locks.old.most ≡ 4096 }
+    requires most { locks.old.most ≡ lock_limit }
     requires free { locks_refuse (Some (serial_of by.now)) cut.now.file (cut_asked cut.now.head cut.now.from) locks.old.locks ≡ None }
     requires few { keys_refused cut.now.file (cut_asked cut.now.head cut.now.from) locks.old.locks ≡ None }
     ensures locks { locks.new ≡ record locks.old { locks = with_locks (serial_of by.now) cut.now.file (cut_asked cut.now.head cut.now.from) locks.old.locks } }
-    ensures few { length locks.new.locks ≤ 4096 }
+    ensures few { length locks.new.locks ≤ lock_limit }
 {
     for i in 0..cut.removed() {
         let _ = locks.lock(cut.file, &Key::Number(cut.from + i), *by);
@@ -224,9 +225,9 @@ fn hold_cut(locks: &mut Locks, cut: &Cut, by: &Serial)
 
 // Notes for the unit at a place where the entries of its truncation begin.
 fn note_cut(table: &mut UnitTable, place: u8, file: u8, positions: &[u64])
-    requires file { file < 64 }
+    requires file { file < file_limit }
     requires there { IsSome (unit_at table.old.places place) }
-    requires room { IfSome (unit_at table.old.places place) (λ u. length u.positions + length positions.now ≤ 1024) }
+    requires room { IfSome (unit_at table.old.places place) (λ u. length u.positions + length positions.now ≤ change_limit) }
     ensures { IfSome (unit_at table.old.places place) (λ u. table.new ≡ with_unit place (with_positions positions.now file u) table.old) }
 {
     for position in positions {
@@ -253,21 +254,21 @@ pub(crate) fn make_cut<D: Disk>(
     requires sequential { cut.now.head.organization ≡ organization.Sequential }
     requires there { IsSome (unit_at table.old.places place) }
     requires unit { IfSome (unit_at table.old.places place) (λ u. (tid_of branch.now.tid ≡ u.tid) × (serial_of branch.now.serial ≡ u.serial)) }
-    requires changes { IfSome (unit_at table.old.places place) (λ u. length u.positions + removed_from cut.now.head.count cut.now.from ≤ 1024) }
+    requires changes { IfSome (unit_at table.old.places place) (λ u. length u.positions + removed_from cut.now.head.count cut.now.from ≤ change_limit) }
     requires some { 1 ≤ removed_from cut.now.head.count cut.now.from }
     requires size { OfRecords cut.now.head volume.old (λ m. size ≡ entry_sizes m (keys_cut cut.now.head cut.now.from)) }
     requires fits { IfSome (unit_at table.old.places place) (λ u. journal_refused volume.old.catalog.ru table.old.places u size ≡ None) }
-    requires most_bytes { size ≤ 8272 * 1024 }
-    requires few_records { entry_sizes empty_map (keys_cut cut.now.head cut.now.from) ≤ 8272 * 1024 }
+    requires most_bytes { size ≤ 8272 * change_limit }
+    requires few_records { entry_sizes empty_map (keys_cut cut.now.head cut.now.from) ≤ 8272 * change_limit }
     requires rooms { IfSome (unit_at table.old.places place) (λ u. images_refused cut.now.head cut.now.file table.old.places (has_changed u cut.now.file) (entry_sizes empty_map (keys_cut cut.now.head cut.now.from)) size ≡ None) }
     requires places { AreBegun cut.now.head volume.old room.old.places }
-    requires most { locks.old.most ≡ 4096 }
+    requires most { locks.old.most ≡ lock_limit }
     requires free { locks_refuse (Some (serial_of branch.now.serial)) cut.now.file (cut_asked cut.now.head cut.now.from) locks.old.locks ≡ None }
     requires few { keys_refused cut.now.file (cut_asked cut.now.head cut.now.from) locks.old.locks ≡ None }
     ensures makes { OnOk result ((u : OpenUnit) → unit_at table.old.places place ≡ Some u → (es : CutEntries) × MakesCut u.tid u.serial cut.now.file cut.now.head cut.now.from es volume.old volume.new
         × (table.new ≡ with_unit place (with_positions (begins_at volume.old.catalog.ru.end es.had) cut.now.file u) table.old)) }
     ensures locks { OnOk result (locks.new ≡ record locks.old { locks = with_locks (serial_of branch.now.serial) cut.now.file (cut_asked cut.now.head cut.now.from) locks.old.locks }) }
-    ensures held { OnOk result (length locks.new.locks ≤ 4096) }
+    ensures held { OnOk result (length locks.new.locks ≤ lock_limit) }
     ensures order { OnOk result (IsInOrder (record { units = table.new; locks = locks.new.locks }) volume.new) }
     ensures spared { OnErr result ((table.new ≡ table.old) × (locks.new ≡ locks.old)) }
     ensures grows { Grows 0 0 volume.old volume.new }

@@ -1,6 +1,8 @@
 //! The recovery units of one volume.
 ghost use Rattle.std.specs.Prelude.{◌≡◌, ◌≤◌, ◌<◌, ◌+◌, ◌-◌, ◌==◌, ◌⊎◌, ◌∷◌, [], ℕ, true, false, not, List, None, Some, IfOk, IfErr, IfSome, OnOk, OnErr, IsErr, IsSome, length, max, option_copied, option_map};
 ghost use Rattle.std.specs.Option.{option_and_then};
+ghost use Rattle.vms_model.specs.Limits.{branch_limit, file_limit, moment_ceiling};
+ghost use Rattle.vms_model.specs.Blocks.{log_start};
 ghost use Rattle.file_base.specs.declared.head.FileHead.{FileHead as HeadSaid};
 ghost use Rattle.careful_write.specs.Down.{Counts};
 ghost use Rattle.lmcp_log.specs.Log.{slot_of, with_few_prepared};
@@ -21,7 +23,7 @@ ghost use Rattle.rms_units.specs.Calls.{ChangesErr, ChangesKey, ChangesKeyErr, C
 ghost use Rattle.key_changes.specs.Keys.{position_by};
 ghost use Rattle.key_changes.specs.Changing.{IsFormed};
 ghost use Rattle.record_operations.specs.Causes.{IfRefused, down_in};
-ghost use Rattle.unit_journal.specs.Groups.{Caused, Goes, Grows};
+ghost use Rattle.unit_journal.specs.Groups.{Caused, DiskAdvances, Grows};
 ghost use Rattle.unit_journal.specs.Settling.{next_moment as next_said};
 ghost use Rattle.rms_units.specs.Truncating.{ChangesCut, ChangesCutErr, DirectsCut, DirectsCutErr};
 ghost use Rattle.file_base.specs.declared.head.Organization.TheVariants as organization;
@@ -73,20 +75,21 @@ pub struct Units {
 
 impl Model for Units {
     ghost use Rattle.std.specs.Prelude.{◌≡◌, ◌≤◌, length};
+    ghost use Rattle.vms_model.specs.Limits.{lock_limit};
     ghost use Rattle.rms_units.specs.State.{UnitsState};
 
     ghost Value = { UnitsState };
 
     ghost view = { λ u. record { units = u.table; locks = u.locks.locks } };
 
-    ghost invariant = { λ u. (u.locks.most ≡ 4096) × (length u.locks.locks ≤ 4096) };
+    ghost invariant = { λ u. (u.locks.most ≡ lock_limit) × (length u.locks.locks ≤ lock_limit) };
 }
 
 // The head of a file that is there.
 fn head_of<D: Disk>(volume: &Volume<D>, file: u8) -> FileHead
     requires { (h : HeadSaid) × (head_at volume.now.catalog.heads file ≡ Some h) }
     ensures there { head_at volume.now.catalog.heads file ≡ Some result }
-    ensures whole { length volume.now.catalog.heads ≡ 64 }
+    ensures whole { length volume.now.catalog.heads ≡ file_limit }
 {
     let Some(head) = volume.head(file) else {
         unreachable!()
@@ -106,7 +109,7 @@ fn position_of(asked: &Asked) -> u32
 
 // A volume has 64 files, and of each a list tells whether it takes part.
 fn tell_each_file(_files: &[bool; 64])
-    ensures { length _files.now ≡ 64 }
+    ensures { length _files.now ≡ file_limit }
 {}
 
 impl Units {
@@ -129,8 +132,8 @@ impl Units {
     /// A unit begins. Nothing is written. Quota exactly where 64 are unsettled.
     pub fn begin(&mut self, tid: Tid, serial: Serial) -> Result<ActiveUnit, BeginErr>
         ensures begun { IfOk result (λ u. self.new ≡ with_begun u (tid_of tid) (serial_of serial) self.old) }
-        ensures free { IfOk result (λ u. (u < 64) × (unit_of u self.old ≡ None)) }
-        ensures full { IsErr result → length (begun self.old.units) ≡ 64 }
+        ensures free { IfOk result (λ u. (u < branch_limit) × (unit_of u self.old ≡ None)) }
+        ensures full { IsErr result → length (begun self.old.units) ≡ branch_limit }
         ensures same { OnErr result (self.new ≡ self.old) }
     {
         match self.table.begin(tid, serial) {
@@ -243,7 +246,7 @@ impl Units {
         ensures reads { (h : HeadSaid) → head_at volume.old.catalog.heads (read_file_in op.now) ≡ Some h → ReadsFew h op.now volume.old volume.new }
         ensures grows { Grows 0 0 volume.old volume.new }
         ensures images { OnOk result (ImagesGrow volume.old volume.new) }
-        ensures goes { Goes volume.old.store.disk volume.new.store.disk }
+        ensures goes { DiskAdvances volume.old.store.disk volume.new.store.disk }
         ensures cause { IfErr result (λ e. Caused (down_in e) volume.old.store.disk volume.new.store.disk) }
         ensures pool { volume.new.store.pool ≡ volume.old.store.pool }
     {
@@ -252,7 +255,7 @@ impl Units {
             return Err(refusal);
         }
         if !head.marks.ru {
-            return Err(RecErr::NotMarked);
+            return Err(RecErr::NotForUnits);
         }
         let branch = self.branch(unit.place);
         let by = Some(branch.serial);
@@ -279,7 +282,7 @@ impl Units {
         ensures err { IfErr result (λ e. (h : HeadSaid) → head_at volume.old.catalog.heads (read_file_in op.now) ≡ Some h → LooksErr h op.now e self.now volume.old volume.new) }
         ensures reads { (h : HeadSaid) → head_at volume.old.catalog.heads (read_file_in op.now) ≡ Some h → ReadsFew h op.now volume.old volume.new }
         ensures grows { Grows 0 0 volume.old volume.new }
-        ensures goes { Goes volume.old.store.disk volume.new.store.disk }
+        ensures goes { DiskAdvances volume.old.store.disk volume.new.store.disk }
         ensures cause { IfErr result (λ e. Caused (down_in e) volume.old.store.disk volume.new.store.disk) }
         ensures pool { volume.new.store.pool ≡ volume.old.store.pool }
     {
@@ -309,7 +312,7 @@ impl Units {
         ensures err { IfErr result (λ e. (u : OpenUnit) (h : HeadSaid) → unit_of unit.old self.old ≡ Some u → head_at volume.old.catalog.heads (file_in op.now) ≡ Some h → ChangesErr u h op.now bytes.now e self.old volume.old self.new volume.new) }
         ensures grows { Grows 0 0 volume.old volume.new }
         ensures images { OnOk result (ImagesGrow volume.old volume.new) }
-        ensures goes { Goes volume.old.store.disk volume.new.store.disk }
+        ensures goes { DiskAdvances volume.old.store.disk volume.new.store.disk }
         ensures cause { IfErr result (λ e. Caused (down_in e) volume.old.store.disk volume.new.store.disk) }
         ensures pool { volume.new.store.pool ≡ volume.old.store.pool }
     {
@@ -319,7 +322,7 @@ impl Units {
             return Err(refusal);
         }
         if !head.marks.ru {
-            return Err(RecErr::NotMarked);
+            return Err(RecErr::NotForUnits);
         }
         if let RecordOp::Truncate { file, from } = op {
             let cut = Cut {
@@ -341,7 +344,7 @@ impl Units {
         asked: &Asked,
         value: &[u8],
     ) -> Result<u32, RecErr>
-        requires place { place < 64 }
+        requires place { place < branch_limit }
         requires unit { IsSome (unit_of place self.old) }
         requires order { IsInOrder self.old volume.old }
         requires early { IsEarly volume.old }
@@ -353,7 +356,7 @@ impl Units {
         ensures err { IfErr result (λ e. (u : OpenUnit) → unit_of place self.old ≡ Some u → ChangesKeyErr u asked.now.file asked.now.head asked.now.change (key_of asked.now.key) value.now e self.old volume.old self.new volume.new) }
         ensures grows { Grows 0 0 volume.old volume.new }
         ensures images { OnOk result (ImagesGrow volume.old volume.new) }
-        ensures goes { Goes volume.old.store.disk volume.new.store.disk }
+        ensures goes { DiskAdvances volume.old.store.disk volume.new.store.disk }
         ensures cause { IfErr result (λ e. Caused (down_in e) volume.old.store.disk volume.new.store.disk) }
         ensures pool { volume.new.store.pool ≡ volume.old.store.pool }
     {
@@ -398,7 +401,7 @@ impl Units {
         volume: &mut Volume<D>,
         cut: &Cut,
     ) -> Result<u32, RecErr>
-        requires place { place < 64 }
+        requires place { place < branch_limit }
         requires unit { IsSome (unit_of place self.old) }
         requires order { IsInOrder self.old volume.old }
         requires early { IsEarly volume.old }
@@ -411,7 +414,7 @@ impl Units {
         ensures refused { IfErr result (λ e. IfRefused e (λ _. SameVolume volume.old volume.new) (λ _. Unit {0})) }
         ensures grows { Grows 0 0 volume.old volume.new }
         ensures images { OnOk result (ImagesGrow volume.old volume.new) }
-        ensures goes { Goes volume.old.store.disk volume.new.store.disk }
+        ensures goes { DiskAdvances volume.old.store.disk volume.new.store.disk }
         ensures cause { IfErr result (λ e. Caused (down_in e) volume.old.store.disk volume.new.store.disk) }
         ensures pool { volume.new.store.pool ≡ volume.old.store.pool }
     {
@@ -459,7 +462,7 @@ impl Units {
     ) -> Result<(u32, Moment), RecErr>
         requires order { IsInOrder self.old volume.old }
         requires early { IsEarly volume.old }
-        requires clock { clock.0 < 24000001000066 }
+        requires clock { clock.0 < moment_ceiling }
         requires file { (h : HeadSaid) × (head_at volume.old.catalog.heads (file_in op.now) ≡ Some h) }
         ensures same { self.new ≡ self.old }
         ensures order { OnOk result (IsInOrder self.new volume.new) }
@@ -468,7 +471,7 @@ impl Units {
         ensures err { IfErr result (λ e. (h : HeadSaid) → head_at volume.old.catalog.heads (file_in op.now) ≡ Some h → DirectsErr tid clock.0 h op.now bytes.now e self.old volume.old volume.new) }
         ensures grows { Grows 1 clock.0 volume.old volume.new }
         ensures images { OnOk result (ImagesGrow volume.old volume.new) }
-        ensures goes { Goes volume.old.store.disk volume.new.store.disk }
+        ensures goes { DiskAdvances volume.old.store.disk volume.new.store.disk }
         ensures cause { IfErr result (λ e. Caused (down_in e) volume.old.store.disk volume.new.store.disk) }
         ensures pool { volume.new.store.pool ≡ volume.old.store.pool }
     {
@@ -503,7 +506,7 @@ impl Units {
     ) -> Result<(u32, Moment), RecErr>
         requires order { IsInOrder self.old volume.old }
         requires early { IsEarly volume.old }
-        requires clock { clock.0 < 24000001000066 }
+        requires clock { clock.0 < moment_ceiling }
         requires head { head_at volume.old.catalog.heads asked.now.file ≡ Some asked.now.head }
         requires formed { IsFormed asked.now value.now }
         ensures same { self.new ≡ self.old }
@@ -514,7 +517,7 @@ impl Units {
         ensures err { IfErr result (λ e. DirectsKeyErr tid clock.0 asked.now.file asked.now.head asked.now.change (key_of asked.now.key) value.now e self.old volume.old volume.new) }
         ensures grows { Grows 1 clock.0 volume.old volume.new }
         ensures images { OnOk result (ImagesGrow volume.old volume.new) }
-        ensures goes { Goes volume.old.store.disk volume.new.store.disk }
+        ensures goes { DiskAdvances volume.old.store.disk volume.new.store.disk }
         ensures cause { IfErr result (λ e. Caused (down_in e) volume.old.store.disk volume.new.store.disk) }
         ensures pool { volume.new.store.pool ≡ volume.old.store.pool }
     {
@@ -560,7 +563,7 @@ impl Units {
     ) -> Result<(u32, Moment), RecErr>
         requires order { IsInOrder self.old volume.old }
         requires early { IsEarly volume.old }
-        requires clock { clock.0 < 24000001000066 }
+        requires clock { clock.0 < moment_ceiling }
         requires head { head_at volume.old.catalog.heads cut.now.file ≡ Some cut.now.head }
         requires sequential { cut.now.head.organization ≡ organization.Sequential }
         ensures same { self.new ≡ self.old }
@@ -571,7 +574,7 @@ impl Units {
         ensures err { IfErr result (λ e. DirectsCutErr tid clock.0 cut.now.file cut.now.head cut.now.from e self.old volume.old volume.new) }
         ensures grows { Grows 1 clock.0 volume.old volume.new }
         ensures images { OnOk result (ImagesGrow volume.old volume.new) }
-        ensures goes { Goes volume.old.store.disk volume.new.store.disk }
+        ensures goes { DiskAdvances volume.old.store.disk volume.new.store.disk }
         ensures cause { IfErr result (λ e. Caused (down_in e) volume.old.store.disk volume.new.store.disk) }
         ensures pool { volume.new.store.pool ≡ volume.old.store.pool }
     {
@@ -614,14 +617,14 @@ impl Units {
         requires unit { IsSome (unit_of unit self.old) }
         requires order { IsInOrder self.old volume.old }
         requires early { IsEarly volume.old }
-        requires clock { clock.0 < 24000001000066 }
+        requires clock { clock.0 < moment_ceiling }
         ensures order { OnOk result (IsInOrder self.new volume.new) }
         ensures done { IfOk result (λ told. (u : OpenUnit) → unit_of unit self.old ≡ Some u → Commits unit u told.tid told.serial clock.0 told.moment.0 self.old volume.old self.new volume.new) }
         ensures commits { IfOk result (λ told. told.outcome ≡ outcome.Commit) }
         ensures err { OnErr result ((u : OpenUnit) → unit_of unit self.old ≡ Some u → CommitsNot unit u clock.0 self.old volume.old self.new volume.new) }
         ensures grows { Grows 1 clock.0 volume.old volume.new }
         ensures images { OnOk result (ImagesGrow volume.old volume.new) }
-        ensures goes { Goes volume.old.store.disk volume.new.store.disk }
+        ensures goes { DiskAdvances volume.old.store.disk volume.new.store.disk }
         ensures cause { IfErr result (λ down. Caused (Some down) volume.old.store.disk volume.new.store.disk) }
         ensures pool { volume.new.store.pool ≡ volume.old.store.pool }
     {
@@ -663,14 +666,14 @@ impl Units {
         requires unit { IsSome (unit_of unit self.old) }
         requires order { IsInOrder self.old volume.old }
         requires early { IsEarly volume.old }
-        requires clock { clock.0 < 24000001000066 }
+        requires clock { clock.0 < moment_ceiling }
         ensures order { OnOk result (IsInOrder self.new volume.new) }
         ensures done { IfOk result (λ told. (u : OpenUnit) → unit_of unit self.old ≡ Some u → AbortsUnit unit u told.tid told.serial reason clock.0 told.moment.0 self.old volume.old self.new volume.new) }
         ensures aborts { IfOk result (λ told. told.outcome ≡ outcome.Abort) }
         ensures err { OnErr result ((u : OpenUnit) → unit_of unit self.old ≡ Some u → AbortsNot unit u reason clock.0 self.old volume.old self.new volume.new) }
         ensures grows { Grows 1 clock.0 volume.old volume.new }
         ensures images { OnOk result (ImagesGrow volume.old volume.new) }
-        ensures goes { Goes volume.old.store.disk volume.new.store.disk }
+        ensures goes { DiskAdvances volume.old.store.disk volume.new.store.disk }
         ensures cause { IfErr result (λ down. Caused (Some down) volume.old.store.disk volume.new.store.disk) }
         ensures pool { volume.new.store.pool ≡ volume.old.store.pool }
     {
@@ -714,7 +717,7 @@ impl Units {
         requires slot { IfSome (unit_of unit self.old) (λ u. votes_yes u.positions rms.now ≡ true → (has_slot u.serial log.old ≡ true) ⊎ (has_free log.old ≡ true)) }
         requires order { IsInOrder self.old volume.old }
         requires early { IsEarly volume.old }
-        requires before { 584 + length log.old ≤ volume.old.catalog.ru.start }
+        requires before { log_start + length log.old ≤ volume.old.catalog.ru.start }
         ensures order { OnOk result (IsInOrder self.new volume.new) }
         ensures log { OnOk result (HasLog log.old volume.old → HasLog log.new volume.new) }
         ensures place { IfOk result (λ vote. IfYes vote (λ place. place ≡ unit)) }
@@ -722,7 +725,7 @@ impl Units {
         ensures err { OnErr result ((u : OpenUnit) → unit_of unit self.old ≡ Some u → VotesNot unit u rms.now self.old log.old volume.old self.new log.new volume.new) }
         ensures grows { Grows 0 0 volume.old volume.new }
         ensures images { OnOk result (ImagesGrow volume.old volume.new) }
-        ensures goes { Goes volume.old.store.disk volume.new.store.disk }
+        ensures goes { DiskAdvances volume.old.store.disk volume.new.store.disk }
         ensures cause { IfErr result (λ down. Caused (Some down) volume.old.store.disk volume.new.store.disk) }
         ensures pool { volume.new.store.pool ≡ volume.old.store.pool }
     {
@@ -757,8 +760,8 @@ impl Units {
         requires may { IfSome (unit_of unit self.old) (λ u. MayHave u.serial (slot_of (option_copied logged)) log.old) }
         requires order { IsInOrder self.old volume.old }
         requires early { IsEarly volume.old }
-        requires clock { clock.0 < 24000001000066 }
-        requires before { 584 + length log.old ≤ volume.old.catalog.ru.start }
+        requires clock { clock.0 < moment_ceiling }
+        requires before { log_start + length log.old ≤ volume.old.catalog.ru.start }
         ensures order { OnOk result (IsInOrder self.new volume.new) }
         ensures log { OnOk result (HasLog log.old volume.old → HasLog log.new volume.new) }
         ensures done { IfOk result (λ told. (u : OpenUnit) → unit_of unit self.old ≡ Some u → CommitsLogged unit u told.tid told.serial (slot_of (option_copied logged.entry)) clock.0 told.moment.0 self.old log.old volume.old self.new log.new volume.new) }
@@ -766,7 +769,7 @@ impl Units {
         ensures err { OnErr result ((u : OpenUnit) → unit_of unit self.old ≡ Some u → CommitsLoggedNot unit u (slot_of (option_copied logged.entry)) clock.0 self.old log.old volume.old self.new log.new volume.new) }
         ensures grows { Grows 1 clock.0 volume.old volume.new }
         ensures images { OnOk result (ImagesGrow volume.old volume.new) }
-        ensures goes { Goes volume.old.store.disk volume.new.store.disk }
+        ensures goes { DiskAdvances volume.old.store.disk volume.new.store.disk }
         ensures cause { IfErr result (λ down. Caused (Some down) volume.old.store.disk volume.new.store.disk) }
         ensures pool { volume.new.store.pool ≡ volume.old.store.pool }
     {
@@ -783,13 +786,13 @@ impl Units {
         logged: Option<&LogRec>,
         clock: Moment,
     ) -> Result<SettledUnit, Down>
-        requires place { place < 64 }
+        requires place { place < branch_limit }
         requires unit { IsSome (unit_of place self.old) }
         requires may { IfSome (unit_of place self.old) (λ u. MayHave u.serial (slot_of (option_copied logged)) log.old) }
         requires order { IsInOrder self.old volume.old }
         requires early { IsEarly volume.old }
-        requires clock { clock.0 < 24000001000066 }
-        requires before { 584 + length log.old ≤ volume.old.catalog.ru.start }
+        requires clock { clock.0 < moment_ceiling }
+        requires before { log_start + length log.old ≤ volume.old.catalog.ru.start }
         ensures order { OnOk result (IsInOrder self.new volume.new) }
         ensures log { OnOk result (HasLog log.old volume.old → HasLog log.new volume.new) }
         ensures done { IfOk result (λ told. (u : OpenUnit) → unit_of place self.old ≡ Some u → CommitsLogged place u told.tid told.serial (slot_of (option_copied logged.entry)) clock.0 told.moment.0 self.old log.old volume.old self.new log.new volume.new) }
@@ -837,8 +840,8 @@ impl Units {
         requires may { IfSome (unit_of unit self.old) (λ u. MayHave u.serial (slot_of (option_copied logged)) log.old) }
         requires order { IsInOrder self.old volume.old }
         requires early { IsEarly volume.old }
-        requires clock { clock.0 < 24000001000066 }
-        requires before { 584 + length log.old ≤ volume.old.catalog.ru.start }
+        requires clock { clock.0 < moment_ceiling }
+        requires before { log_start + length log.old ≤ volume.old.catalog.ru.start }
         ensures order { OnOk result (IsInOrder self.new volume.new) }
         ensures log { OnOk result (HasLog log.old volume.old → HasLog log.new volume.new) }
         ensures done { IfOk result (λ told. (u : OpenUnit) → unit_of unit self.old ≡ Some u → CommitsLogged unit u told.tid told.serial (slot_of (option_copied logged.entry)) clock.0 told.moment.0 self.old log.old volume.old self.new log.new volume.new) }
@@ -846,7 +849,7 @@ impl Units {
         ensures err { OnErr result ((u : OpenUnit) → unit_of unit self.old ≡ Some u → CommitsLoggedNot unit u (slot_of (option_copied logged.entry)) clock.0 self.old log.old volume.old self.new log.new volume.new) }
         ensures grows { Grows 1 clock.0 volume.old volume.new }
         ensures images { OnOk result (ImagesGrow volume.old volume.new) }
-        ensures goes { Goes volume.old.store.disk volume.new.store.disk }
+        ensures goes { DiskAdvances volume.old.store.disk volume.new.store.disk }
         ensures cause { IfErr result (λ down. Caused (Some down) volume.old.store.disk volume.new.store.disk) }
         ensures pool { volume.new.store.pool ≡ volume.old.store.pool }
     {
@@ -867,15 +870,15 @@ impl Units {
         requires unit { IsSome (unit_of unit self.old) }
         requires order { IsInOrder self.old volume.old }
         requires early { IsEarly volume.old }
-        requires clock { clock.0 < 24000001000066 }
-        requires before { 584 + length log.old ≤ volume.old.catalog.ru.start }
+        requires clock { clock.0 < moment_ceiling }
+        requires before { log_start + length log.old ≤ volume.old.catalog.ru.start }
         ensures order { OnOk result (IsInOrder self.new volume.new) }
         ensures done { IfOk result (λ told. (u : OpenUnit) → unit_of unit self.old ≡ Some u → AbortsPrepared unit u told.tid told.serial reason clock.0 told.moment.0 self.old log.old volume.old self.new log.new volume.new) }
         ensures aborts { IfOk result (λ told. told.outcome ≡ outcome.Abort) }
         ensures err { OnErr result ((u : OpenUnit) → unit_of unit self.old ≡ Some u → AbortsPreparedNot unit u reason clock.0 self.old log.old volume.old self.new log.new volume.new) }
         ensures grows { Grows 1 clock.0 volume.old volume.new }
         ensures images { OnOk result (ImagesGrow volume.old volume.new) }
-        ensures goes { Goes volume.old.store.disk volume.new.store.disk }
+        ensures goes { DiskAdvances volume.old.store.disk volume.new.store.disk }
         ensures cause { IfErr result (λ down. Caused (Some down) volume.old.store.disk volume.new.store.disk) }
         ensures pool { volume.new.store.pool ≡ volume.old.store.pool }
     {
@@ -931,19 +934,19 @@ impl Units {
         requires none { self.old ≡ nothing_begun }
         requires order { IsInOrder self.old volume.old }
         requires early { IsEarly volume.old }
-        requires moment { volume.old.catalog.home.greatest_moment.0 + 64 ≤ 24000001000066 }
-        requires clock { clock.0 + 64 ≤ 24000001000066 }
-        ensures log { log.new ≡ with_few_prepared (64 - length out.new.undone) log.old }
+        requires moment { volume.old.catalog.home.greatest_moment.0 + branch_limit ≤ moment_ceiling }
+        requires clock { clock.0 + branch_limit ≤ moment_ceiling }
+        ensures log { log.new ≡ with_few_prepared (branch_limit - length out.new.undone) log.old }
         ensures down { OnErr result (self.new ≡ nothing_begun) }
         ensures order { OnOk result (IsInOrder self.new volume.new) }
         ensures done { OnOk result (Restarts clock.0 volume.old log.old log.new self.new.units self.new.locks volume.new out.new) }
         ensures err { OnErr result (RestartsNot clock.0 volume.old volume.new out.new.undone) }
-        ensures grows { Grows 64 (clock.0 + 64) volume.old volume.new }
+        ensures grows { Grows branch_limit (clock.0 + branch_limit) volume.old volume.new }
         ensures images { OnOk result (ImagesGrow volume.old volume.new) }
-        ensures room { OnOk result (volume.new.catalog.home.greatest_moment.0 + length (begun self.new.units) ≤ max volume.old.catalog.home.greatest_moment.0 clock.0 + 64) }
+        ensures room { OnOk result (volume.new.catalog.home.greatest_moment.0 + length (begun self.new.units) ≤ max volume.old.catalog.home.greatest_moment.0 clock.0 + branch_limit) }
         ensures moments { AreTold volume.new out.new.undone }
-        ensures few { length out.new.undone ≤ 64 }
-        ensures goes { Goes volume.old.store.disk volume.new.store.disk }
+        ensures few { length out.new.undone ≤ branch_limit }
+        ensures goes { DiskAdvances volume.old.store.disk volume.new.store.disk }
         ensures cause { IfErr result (λ down. Caused (Some down) volume.old.store.disk volume.new.store.disk) }
         ensures pool { volume.new.store.pool ≡ volume.old.store.pool }
     {

@@ -1,5 +1,7 @@
 //! Units vote, and those that voted yes are settled.
 ghost use Rattle.std.specs.Prelude.{◌≡◌, ◌≤◌, ◌<◌, ◌+◌, ◌⊎◌, true, false, None, Some, IfOk, IfSome, IsSome, OnErr, OnOk, length, option_copied};
+ghost use Rattle.vms_model.specs.Limits.{branch_limit, moment_ceiling};
+ghost use Rattle.vms_model.specs.Blocks.{log_start};
 ghost use Rattle.careful_write.specs.Down.{Counts};
 ghost use Rattle.lmcp_log.specs.Log.{slot_of};
 ghost use Rattle.log_laws.specs.Slots.{has_free, has_slot};
@@ -33,7 +35,7 @@ fn votes_yes(positions: &[u64], rms: &RmList) -> bool
 
 /// What the unit at a place has voted.
 pub(crate) fn vote_at(place: u8, yes: bool) -> Vote
-    requires place { place < 64 }
+    requires place { place < branch_limit }
     ensures yes { is_yes result ≡ yes }
     ensures place { IfYes result (λ p. p ≡ place) }
 {
@@ -55,14 +57,14 @@ pub(crate) fn vote<D: Disk>(
     rms: &RmList,
     entry: &mut EntryBuf,
 ) -> Result<bool, Down>
-    requires place { place < 64 }
+    requires place { place < branch_limit }
     requires there { IsSome (unit_at table.old.places place) }
     requires unit { IfSome (unit_at table.old.places place) (λ u. (tid_of branch.now.tid ≡ u.tid) × (serial_of branch.now.serial ≡ u.serial)) }
     requires active { IfSome (unit_at table.old.places place) (λ u. u.prepared ≡ false) }
     requires slot { IfSome (unit_at table.old.places place) (λ u. votes_yes u.positions rms.now ≡ true → (has_slot u.serial log.old ≡ true) ⊎ (has_free log.old ≡ true)) }
     requires order { IsInOrder (record { units = table.old; locks = locks.old.locks }) volume.old }
     requires early { IsEarly volume.old }
-    requires before { 584 + length log.old ≤ volume.old.catalog.ru.start }
+    requires before { log_start + length log.old ≤ volume.old.catalog.ru.start }
     ensures order { OnOk result (IsInOrder (record { units = table.new; locks = locks.new.locks }) volume.new) }
     ensures log { OnOk result (HasLog log.old volume.old → HasLog log.new volume.new) }
     ensures votes { IfOk result (λ yes. (u : OpenUnit) → unit_at table.old.places place ≡ Some u →
@@ -105,13 +107,13 @@ pub(crate) fn commit<D: Disk>(
     clock: Moment,
     entry: &mut EntryBuf,
 ) -> Result<Moment, Down>
-    requires place { place < 64 }
+    requires place { place < branch_limit }
     requires there { IsSome (unit_at table.old.places place) }
     requires unit { IfSome (unit_at table.old.places place) (λ u. (tid_of branch.now.tid ≡ u.tid) × (serial_of branch.now.serial ≡ u.serial)) }
     requires order { IsInOrder (record { units = table.old; locks = locks.old.locks }) volume.old }
     requires early { IsEarly volume.old }
-    requires clock { clock.0 < 24000001000066 }
-    requires before { 584 + length log.old ≤ volume.old.catalog.ru.start }
+    requires clock { clock.0 < moment_ceiling }
+    requires before { log_start + length log.old ≤ volume.old.catalog.ru.start }
     requires may { MayHave (serial_of branch.now.serial) (slot_of (option_copied logged)) log.old }
     ensures locks { locks.new ≡ record locks.old { locks = released (serial_of branch.now.serial) locks.old.locks } }
     ensures order { OnOk result (IsInOrder (record { units = table.new; locks = locks.new.locks }) volume.new) }
@@ -161,13 +163,13 @@ pub(crate) fn abort_prepared<D: Disk>(
     image: &mut Record,
     entry: &mut EntryBuf,
 ) -> Result<Moment, Down>
-    requires place { place < 64 }
+    requires place { place < branch_limit }
     requires there { IsSome (unit_at table.old.places place) }
     requires unit { IfSome (unit_at table.old.places place) (λ u. (tid_of branch.now.tid ≡ u.tid) × (serial_of branch.now.serial ≡ u.serial)) }
     requires order { IsInOrder (record { units = table.old; locks = locks.old.locks }) volume.old }
     requires early { IsEarly volume.old }
-    requires clock { clock.0 < 24000001000066 }
-    requires before { 584 + length log.old ≤ volume.old.catalog.ru.start }
+    requires clock { clock.0 < moment_ceiling }
+    requires before { log_start + length log.old ≤ volume.old.catalog.ru.start }
     ensures locks { locks.new ≡ record locks.old { locks = released (serial_of branch.now.serial) locks.old.locks } }
     ensures order { OnOk result (IsInOrder (record { units = table.new; locks = locks.new.locks }) volume.new) }
     ensures aborts { IfOk result (λ moment. (u : OpenUnit) → unit_at table.old.places place ≡ Some u →

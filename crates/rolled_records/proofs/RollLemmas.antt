@@ -33,7 +33,7 @@ use Rattle.image_entries.specs.Changes.{key_of_kind, image_of_kind, changed_key,
 use Rattle.image_journals.specs.Headers.{header_told}
 use Rattle.file_images.specs.Images.{key_bytes, image_bytes, entry_by, disk_entries, HasImageJournal, IsOf, AreOf}
 use Rattle.image_laws.specs.Laws.{ReadsEntries, IsPlacedIn, ImagesAreRead, ImagesArePlaced}
-use Rattle.rolled_records.specs.Rolling.{set_changed, StandsFor, told_entries, StandIn, RollsTo, SetsEntry, SetsAt, SetsPlaces, ReadsFrom, RollsForward, RollsBack}
+use Rattle.rolled_records.specs.Rolling.{set_changed, HasEntryAt, told_entries, StandIn, RollsTo, SetsEntry, SetsAt, SetsPlaces, ReadsFrom, RollsForward, RollsBack}
 use Rattle.rolled_records.specs.declared.rolling.Images.{Images}
 
 -- What is read of an entry.
@@ -58,7 +58,7 @@ no_key kind.Prepared o key coded = refl
 no_key kind.Settled o key coded = refl
 
 -- the entry that was read is the one that stands there, and its image is set
-pub entry_set : (c : List (List ℕ)) (s : Span) (p f : ℕ) (tid : Id) (e : Entry) (o : Organization) (h : EntryHead) (next : ℕ) (image : List ℕ) (m : Records) → StandsFor c s p f tid e → IsOf o e → Stands s p h next image c →
+pub entry_set : (c : List (List ℕ)) (s : Span) (p f : ℕ) (tid : Id) (e : Entry) (o : Organization) (h : EntryHead) (next : ℕ) (image : List ℕ) (m : Records) → HasEntryAt c s p f tid e → IsOf o e → Stands s p h next image c →
     set_changed (changed_key o h) (changed_image h image) m ≡ set_entry e m
 entry_set c s p f tid e o h next image m stands of read = by_entry e stands.is of (read.only (entry_by f tid e) stands.is stands.stands)
   where
@@ -76,7 +76,7 @@ pub record IsAt (c : List (List ℕ)) (s : Span) (f : ℕ) (o : Organization) (e
   pub tid : Id
   pub entry : Entry
   pub is : slice_index_or es n no_entry ≡ entry
-  pub stands : StandsFor c s p f tid entry
+  pub stands : HasEntryAt c s p f tid entry
   pub within : p ≤ s.end
   pub of : IsOf o entry
 

@@ -22,7 +22,7 @@ set_changed None v m = m
 set_changed (Some k) v m = set_key m k v
 
 -- an entry of a branch stands at a position of a ring, in the journal of the file of this number
-pub record StandsFor (c : List (List ℕ)) (s : Span) (p f : ℕ) (tid : Id) (e : Entry) : Type 0 where
+pub record HasEntryAt (c : List (List ℕ)) (s : Span) (p f : ℕ) (tid : Id) (e : Entry) : Type 0 where
   pub is : IsEntry (entry_by f tid e)
   pub stands : StandsAt s p (entry_by f tid e) c
 
@@ -44,7 +44,7 @@ pub record RollsTo (until : ℕ) (es : List Entry) (old new : Records) : Type 0 
 
 -- the image of the entry at a position is set
 abbrev pub SetsEntry : Images → (position : ℕ) → (old new : Records) → List (List ℕ) → Type 0
-SetsEntry i p old new c = (f : ℕ) (tid : Id) (e : Entry) → StandsFor c i.span p f tid e → IsOf i.organization e → new ≡ set_entry e old
+SetsEntry i p old new c = (f : ℕ) (tid : Id) (e : Entry) → HasEntryAt c i.span p f tid e → IsOf i.organization e → new ≡ set_entry e old
 
 -- that of the entry at a place of positions
 abbrev pub SetsAt : Images → List ℕ → (place : ℕ) → (old new : Records) → List (List ℕ) → Type 0

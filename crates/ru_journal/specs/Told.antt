@@ -2,6 +2,7 @@
 use Rattle.std.specs.Prelude.{ℕ, ◌+◌, ◌^◌, ◌==◌, ◌&&◌, ◌||◌, not, bit_or, List, [], ◌∷◌, ◌++◌, Bool, true, false, Option, Some, None, length, nat_le, is_some, if◌then◌else◌}
 use Rattle.std.specs.List.{list_any}
 use Rattle.vms_model.specs.Ids.{Id}
+use Rattle.vms_model.specs.Limits.{branch_limit, change_limit}
 use Rattle.records_model.specs.History.{same_id}
 use Rattle.journal_model.specs.Entries.{Entry}
 
@@ -16,12 +17,12 @@ pub record UnitTold : Type 0 where
   pub prepared : Bool
 
 -- How many entries there were, the units in the order of their first changes, and the branches that were settled, in the order of their settlements.
-pub record Told : Type 0 where
+pub record JournalScan : Type 0 where
   pub entries : ℕ
   pub units : List UnitTold
   pub settled : List Id
 
-abbrev pub nothing_told : Told
+abbrev pub nothing_told : JournalScan
 nothing_told = record { entries = 0; units = []; settled = [] }
 
 -- the first unit of a branch
@@ -55,7 +56,7 @@ units_after position e us =
     if e.kind == 3 then without_unit e.serial us
     else (if is_some (find_unit e.serial us) then with_unit e.serial (more_told e) us else (if e.kind == 1 then us ++ first_told position e ∷ [] else us))
 
-abbrev pub after : (position : ℕ) → Entry → Told → Told
+abbrev pub after : (position : ℕ) → Entry → JournalScan → JournalScan
 after position e t = record {
   entries = t.entries + 1;
   units = units_after position e t.units;
@@ -63,21 +64,21 @@ after position e t = record {
 }
 
 -- what entries tell that follow others, each with the position at which it begins
-abbrev pub told_onto : Told → List (ℕ × Entry) → Told
+abbrev pub told_onto : JournalScan → List (ℕ × Entry) → JournalScan
 told_onto t [] = t
 told_onto t (e ∷ es) = told_onto (after e.0 e.1 t) es
 
 -- what the entries of a journal tell, the oldest first
-abbrev pub told_by : List (ℕ × Entry) → Told
+abbrev pub told_by : List (ℕ × Entry) → JournalScan
 told_by es = told_onto nothing_told es
 
 -- An entry that may not stand behind the others. Its branch is settled. Or it names another transaction than the branch's unit. Or it is a Change or
 -- a Prepared of a unit that is prepared, or the unit's 1,025th Change. Or there would be more than 64 units.
 abbrev pub unit_refuses : Entry → (units : ℕ) → Option UnitTold → Bool
-unit_refuses e units None = (e.kind == 1) && nat_le 64 units
-unit_refuses e units (Some u) = not (same_id e.tid u.tid) || (not (e.kind == 3) && u.prepared) || ((e.kind == 1) && nat_le 1024 u.changes)
+unit_refuses e units None = (e.kind == 1) && nat_le branch_limit units
+unit_refuses e units (Some u) = not (same_id e.tid u.tid) || (not (e.kind == 3) && u.prepared) || ((e.kind == 1) && nat_le change_limit u.changes)
 
-abbrev pub is_out_of_order : Entry → Told → Bool
+abbrev pub is_out_of_order : Entry → JournalScan → Bool
 is_out_of_order e t = list_any (same_id e.serial) t.settled || unit_refuses e (length t.units) (find_unit e.serial t.units)
 
 -- How many bytes of the ring units will still take: a Prepared and a Settled entry, or the Settled one alone. A unit without changes has nothing to undo, and

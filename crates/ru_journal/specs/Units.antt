@@ -2,6 +2,7 @@
 use Rattle.std.specs.Prelude.{◌≡◌, ℕ, ◌<◌, ◌≤◌, ◌+◌, true, List, Some, None, Vec, length, map, take, slice_get, vec_capacity}
 use Rattle.std.specs.List.{AllByRecursion}
 use Rattle.vms_model.specs.Ids.{Id}
+use Rattle.vms_model.specs.Limits.{branch_limit, change_limit, entry_limit}
 use Rattle.vms_base.specs.Ids.{tid_of, serial_of}
 use Rattle.table_keys.specs.declared.key.BranchKey.{BranchKey}
 use Rattle.ru_journal.specs.declared.unit.UnitInfo.{UnitInfo}
@@ -16,7 +17,7 @@ abbrev pub id_of_key : BranchKey → Id
 id_of_key k = serial_of k.serial
 
 abbrev pub FewChanges : List UnitInfo → Type 0
-FewChanges us = AllByRecursion (λ u. u.changes ≤ 1024) us
+FewChanges us = AllByRecursion (λ u. u.changes ≤ change_limit) us
 
 -- the first unit of a branch among these
 pub record IsPlace (serial : Id) (us : List UnitInfo) (i : ℕ) : Type 0 where
@@ -28,9 +29,9 @@ pub record IsPlace (serial : Id) (us : List UnitInfo) (i : ℕ) : Type 0 where
 
 -- what is kept: a few units, and room for as many branches as are left
 pub record IsState {A S : Type 0} (units : Vec UnitInfo A) (settled : IndexSet BranchKey S) (taken : ℕ) : Type 0 where
-  pub places : 64 ≤ vec_capacity units
-  pub few : length units.items ≤ 64
+  pub places : branch_limit ≤ vec_capacity units
+  pub few : length units.items ≤ branch_limit
   pub changes : FewChanges units.items
-  pub room : 87381 ≤ length settled.keys + spare settled
+  pub room : entry_limit ≤ length settled.keys + spare settled
   pub entries : length settled.keys ≤ taken
-  pub most : taken ≤ 87381
+  pub most : taken ≤ entry_limit

@@ -1,6 +1,7 @@
 // What the entries of a journal told so far.
 ghost use Rattle.std.specs.Prelude.{◌≡◌, ℕ, ◌<◌, ◌≤◌, ◌+◌, ◌*◌, ◌==◌, ◌++◌, List, [], ◌∷◌, Option, Some, None, false, length, map, option_map, option_copied, IfOk, OnOk, OnErr, IfSome, IfNone, is_err, vec_capacity, if◌then◌else◌};
 ghost use Rattle.std.specs.List.{list_any};
+ghost use Rattle.vms_model.specs.Limits.{branch_limit, entry_limit, file_limit};
 ghost use Rattle.records_model.specs.History.{same_id};
 ghost use Rattle.vms_base.specs.Ids.{serial_of};
 ghost use Rattle.indexmap.specs.IndexSet.{spare};
@@ -41,10 +42,10 @@ pub struct RuState {
 
 impl Model for RuState {
     ghost use Rattle.std.specs.Prelude.{map};
-    ghost use Rattle.ru_journal.specs.Told.{Told};
+    ghost use Rattle.ru_journal.specs.Told.{JournalScan};
     ghost use Rattle.ru_journal.specs.Units.{unit_of, id_of_key, IsState};
 
-    ghost Value = { Told };
+    ghost Value = { JournalScan };
 
     ghost view = { λ s. record { entries = s.taken; units = map unit_of s.units.items; settled = map id_of_key s.settled.keys } };
 
@@ -96,14 +97,14 @@ fn is_refused(units: &[UnitInfo], e: &EntryHead) -> bool
 
 // The units after one entry more.
 fn put_entry(units: &mut Vec<UnitInfo>, position: u64, e: &EntryHead)
-    requires file { e.now.file < 64 }
-    requires places { 64 ≤ vec_capacity units.old }
-    requires few { length units.old.items ≤ 64 }
+    requires file { e.now.file < file_limit }
+    requires places { branch_limit ≤ vec_capacity units.old }
+    requires few { length units.old.items ≤ branch_limit }
     requires changes { FewChanges units.old.items }
     requires may { unit_refuses (entry_of e.now []) (length units.old.items) (find_unit (serial_of e.now.serial) (map unit_of units.old.items)) ≡ false }
     ensures units { map unit_of units.new.items ≡ units_after position (entry_of e.now []) (map unit_of units.old.items) }
-    ensures places { 64 ≤ vec_capacity units.new }
-    ensures few { length units.new.items ≤ 64 }
+    ensures places { branch_limit ≤ vec_capacity units.new }
+    ensures few { length units.new.items ≤ branch_limit }
     ensures changes { FewChanges units.new.items }
 {
     let place = place_of(units, &e.serial);
@@ -149,7 +150,7 @@ fn note_settled(settled: &mut IndexSet<BranchKey>, e: &EntryHead)
 
 // How many bytes of the ring units will still take.
 fn owed_by(units: &[UnitInfo]) -> u32
-    requires few { length units.now ≤ 64 }
+    requires few { length units.now ≤ branch_limit }
     ensures value { result ≡ owed (map unit_of units.now) }
     ensures few { result ≤ 96 * length units.now }
 {
@@ -200,8 +201,8 @@ impl RuState {
 
     /// Takes one entry more, which begins at this position. Order, and nothing changes, exactly where it may not stand behind those before it.
     pub fn take(&mut self, position: u64, e: &EntryHead) -> Result<(), RuErr>
-        requires room { self.old.entries < 87381 }
-        requires file { e.now.file < 64 }
+        requires room { self.old.entries < entry_limit }
+        requires file { e.now.file < file_limit }
         ensures takes { OnOk result (self.new ≡ after position (entry_of e.now []) self.old) }
         ensures order { is_err result ≡ is_out_of_order (entry_of e.now []) self.old }
         ensures same { OnErr result (self.new ≡ self.old) }
@@ -225,7 +226,7 @@ impl RuState {
     /// The units that are not settled.
     pub fn units(&self) -> &[UnitInfo]
         ensures value { map unit_of result.now ≡ self.now.units }
-        ensures few { length self.now.units ≤ 64 }
+        ensures few { length self.now.units ≤ branch_limit }
     {
         &self.units
     }

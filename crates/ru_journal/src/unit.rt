@@ -1,5 +1,6 @@
 // A recovery unit that is not settled.
 ghost use Rattle.std.specs.Prelude.{◌≡◌, ◌<◌, ◌≤◌, ◌+◌, ◌==◌, ◌||◌, ◌&&◌, ℕ, false, not, []};
+ghost use Rattle.vms_model.specs.Limits.{change_limit, file_limit};
 ghost use Rattle.records_model.specs.History.{same_id};
 ghost use Rattle.vms_base.specs.Ids.{id_of};
 ghost use Rattle.journal_format.specs.Heads.{entry_of};
@@ -38,7 +39,7 @@ impl UnitInfo {
 
     // The unit that a Change begins.
     pub(crate) fn begin(position: u64, e: &EntryHead) -> UnitInfo
-        requires file { e.now.file < 64 }
+        requires file { e.now.file < file_limit }
         ensures unit { unit_of result ≡ first_told position (entry_of e.now []) }
         ensures few { result.changes ≤ 1 }
     {
@@ -80,11 +81,11 @@ impl UnitInfo {
 
     // The unit after a Change or a Prepared more.
     pub(crate) fn more(&self, e: &EntryHead) -> UnitInfo
-        requires file { e.now.file < 64 }
-        requires few { self.now.changes ≤ 1024 }
+        requires file { e.now.file < file_limit }
+        requires few { self.now.changes ≤ change_limit }
         requires may { unit_refuses (entry_of e.now []) 0 (Some (unit_of self.now)) ≡ false }
         ensures unit { unit_of result ≡ more_told (entry_of e.now []) (unit_of self.now) }
-        ensures few { result.changes ≤ 1024 }
+        ensures few { result.changes ≤ change_limit }
     {
         match e.kind {
             EntryKind::Change => UnitInfo {

@@ -116,7 +116,7 @@ barred_boot x s stops e rises (Whole outturn) boot b none may =
         subst P (sym (boot.reads s z ∙ n.1)) (record { named = refl; volume = refl; barred = record { down = b.down; quiet = refl; none = b.none; known = b.known }; shared = λ o fs p k. k })
 barred_boot x s stops e rises WithoutMemory boot b none may = barred_same x s b
 barred_boot x s stops e rises Unpowered boot b none may =
-    let P : Bool → Type 0 = λ t. BarredTo x (steps.spoilt t (unpowered stops x)) s (occupied e s) in
+    let P : Bool → Type 0 = λ t. BarredTo x (steps.with_unknown_volume t (unpowered stops x)) s (occupied e s) in
     subst P (sym boot.spoils) (barred_used x (unpowered stops x) s s e (record { named = refl; volume = refl; barred = record { down = refl; quiet = b.quiet; none = b.none; known = b.known }; shared = λ o fs p h. h }))
 barred_boot x s stops e rises (Cut outturn done begun cause) boot b none may =
     let y : Node = record x { calls = world.Power stops ∷ x.calls; under_way = None } in

@@ -231,19 +231,19 @@ made_unused : (x : Node) (slots journal : ℕ) → slots ≤ 512 → IsUnused x 
 made_unused x slots journal few u = record { down = u.down; quiet = u.quiet; settled = u.settled; known = λ e. absurd (let f : ⊥ = cc in f); log = λ e. made_in_order x slots journal few }
 
 -- a node of whose disk nothing is known
-spoilt_unused : (x : Node) → x.up ≡ false → x.under_way ≡ None → x.settled ≡ [] → IsUnused (steps.spoilt true x)
+spoilt_unused : (x : Node) → x.up ≡ false → x.under_way ≡ None → x.settled ≡ [] → IsUnused (steps.with_unknown_volume true x)
 spoilt_unused x down quiet settled = record { down = down; quiet = quiet; settled = settled; known = λ e. refl; log = λ e. absurd (let f : ⊥ = cc in f) }
 
 -- it is so from the moment at which an INIT makes the disk run
 abbrev spoilt_ready : Outturn → ℕ → Node → Node
-spoilt_ready outturn stops x = steps.spoilt true (world.powered outturn stops x)
+spoilt_ready outturn stops x = steps.with_unknown_volume true (world.powered outturn stops x)
 
 spoilt_named : (outturn : Outturn) (stops : ℕ) (x : Node) → IsUnused x → (spoilt_ready outturn stops x).name ≡ x.name
 spoilt_named outturn stops x u = ap (λ (z : Node). z.name) (quiet_powered outturn stops x u.quiet)
 
 ready_unused : (outturn : Outturn) (stops : ℕ) (x : Node) → IsUnused x → IsUnused (spoilt_ready outturn stops x)
 ready_unused outturn stops x u =
-    let P : Node → Type 0 = λ z. IsUnused (steps.spoilt true z) in
+    let P : Node → Type 0 = λ z. IsUnused (steps.with_unknown_volume true z) in
     subst P (sym (quiet_powered outturn stops x u.quiet)) (spoilt_unused (let z : Node = record x { calls = world.Power stops ∷ x.calls; under_way = None } in z) u.down refl u.settled)
 
 -- An INIT that is not refused is of no more than 512 slots.
@@ -282,7 +282,7 @@ init_stays x s stops slots journal rises (Whole outturn) u may = by (refused_bef
         kept (InitLeaves slots journal x z line.Normal) x z s (s.in_use || false) (or_none s.in_use) (spoilt_named outturn stops x u) (made_unused (spoilt_ready outturn stops x) slots journal (few_slots x s slots journal h) (ready_unused outturn stops x u)) refl
 init_stays x s stops slots journal rises WithoutMemory u may = kept (IsSameDisk x x) x x s s.in_use refl refl u refl
 init_stays x s stops slots journal rises Unpowered u may =
-    let z : Node = steps.spoilt true (world.unpowered stops x) in
+    let z : Node = steps.with_unknown_volume true (world.unpowered stops x) in
     kept (InitLeaves slots journal x z (line.Broken line.Failed)) x z s (s.in_use || false) (or_none s.in_use) refl (spoilt_unused (world.unpowered stops x) refl u.quiet u.settled) refl
 init_stays x s stops slots journal rises (Cut outturn done begun cause) u may =
     let y : Node = spoilt_ready outturn stops x in

@@ -4,6 +4,7 @@ use Rattle.std.specs.Str.{bytes_eq}
 use Rattle.std.proofs.Common.{◌≡◌, ℕ, ◌+◌, ◌≤◌, ◌<◌, length, Bool, true, false, List, [], ◌∷◌, Option, Some, None, inl, inr, refl, ap, sym, subst, ◌∙◌, arith}
 use Rattle.std.proofs.lemmas.Bool.{leb-false, lt-ltb}
 use Rattle.vms_model.specs.Ids.{Id}
+use Rattle.vms_model.specs.Limits.{branch_limit}
 use Rattle.transcript_model.specs.Lines as line
 use Rattle.transcript_model.specs.Lines.{Line}
 use Rattle.commit_protocol.specs.Messages.{Name}
@@ -23,7 +24,7 @@ use Rattle.log_laws.proofs.RowSlots.{row_size}
 use Rattle.run_model.specs.World as world
 use Rattle.run_model.specs.World.{Act, Draws, Labels, Numbers, Label, Node, Shared, acted, shared_after, with_serial, find_label, tm_of}
 use Rattle.run_model.specs.Operations.{first_of, refused_if}
-use Rattle.run_model.specs.Answers.{Row, branch_limit, told_rows, table_rows, starts, adds, due_after, more_branches}
+use Rattle.run_model.specs.Answers.{Row, told_rows, table_rows, starts, adds, due_after, more_branches}
 use Rattle.run_model.specs.Steps.{node_after_rows, shared_after_rows}
 use Rattle.run_agreement.specs.Seen.{Face, IsTold}
 use Rattle.run_agreement.specs.Following.{Faces, Follows}
@@ -156,7 +157,7 @@ may_begin x r t =
     rw (one, two) refl
 
 -- there is room after the row
-fits_more : (x : Node) (e : Event) → HasRoom x → IsTold [] x → Rattle.log_laws.specs.Slots.begun e ≡ 1 → size (table.after (row (tm_of x) e) (tm_of x)) ≤ length x.durable.log
+fits_more : (x : Node) (e : Event) → HasRoom x → IsTold [] x → Rattle.log_laws.specs.Slots.branches_added e ≡ 1 → size (table.after (row (tm_of x) e) (tm_of x)) ≤ length x.durable.log
 fits_more x e r t one =
     let grown = row_size (tm_of x) e t.apart in
     let P : ℕ → Type 0 = λ m. size (table.after (row (tm_of x) e) (tm_of x)) ≤ size (tm_of x) + m in

@@ -3,6 +3,7 @@ use Rattle.std.specs.Prelude.{if◌then◌else◌, is_some, nat_lt, length}
 use Rattle.std.proofs.Common.{◌≡◌, ℕ, ◌+◌, Bool, true, false, List, [], ◌∷◌, ◌++◌, Some, None, ◌⊎◌, inl, inr, refl, ap, sym, subst, ◌∙◌}
 use Rattle.vms_model.specs.Ids.{Id}
 use Rattle.vms_model.specs.Transactions.{Outcome, Abort as ToAbort, SegFail}
+use Rattle.vms_model.specs.Limits.{message_limit}
 use Rattle.commit_protocol.specs.Messages.{Name, Message, same_name}
 use Rattle.commit_protocol.specs.Table as table
 use Rattle.commit_protocol.specs.Table.{Key, Branch, Child, Notes, Accepts, Prepares, Settles, Leaves, Acknowledges, Releases, Undoes, Sends, Prints, child}
@@ -10,7 +11,7 @@ use Rattle.commit_protocol.specs.World as protocol
 use Rattle.commit_protocol.specs.World.{In, acts, at_node, touched, node_after, last_after, crashed, crashes, draws, raised, raised_node, labelled}
 use Rattle.commit_protocol.proofs.Lists.{same_name-eq, same_name-ne, cases_name, in_parts}
 use Rattle.commit_protocol.proofs.Bridge.{node_same, node_other}
-use Rattle.run_model.specs.World.{Settlement, Shared, settlement, settlement_of, settled_more, shared_tabled, posted, message_limit}
+use Rattle.run_model.specs.World.{Settlement, Shared, settlement, settlement_of, settled_more, shared_tabled, posted}
 use Rattle.commit_protocol.specs.Opening.{Opening}
 use Rattle.run_agreement.specs.Seen.{Face, outcome_of}
 use Rattle.run_agreement.specs.Following.{Faces, Settled, Follows}

@@ -7,6 +7,7 @@ use Rattle.std.proofs.Common.{◌≡◌, ℕ, Bool, true, false, List, [], ◌�
 use Rattle.std.proofs.lemmas.Bool.{both_ways, cases_Bool}
 use Rattle.vms_model.specs.Ids.{Id}
 use Rattle.vms_model.specs.Transactions.{Commit as ToCommit, Abort as ToAbort, Aborted as ByRequest}
+use Rattle.vms_model.specs.Limits.{boot_limit, moment_limit, position_limit}
 use Rattle.transcript_model.specs.Lines as line
 use Rattle.transcript_model.specs.Lines.{Line, Cause}
 use Rattle.script_model.specs.Statements.{Settle}
@@ -87,12 +88,12 @@ not_bootable y l e = by y.durable.volume refl
     by : (v : world.Volume) → y.durable.volume ≡ v → is_normal l ≡ false
     by world.Sound f =
         let P : world.Volume → Type 0 = λ v. answers.bootable (record y { durable = record y.durable { volume = v } }) ≡ Some l in
-        let boots : Line = line.QuotaExceeded line.Boots answers.boot_limit in
-        let moments : Line = line.QuotaExceeded line.Moments answers.moment_limit in
-        let positions : Line = line.QuotaExceeded line.Positions answers.position_limit in
-        let late : Bool = nat_lt answers.moment_limit y.durable.greatest in
-        let far : Bool = nat_lt answers.position_limit (answers.last_position y) in
-        not_first (refused_if (y.durable.boot == answers.boot_limit) boots) (first_of (refused_if late moments) (refused_if far positions)) (not_if (y.durable.boot == answers.boot_limit) boots refl)
+        let boots : Line = line.QuotaExceeded line.Boots boot_limit in
+        let moments : Line = line.QuotaExceeded line.Moments moment_limit in
+        let positions : Line = line.QuotaExceeded line.Positions position_limit in
+        let late : Bool = nat_lt moment_limit y.durable.greatest in
+        let far : Bool = nat_lt position_limit (answers.last_position y) in
+        not_first (refused_if (y.durable.boot == boot_limit) boots) (first_of (refused_if late moments) (refused_if far positions)) (not_if (y.durable.boot == boot_limit) boots refl)
         (not_first (refused_if late moments) (refused_if far positions) (not_if late moments refl) (not_if far positions refl)) l (subst P f e)
     by (world.Faulty condition block) f =
         let P : world.Volume → Type 0 = λ v. answers.bootable (record y { durable = record y.durable { volume = v } }) ≡ Some l in

@@ -15,7 +15,7 @@ use Rattle.commit_protocol.specs.World.{In, draws_none}
 use Rattle.commit_protocol.specs.Opening.{Opening}
 use Rattle.commit_protocol.specs.Standing.{BeginsNothing}
 use Rattle.commit_protocol.proofs.Lists.{find_serial-key, same_key-true}
-use Rattle.log_laws.specs.Slots.{IsFresh, begun}
+use Rattle.log_laws.specs.Slots.{IsFresh, branches_added}
 use Rattle.script_model.specs.Statements as said
 use Rattle.run_model.specs.World as world
 use Rattle.run_model.specs.World.{Act, Arms, Clocks, ComesUp, Node, Shared, Label, File, Call, DiskCounts, Outturn, acted, find_branch, serial_labelled, powered, unpowered, tm_of}
@@ -47,7 +47,7 @@ abbrev pub WholeFor : Known → Opening → Name → List Row → Node → Share
 WholeFor K o n rs x s = (b : Bool) (fs : Faces) (p : protocol.World) → K p → IsUpAt o n x s fs p → Arrives o n b (node_after_rows rs x) (shared_after_rows rs s) fs p
 
 abbrev pub CutFor : Known → Opening → Name → List Row → Node → Shared → Type 0
-CutFor K o n rs x s = (j : ℕ) (begun b : Bool) (fs : Faces) (p : protocol.World) → K p → IsUpAt o n x s fs p → Arrives o n b (cut_node rs j begun x) (shared_after_rows (take j rs) s) fs p
+CutFor K o n rs x s = (j : ℕ) (branches_added b : Bool) (fs : Faces) (p : protocol.World) → K p → IsUpAt o n x s fs p → Arrives o n b (cut_node rs j branches_added x) (shared_after_rows (take j rs) s) fs p
 
 pub same_sim : (K : Known) (o : Opening) (n : Name) (x : Node) (s : Shared) → NodeSimFor K o n x s x s
 same_sim K o n x s b = (b, λ fs f p k h. record { steps = []; face = f; is = h.is; follows = follows_same o fs (put_face n f fs) s p (put_itself n f fs h.found) h.follows; named = h.named; volume = h.volume })
@@ -102,7 +102,7 @@ pub plain_sim : (K : Known) (o : Opening) (n : Name) (x : Node) (s : Shared) (st
     → (touches e ≡ true → x.up ≡ true → e.refused_before_reading s x ≡ None → e.refused_after_reading s x ≡ None → CutFor K o n (e.rows s x) x s)
     → ServiceAllowed s stops x e rises c → NodeSimFor K o n x s (service_effect s stops x e c).node (service_effect s stops x e c).shared
 plain_sim K o n x s stops e rises (Whole outturn) plain goes cuts may =
-    let ready : ready_node outturn stops e x ≡ x = ap (λ b. if b then steps.spoilt (spoils e) (powered outturn stops x) else x) plain.powers in
+    let ready : ready_node outturn stops e x ≡ x = ap (λ b. if b then steps.with_unknown_volume (spoils e) (powered outturn stops x) else x) plain.powers in
     let P : Node → Type 0 = λ r. NodeSimFor K o n x s (whole s x r e (refused_before_reading s x e)).node (whole s x r e (refused_before_reading s x e)).shared in
     subst P (sym ready) (by (refused_before_reading s x e) refl)
   where
@@ -122,33 +122,33 @@ plain_sim K o n x s stops e rises (Whole outturn) plain goes cuts may =
     by None h = begins (e.refused_after_reading s x) refl h
 plain_sim K o n x s stops e rises WithoutMemory plain goes cuts may = same_sim K o n x s
 plain_sim K o n x s stops e rises Unpowered plain goes cuts may = absurd (both_ways (powers e) plain.powers may.1)
-plain_sim K o n x s stops e rises (Cut outturn done begun cause) plain goes cuts may =
-    let ready : ready_node outturn stops e x ≡ x = ap (λ b. if b then steps.spoilt (spoils e) (powered outturn stops x) else x) plain.powers in
-    let P : Node → Type 0 = λ r. NodeSimFor K o n x s (cut s r e (rows_to_cut s r e) done begun cause).node (cut s r e (rows_to_cut s r e) done begun cause).shared in
+plain_sim K o n x s stops e rises (Cut outturn done branches_added cause) plain goes cuts may =
+    let ready : ready_node outturn stops e x ≡ x = ap (λ b. if b then steps.with_unknown_volume (spoils e) (powered outturn stops x) else x) plain.powers in
+    let P : Node → Type 0 = λ r. NodeSimFor K o n x s (cut s r e (rows_to_cut s r e) done branches_added cause).node (cut s r e (rows_to_cut s r e) done branches_added cause).shared in
     let u = serves_up s x e plain.awake may.0 in
     subst P (sym ready) (by u.0 u.1 (e.refused_after_reading s x) refl)
   where
     by : x.up ≡ true → e.refused_before_reading s x ≡ None → (l : Option Line) → e.refused_after_reading s x ≡ l
-        → NodeSimFor K o n x s (cut s x e (rows_if l (e.rows s x)) done begun cause).node (cut s x e (rows_if l (e.rows s x)) done begun cause).shared
-    by up h None q = occupied_sim K o n x (cut_node (e.rows s x) done begun x) s (shared_after_rows (take done (e.rows s x)) s) e (up_sim K o n x (cut_node (e.rows s x) done begun x) s (shared_after_rows (take done (e.rows s x)) s) up (cuts may.1 up h q done begun))
+        → NodeSimFor K o n x s (cut s x e (rows_if l (e.rows s x)) done branches_added cause).node (cut s x e (rows_if l (e.rows s x)) done branches_added cause).shared
+    by up h None q = occupied_sim K o n x (cut_node (e.rows s x) done branches_added x) s (shared_after_rows (take done (e.rows s x)) s) e (up_sim K o n x (cut_node (e.rows s x) done branches_added x) s (shared_after_rows (take done (e.rows s x)) s) up (cuts may.1 up h q done branches_added))
     by up h (Some l) q =
         let none : List Row = [] in
-        occupied_sim K o n x (cut_node none done begun x) s (shared_after_rows (take done none) s) e (up_sim K o n x (cut_node none done begun x) s (shared_after_rows (take done none) s) up (λ b fs p k a. (unseen_goes o n none x s tt).cut done begun b fs p a))
+        occupied_sim K o n x (cut_node none done branches_added x) s (shared_after_rows (take done none) s) e (up_sim K o n x (cut_node none done branches_added x) s (shared_after_rows (take done none) s) up (λ b fs p k a. (unseen_goes o n none x s tt).cut done branches_added b fs p a))
 
 -- by rows that go
 pub rows_sim : (o : Opening) (n : Name) (x : Node) (s : Shared) (stops : ℕ) (e : Service) (rises : Cause → Type 0) (c : Choice) → IsPlain e
     → (x.up ≡ true → e.refused_before_reading s x ≡ None → e.refused_after_reading s x ≡ None → RowsGo o n (e.rows s x) x s)
     → ServiceAllowed s stops x e rises c → NodeSimFor Anything o n x s (service_effect s stops x e c).node (service_effect s stops x e c).shared
-rows_sim o n x s stops e rises c plain goes may = plain_sim Anything o n x s stops e rises c plain (λ up h q b fs p k a. (goes up h q).whole b fs p a) (λ t up h q j begun b fs p k a. (goes up h q).cut j begun b fs p a) may
+rows_sim o n x s stops e rises c plain goes may = plain_sim Anything o n x s stops e rises c plain (λ up h q b fs p k a. (goes up h q).whole b fs p a) (λ t up h q j branches_added b fs p k a. (goes up h q).cut j branches_added b fs p a) may
 
 -- where the disk is not used
 pub unused_sim : (o : Opening) (n : Name) (x : Node) (s : Shared) (stops : ℕ) (e : Service) (rises : Cause → Type 0) (c : Choice) → IsPlain e → touches e ≡ false
     → (x.up ≡ true → e.refused_before_reading s x ≡ None → e.refused_after_reading s x ≡ None → WholeGoes o n (e.rows s x) x s)
     → ServiceAllowed s stops x e rises c → NodeSimFor Anything o n x s (service_effect s stops x e c).node (service_effect s stops x e c).shared
-unused_sim o n x s stops e rises c plain unused goes may = plain_sim Anything o n x s stops e rises c plain (λ up h q b fs p k a. goes up h q b fs p a) (λ t up h q j begun b fs p k a. absurd (both_ways (touches e) unused t)) may
+unused_sim o n x s stops e rises c plain unused goes may = plain_sim Anything o n x s stops e rises c plain (λ up h q b fs p k a. goes up h q b fs p a) (λ t up h q j branches_added b fs p k a. absurd (both_ways (touches e) unused t)) may
 
 -- an event that draws nothing, by which no branch begins and none changes anything for the first time
-pub event_goes : (o : Opening) (n : Name) (x : Node) (s : Shared) (e : Event) → draws_none e ≡ true → allowed (tm_of x) e ≡ true → begun e ≡ 0 → BeginsNothing e → IsFresh (tm_of x) e → RowsGo o n (told_rows s x (just e)) x s
+pub event_goes : (o : Opening) (n : Name) (x : Node) (s : Shared) (e : Event) → draws_none e ≡ true → allowed (tm_of x) e ≡ true → branches_added e ≡ 0 → BeginsNothing e → IsFresh (tm_of x) e → RowsGo o n (told_rows s x (just e)) x s
 event_goes o n x s e none may few quiet fresh = given_goes o n e (told_rows s x (just e)) x s none may few (λ fs p h. rows_match (row (tm_of x) e) [] x s (quiet_told e x h.told h.room quiet fresh))
 
 -- Branches that labels name.

@@ -1,7 +1,8 @@
 -- How a settling may end that does not succeed.
 use Rattle.std.specs.Prelude.{if◌then◌else◌, ◌||◌, not, nat_lt, ◌==◌}
-use Rattle.std.proofs.Common.{◌≡◌, ℕ, Bool, true, false, List, [], ◌∷◌, ◌++◌, Option, Some, None, ◌⊎◌, inl, inr, refl, ap, sym, subst, ◌∙◌}
+use Rattle.std.proofs.Common.{◌≡◌, ℕ, Bool, true, false, List, [], ◌∷◌, ◌++◌, Option, Some, None, ◌⊎◌, inl, inr, refl, ap, sym, subst, ◌∙◌, drop, bytes_eq}
 use Rattle.vms_model.specs.Ids.{Id}
+use Rattle.vms_model.specs.Limits.{boot_limit, moment_limit, position_limit}
 use Rattle.transcript_model.specs.Lines as line
 use Rattle.transcript_model.specs.Lines.{Line, Cause}
 use Rattle.script_model.specs.Statements.{Settle}
@@ -23,11 +24,15 @@ use Rattle.run_model.specs.Statements as statements
 use Rattle.run_model.specs.Statements.{Part, Does, Asks, PartEffect, Question, Heard, Unanswered, Doubtful, Onward, Parts, Phases, Finished, Step, Allowed, AllowedAt, AllowedOf, RoseAt, stops_at, put_into, done_at, part_effect, question_effect, question, asking, asked, answer_of, answer_in, restarts_of, run_downs_of, all_questions, phases_of, begun_with}
 use Rattle.run_model.specs.StepLaws.{FailurePutsDown}
 use Rattle.run_model.proofs.PartLemmas.{allowed_here}
-use Rattle.std.proofs.lemmas.Bool.{both_ways}
+use Rattle.std.proofs.lemmas.Bool.{both_ways, cases_Bool}
 use Rattle.run_agreement.specs.Following.{opening_of}
-use Rattle.run_agreement.specs.Laws.{NamesApart, HasFailed, EndsFor, SettlingEnds}
+use Rattle.run_agreement.specs.Laws.{NamesApart, HasFailed, EndedAtBoot, EndsFor, SettlingEnds, first_down}
+use Rattle.run_agreement.specs.Seen.{has_volume}
 use Rattle.run_agreement.proofs.Found.{some_is, name_found, found_put, bytes_itself, bytes_other}
 use Rattle.run_agreement.proofs.Tasks.{awake_refused}
+use Rattle.run_agreement.proofs.Barred.{quiet_powered}
+use Rattle.run_agreement.proofs.Booting.{power_goes, taken_of}
+use Rattle.run_agreement.proofs.Events.{down_of_face}
 use Rattle.run_agreement.proofs.Changing.{branch_found}
 use Rattle.run_agreement.proofs.Parts.{AllUp, IsAsking, asking_is}
 use Rattle.run_agreement.proofs.Going.{went_on, restart_moves, powered_name}
@@ -40,32 +45,90 @@ abbrev Ends : World → Line → Type 0
 Ends u (line.Broken cause) = Unit {0}
 Ends u answer = EndsFor u u [] answer
 
+-- The first node that is down.
+
+-- it may become another that is down
+put_first : (ns : List Node) (n : Name) (x z : Node) → find_node n ns ≡ Some x → first_down ns ≡ Some x → x.name ≡ n → z.up ≡ false → first_down (with_node n (λ y. z) ns) ≡ Some z
+put_first [] n x z found first named off = absurd (let f : ⊥ = cc in f)
+put_first (y ∷ ys) n x z found first named off = go (bytes_eq n y.name) y.up refl refl (λ f g. put_first ys n x z f g named off) found first
+  where
+    go : (b up : Bool) → bytes_eq n y.name ≡ b → y.up ≡ up → (find_node n ys ≡ Some x → first_down ys ≡ Some x → first_down (with_node n (λ k. z) ys) ≡ Some z)
+        → (let o : Option Node = if b then Some y else find_node n ys in o) ≡ Some x → (let o : Option Node = if up then first_down ys else Some y in o) ≡ Some x
+        → first_down (if b then z ∷ ys else y ∷ with_node n (λ k. z) ys) ≡ Some z
+    go true up is at more f g = ap (λ d. if d then first_down ys else Some z) off
+    go false true is at more f g = ap (λ d. if d then first_down (with_node n (λ k. z) ys) else Some y) at ∙ more f g
+    go false false is at more f g = absurd (both_ways (bytes_eq n y.name) is (bytes_itself n y.name (sym (ap (λ (k : Node). k.name) (some_is y x g) ∙ named))))
+
+-- it is the node of the first boot
+first_is : (ns : List Node) (n : Name) (x : Node) (ps : List Part) → restarts_of ns ≡ Does n Restarts ∷ ps → find_node n ns ≡ Some x → x.up ≡ false → first_down ns ≡ Some x
+first_is [] n x ps left found off = absurd (let f : ⊥ = cc in f)
+first_is (y ∷ ys) n x ps left found off = go y.up (bytes_eq n y.name) refl refl left found (λ l f. first_is ys n x ps l f off)
+  where
+    go : (up b : Bool) → y.up ≡ up → bytes_eq n y.name ≡ b → (let qs : List Part = if up then restarts_of ys else Does y.name Restarts ∷ restarts_of ys in qs) ≡ Does n Restarts ∷ ps
+        → (let o : Option Node = if b then Some y else find_node n ys in o) ≡ Some x → (restarts_of ys ≡ Does n Restarts ∷ ps → find_node n ys ≡ Some x → first_down ys ≡ Some x)
+        → (let o : Option Node = if up then first_down ys else Some y in o) ≡ Some x
+    go true true at is l f more = absurd (both_ways x.up off (ap (λ (k : Node). k.up) (sym (some_is y x f)) ∙ at))
+    go true false at is l f more = more l f
+    go false true at is l f more = f
+    go false false at is l f more = let same : y.name ≡ n = cc in absurd (both_ways (bytes_eq n y.name) is (bytes_itself n y.name (sym same)))
+
+-- once it is up, the other boots are left
+restarts_left : (ns : List Node) (n : Name) (x z : Node) (ps : List Part) → restarts_of ns ≡ Does n Restarts ∷ ps → find_node n ns ≡ Some x → x.up ≡ false → z.up ≡ true → restarts_of (with_node n (λ y. z) ns) ≡ ps
+restarts_left [] n x z ps left found off alive = absurd (let f : ⊥ = cc in f)
+restarts_left (y ∷ ys) n x z ps left found off alive = go y.up (bytes_eq n y.name) refl refl left found (λ l f. restarts_left ys n x z ps l f off alive)
+  where
+    go : (up b : Bool) → y.up ≡ up → bytes_eq n y.name ≡ b → (let qs : List Part = if up then restarts_of ys else Does y.name Restarts ∷ restarts_of ys in qs) ≡ Does n Restarts ∷ ps
+        → (let o : Option Node = if b then Some y else find_node n ys in o) ≡ Some x → (restarts_of ys ≡ Does n Restarts ∷ ps → find_node n ys ≡ Some x → restarts_of (with_node n (λ k. z) ys) ≡ ps)
+        → restarts_of (if b then z ∷ ys else y ∷ with_node n (λ k. z) ys) ≡ ps
+    go true true at is l f more = absurd (both_ways x.up off (ap (λ (k : Node). k.up) (sym (some_is y x f)) ∙ at))
+    go true false at is l f more = ap (λ d. if d then restarts_of (with_node n (λ k. z) ys) else Does y.name Restarts ∷ restarts_of (with_node n (λ k. z) ys)) at ∙ more l f
+    go false true at is l f more = ap (λ d. if d then restarts_of ys else Does z.name Restarts ∷ restarts_of ys) alive ∙ ap (drop 1) l
+    go false false at is l f more = let same : y.name ≡ n = cc in absurd (both_ways (bytes_eq n y.name) is (bytes_itself n y.name (sym same)))
+
+-- so it is behind a boot with which the settling goes on
+boots_left : (w : World) (n : Name) (c : Choice) (x : Node) (ps : List Part) → find_node n w.nodes ≡ Some x → x.up ≡ false → restarts_of w.nodes ≡ Does n Restarts ∷ ps → (done_at w n Restarts c).ends ≡ false → restarts_of (done_at w n Restarts c).world.nodes ≡ ps
+boots_left w n c x ps found off left h =
+    let P : Option Node → Type 0 = λ d. (let e : PartEffect = elim d [ Some y ↦ put_into w n (task_effect w.shared (stops_at n w) y Restarts c) | None ↦ statements.no_node w ] in e).ends ≡ false
+    → restarts_of (let e : PartEffect = elim d [ Some y ↦ put_into w n (task_effect w.shared (stops_at n w) y Restarts c) | None ↦ statements.no_node w ] in e).world.nodes ≡ ps in
+    subst P (sym found) (λ k.
+    let g = went_on w.shared (stops_at n w) x (task_service Restarts) c refl k in
+    restarts_left w.nodes n x (task_effect w.shared (stops_at n w) x Restarts c).node ps left found off (ap (λ (z : Node). z.up) g.node)) h
+
+-- a node that is down is so once its disk runs again, whatever its act under way turned out to be
+stays_off : (base w : World) (n : Name) (x : Node) (outturn : Outturn) (stops : ℕ) → Reached base w → find_node n w.nodes ≡ Some x → x.up ≡ false → (world.powered outturn stops x).up ≡ false
+stays_off base w n x outturn stops reached found off =
+    let are = (reached (λ m. taken_of outturn)).shows.are in
+    elim (cases_Bool (has_volume x)) [
+      | inl sound ↦ (let f = are.there n x found sound in (power_goes outturn stops x f.0 off (down_of_face (taken_of outturn) x f.0 off f.2)).down)
+      | inr none ↦ ap (λ (z : Node). z.up) (quiet_powered outturn stops x (are.without n x found none).1.quiet) ∙ off
+    ]
+
 -- Tasks that end their statement.
 
 -- a node that cannot be booted says why
-bootable_ends : (u : World) (n : Name) (r : Node) (l : Line) → find_node n u.nodes ≡ Some r → r.name ≡ n → answers.bootable r ≡ Some l → Ends u l
-bootable_ends u n r l found named e = by r.durable.volume refl
+bootable_ends : (u : World) (n : Name) (r : Node) (l : Line) → EndedAtBoot u.nodes n r → r.name ≡ n → answers.bootable r ≡ Some l → Ends u l
+bootable_ends u n r l at named e = by r.durable.volume refl
   where
     ends : (m : Line) → Ends u m → m ≡ l → Ends u l
     ends m h same = let P : Line → Type 0 = λ k. Ends u k in subst P same h
 
-    quotas : (a b c : Bool) → (r.durable.boot == answers.boot_limit) ≡ a → nat_lt answers.moment_limit r.durable.greatest ≡ b → nat_lt answers.position_limit (answers.last_position r) ≡ c
-        → first_of (refused_if a (line.QuotaExceeded line.Boots answers.boot_limit)) (first_of (refused_if b (line.QuotaExceeded line.Moments answers.moment_limit)) (refused_if c (line.QuotaExceeded line.Positions answers.position_limit))) ≡ Some l → Ends u l
-    quotas true b c p q s k = ends (line.QuotaExceeded line.Boots answers.boot_limit) (refl, (n, r, found, inl p)) (some_is (line.QuotaExceeded line.Boots answers.boot_limit) l k)
-    quotas false true c p q s k = ends (line.QuotaExceeded line.Moments answers.moment_limit) (refl, (n, r, found, inl q)) (some_is (line.QuotaExceeded line.Moments answers.moment_limit) l k)
-    quotas false false true p q s k = ends (line.QuotaExceeded line.Positions answers.position_limit) (refl, (n, r, found, inl s)) (some_is (line.QuotaExceeded line.Positions answers.position_limit) l k)
+    quotas : (a b c : Bool) → (r.durable.boot == boot_limit) ≡ a → nat_lt moment_limit r.durable.greatest ≡ b → nat_lt position_limit (answers.last_position r) ≡ c
+        → first_of (refused_if a (line.QuotaExceeded line.Boots boot_limit)) (first_of (refused_if b (line.QuotaExceeded line.Moments moment_limit)) (refused_if c (line.QuotaExceeded line.Positions position_limit))) ≡ Some l → Ends u l
+    quotas true b c p q s k = ends (line.QuotaExceeded line.Boots boot_limit) (refl, (n, r, at, inl p)) (some_is (line.QuotaExceeded line.Boots boot_limit) l k)
+    quotas false true c p q s k = ends (line.QuotaExceeded line.Moments moment_limit) (refl, (n, r, at, inl q)) (some_is (line.QuotaExceeded line.Moments moment_limit) l k)
+    quotas false false true p q s k = ends (line.QuotaExceeded line.Positions position_limit) (refl, (n, r, at, inl s)) (some_is (line.QuotaExceeded line.Positions position_limit) l k)
     quotas false false false p q s k = absurd (let f : ⊥ = cc in f)
 
     by : (v : world.Volume) → r.durable.volume ≡ v → Ends u l
     by world.Sound f =
         let P : world.Volume → Type 0 = λ v. answers.bootable (record r { durable = record r.durable { volume = v } }) ≡ Some l in
-        quotas (r.durable.boot == answers.boot_limit) (nat_lt answers.moment_limit r.durable.greatest) (nat_lt answers.position_limit (answers.last_position r)) refl refl refl (subst P f e)
+        quotas (r.durable.boot == boot_limit) (nat_lt moment_limit r.durable.greatest) (nat_lt position_limit (answers.last_position r)) refl refl refl (subst P f e)
     by (world.Faulty condition block) f =
         let P : world.Volume → Type 0 = λ v. answers.bootable (record r { durable = record r.durable { volume = v } }) ≡ Some l in
         let same : line.NoVolume r.name condition block ≡ l = some_is (line.NoVolume r.name condition block) l (subst P f e) in
-        let Q : Name → Type 0 = λ m. find_node m u.nodes ≡ Some r in
+        let Q : Name → Type 0 = λ m. EndedAtBoot u.nodes m r in
         let R : Line → Type 0 = λ m. Ends u m in
-        subst R same (r, subst Q (sym named) found, inl f)
+        subst R same (r, subst Q (sym named) at, inl f)
     by (world.Barred bar) f =
         let P : world.Volume → Type 0 = λ v. answers.bootable (record r { durable = record r.durable { volume = v } }) ≡ Some l in
         let same : answers.bar_line r.name bar ≡ l = some_is (answers.bar_line r.name bar) l (subst P f e) in
@@ -73,18 +136,19 @@ bootable_ends u n r l found named e = by r.durable.volume refl
         subst R same (bars bar f)
       where
         bars : (b : world.Bar) → r.durable.volume ≡ world.Barred b → Ends u (answers.bar_line r.name b)
-        bars (world.NoRing block) g = let Q : Name → Type 0 = λ m. find_node m u.nodes ≡ Some r in (r, subst Q (sym named) found, inr (inl (refl, g)))
-        bars (world.NoIndex block) g = let Q : Name → Type 0 = λ m. find_node m u.nodes ≡ Some r in (r, subst Q (sym named) found, inr (inr (refl, g)))
-        bars world.AllBoots g = (refl, (n, r, found, inr g))
-        bars world.LateMoment g = (refl, (n, r, found, inr g))
-        bars world.FarPosition g = (refl, (n, r, found, inr g))
+        bars (world.NoRing block) g = let Q : Name → Type 0 = λ m. EndedAtBoot u.nodes m r in (r, subst Q (sym named) at, inr (inl (refl, g)))
+        bars (world.NoIndex block) g = let Q : Name → Type 0 = λ m. EndedAtBoot u.nodes m r in (r, subst Q (sym named) at, inr (inr (refl, g)))
+        bars world.AllBoots g = (refl, (n, r, at, inr g))
+        bars world.LateMoment g = (refl, (n, r, at, inr g))
+        bars world.FarPosition g = (refl, (n, r, at, inr g))
     by world.Unknown f =
         let P : world.Volume → Type 0 = λ v. answers.bootable (record r { durable = record r.durable { volume = v } }) ≡ Some l in
         absurd (let k : None ≡ Some l = subst P f e in let g : ⊥ = cc in g)
 
-restart_ends : (w : World) (n : Name) (c : Choice) (x : Node) (rises : Cause → Type 0) → TaskAllowed w.shared (stops_at n w) x Restarts rises c → find_node n w.nodes ≡ Some x → x.up ≡ false → (task_effect w.shared (stops_at n w) x Restarts c).ends ≡ true
+restart_ends : (w : World) (n : Name) (c : Choice) (x : Node) (rises : Cause → Type 0) → TaskAllowed w.shared (stops_at n w) x Restarts rises c → find_node n w.nodes ≡ Some x → x.up ≡ false → first_down w.nodes ≡ Some x
+    → ((outturn : Outturn) → (world.powered outturn (stops_at n w) x).up ≡ false) → (task_effect w.shared (stops_at n w) x Restarts c).ends ≡ true
     → Ends (put_into w n (task_effect w.shared (stops_at n w) x Restarts c)).world (task_effect w.shared (stops_at n w) x Restarts c).answer
-restart_ends w n (Whole outturn) x rises may found is_down h = by x.unmade refl
+restart_ends w n (Whole outturn) x rises may found is_down first off h = by x.unmade refl
   where
     e : Service
     e = task_service Restarts
@@ -107,21 +171,23 @@ restart_ends w n (Whole outturn) x rises may found is_down h = by x.unmade refl
     begins (Some l) f k =
         let r : Node = ready_node outturn (stops_at n w) (task_service Restarts) x in
         let name : r.name ≡ n = powered_name outturn (stops_at n w) x ∙ named in
-        bootable_ends (put_into w n (steps.refused w.shared r l)).world n r l (found_put n r x w.nodes name found) name f
+        bootable_ends (put_into w n (steps.refused w.shared r l)).world n r l (record { there = found_put n r x w.nodes name found; first = put_first w.nodes n x r found first named (off outturn) }) name f
     begins None f k = absurd (let z : false ≡ true = k in let g : ⊥ = cc in g)
 
     by : (b : Bool) → x.unmade ≡ b → Ends (put_into w n (task_effect w.shared (stops_at n w) x Restarts (Whole outturn))).world (task_effect w.shared (stops_at n w) x Restarts (Whole outturn)).answer
     by true u =
-        let P : Name → Type 0 = λ m. find_node m (with_node n (λ y. x) w.nodes) ≡ Some x in
-        subst G (sym (before ∙ ap (λ b. refused_if b (line.NotInitializedAt x.name)) u)) (λ k. (x, subst P (sym named) (found_put n x x w.nodes named found), u)) h
+        let P : Name → Type 0 = λ m. EndedAtBoot (with_node n (λ y. x) w.nodes) m x in
+        subst G (sym (before ∙ ap (λ b. refused_if b (line.NotInitializedAt x.name)) u)) (λ k. (x, subst P (sym named) (record { there = found_put n x x w.nodes named found; first = put_first w.nodes n x x found first named is_down }), u)) h
     by false u = subst G (sym (before ∙ ap (λ b. refused_if b (line.NotInitializedAt x.name)) u)) (begins (answers.bootable (ready_node outturn (stops_at n w) (task_service Restarts) x)) refl) h
-restart_ends w n WithoutMemory x rises may found is_down h = (n, x, found_put n x x w.nodes (name_found n w.nodes x found) found, was_down x.was_up may.1)
+restart_ends w n WithoutMemory x rises may found is_down first off h =
+    let named = name_found n w.nodes x found in
+    (n, x, record { there = found_put n x x w.nodes named found; first = put_first w.nodes n x x found first named is_down }, was_down x.was_up may.1)
   where
     was_down : (b : Bool) → not b ≡ true → b ≡ false
     was_down true k = absurd (let f : ⊥ = cc in f)
     was_down false k = refl
-restart_ends w n Unpowered x rises may found is_down h = tt
-restart_ends w n (Cut outturn done begun cause) x rises may found is_down h = tt
+restart_ends w n Unpowered x rises may found is_down first off h = tt
+restart_ends w n (Cut outturn done begun cause) x rises may found is_down first off h = tt
 
 -- a task that nothing refuses ends its statement by its disk alone
 quiet_ends : (u : World) (s : Shared) (stops : ℕ) (x : Node) (e : Service) (c : Choice) (rises : Cause → Type 0) → ServiceAllowed s stops x e rises c → e.takes_memory x ≡ false → e.goes_on ≡ false → refused_before_reading s x e ≡ None → ((y : Node) → e.refused_after_reading s y ≡ None) → (service_effect s stops x e c).ends ≡ true → Ends u (service_effect s stops x e c).answer
@@ -193,17 +259,21 @@ abbrev AreApart : List Name → Type 0
 AreApart [] = Unit {0}
 AreApart (n ∷ ns) = (In n ns → ⊥) × AreApart ns
 
--- each node that is still to boot is there and down, and comes once
+-- each node that is still to boot is there and down, and comes once; and no other is down
 record Boots (base : World) (ps : List Part) (w : World) : Type 0 where
   starting : Starting base ps w
   apart : AreApart (names_of ps)
   down : (n : Name) → In n (names_of ps) → (x : Node) × (find_node n w.nodes ≡ Some x) × (x.up ≡ false)
+  left : restarts_of w.nodes ≡ ps
 
 boots_stop : (base : World) → IsAgreeing (opening_of base) → (after : List DiskCounts) → Stops after (Boots base)
 boots_stop base agrees after = record { stop = stop; normal = normal; keep = keep }
   where
     stop : (p : Part) (ps : List Part) (w : World) (c : Choice) → Boots base (p ∷ ps) w → Allowed w p after c → (part_effect w p c).ends ≡ true → Ends (part_effect w p c).world (part_effect w p c).answer
-    stop (Does n Restarts) ps w c k may e = let x = k.down n (inl refl) in ends_at w n Restarts c x.0 x.1 (restart_ends w n c x.0 (λ cause. RoseAt w n cause after) (allowed_here w n Restarts x.0 after c x.1 may) x.1 x.2) e
+    stop (Does n Restarts) ps w c k may e =
+        let x = k.down n (inl refl) in
+        ends_at w n Restarts c x.0 x.1 (restart_ends w n c x.0 (λ cause. RoseAt w n cause after) (allowed_here w n Restarts x.0 after c x.1 may) x.1 x.2
+        (first_is w.nodes n x.0 ps k.left x.1 x.2) (λ outturn. stays_off base w n x.0 outturn (stops_at n w) k.starting.reached x.1 x.2)) e
     stop (Asks n serial) ps w c k may e = absurd k.starting.booting.0
     stop (Does n (Serves request)) ps w c k may e = absurd k.starting.booting.0
     stop (Does n Ticks) ps w c k may e = absurd k.starting.booting.0
@@ -231,6 +301,7 @@ boots_stop base agrees after = record { stop = stop; normal = normal; keep = kee
           down = λ j i. (
               let x = k.down j (inr i) in
               (x.0, m.there j (λ same. k.apart.0 (let P : Name → Type 0 = λ z. In z (names_of ps) in subst P same i)) ∙ x.1, x.2));
+          left = (let x = k.down n (inl refl) in boots_left w n c x.0 ps x.1 x.2 k.left e);
         }
     keep (Asks n serial) ps w c k may e = absurd k.starting.booting.0
     keep (Does n (Serves request)) ps w c k may e = absurd k.starting.booting.0
@@ -394,6 +465,7 @@ closes_so law base w agrees reached apart after lines answer v h =
       starting = record { booting = (are_restarts w.nodes, to_boot w.nodes); reached = reached };
       apart = restarts_apart w.nodes apart;
       down = λ n i. down_there w.nodes n apart i;
+      left = refl;
     }) h
 
 -- so it ends from any world and with any lines, but for a failure

@@ -6,6 +6,7 @@ use Rattle.std.proofs.lemmas.Bool.{and_from, leb-false, lt-ltb}
 use Rattle.vms_model.specs.Ids.{Id}
 use Rattle.vms_model.specs.Keys as keys
 use Rattle.vms_model.specs.Transactions.{Aborted as ByRequest}
+use Rattle.vms_model.specs.Limits.{bid_limit, manager_limit}
 use Rattle.transcript_model.specs.Lines as line
 use Rattle.transcript_model.specs.Lines.{Line, Cause}
 use Rattle.script_model.specs.Statements.{Request, Init, Boot, Create, SetFile, StartTrans, AddBranch, StartBranch, Records, Direct, EndBranch, EndTrans, AbortTrans, Inquire, DeclareRm, JoinRm, AckEvent, ForgetRm, GetDti, LmcpShow, LmcpDump, Dump, DumpJournal, DumpImages, Backup, Recover, Fuse, Crash, Clock, Named, ByLabel, BySerial, Operation}
@@ -56,7 +57,7 @@ add_sim o n x s stops label other new rises c may = unused_sim o n x s stops (se
     (λ b e f g.
     let p = parts_true (is_first b) (is_active b.state) g in
     let few : answers.more_bids b ≡ None = ap (option_and_then answers.more_bids) (sym e) ∙ q in
-    let less : nat_lt (length b.bids) 15 ≡ true = lt-ltb (length b.bids) 15 (leb-false 15 (length b.bids) (refused_none (nat_le answers.bid_limit (length b.bids)) _ few)) in
+    let less : nat_lt (length b.bids) 15 ≡ true = lt-ltb (length b.bids) 15 (leb-false 15 (length b.bids) (refused_none (nat_le bid_limit (length b.bids)) _ few)) in
     let both : (is_active b.state && nat_lt (length b.bids) 15) ≡ true = rw (p.1, less) refl in
     add_goes o n x s other new b (there (find (first b.key.tid) x.volatile.branches) b (λ d. is_active d.state && nat_lt (length d.bids) 15) (first_found x b f p.0) both))) may
 
@@ -127,7 +128,7 @@ join_sim o n x s stops label rm rises c may = unused_sim o n x s stops (service 
     (λ b e f g.
     let p = parts_true (is_working b) (not (answers.has_joined rm b)) g in
     let few : answers.more_managers b ≡ None = ap (option_and_then answers.more_managers) (sym e) ∙ q in
-    let less : nat_lt (length b.managers) 8 ≡ true = lt-ltb (length b.managers) 8 (leb-false 8 (length b.managers) (refused_none (nat_le answers.manager_limit (length b.managers)) _ few)) in
+    let less : nat_lt (length b.managers) 8 ≡ true = lt-ltb (length b.managers) 8 (leb-false 8 (length b.managers) (refused_none (nat_le manager_limit (length b.managers)) _ few)) in
     let may : may_join rm b ≡ true = and_from _ _ (and_from (is_working b) (nat_lt (length b.managers) 8) p.0 less) p.1 in
     (event_goes o n x s (rows.JoinRm b.key.serial rm) refl (there (find_serial b.key.serial x.volatile.branches) b (may_join rm) (serial_found x b f) may) refl tt tt).whole)) may
 
@@ -345,7 +346,7 @@ pub restart_is : IsBoot (task_service Restarts)
 restart_is = record { powers = refl; spoils = refl; rows = λ s y. refl; closing = refl; down = λ s x h. boot_down s x (task_service Restarts) line.NodeUp (line.NotInitializedAt x.name) refl refl h; reads = λ s y. refl }
 
 pub ready_is : (outturn : Outturn) (stops : ℕ) (e : Service) (x : Node) → IsBoot e → ready_node outturn stops e x ≡ powered outturn stops x
-ready_is outturn stops e x boot = ap (λ b. if b then steps.spoilt (spoils e) (powered outturn stops x) else x) boot.powers ∙ ap (λ b. steps.spoilt b (powered outturn stops x)) boot.spoils
+ready_is outturn stops e x boot = ap (λ b. if b then steps.with_unknown_volume (spoils e) (powered outturn stops x) else x) boot.powers ∙ ap (λ b. steps.with_unknown_volume b (powered outturn stops x)) boot.spoils
 
 pub nothing_cut : (j : ℕ) (begun : Bool) (y : Node) → (let none : List Row = [] in cut_node none j begun y) ≡ world.fallen None y
 nothing_cut zero true y = refl
@@ -402,7 +403,7 @@ boot_sim o n x s stops e rises (Whole outturn) boot may =
 boot_sim o n x s stops e rises WithoutMemory boot may = same_sim Anything o n x s
 boot_sim o n x s stops e rises Unpowered boot may =
     let down = (boot.down s x may.0).0 in
-    let P : Bool → Type 0 = λ b. NodeSimFor Anything o n x s (steps.spoilt b (unpowered stops x)) (occupied e s) in
+    let P : Bool → Type 0 = λ b. NodeSimFor Anything o n x s (steps.with_unknown_volume b (unpowered stops x)) (occupied e s) in
     subst P (sym boot.spoils) (Rattle.run_agreement.proofs.Serving.occupied_sim Anything o n x (unpowered stops x) s s e (down_outside o n x s (world.Power stops ∷ x.calls) x.clock down))
 boot_sim o n x s stops e rises (Cut outturn done begun cause) boot may =
     let down = (boot.down s x may.0).0 in

@@ -5,6 +5,7 @@ use Rattle.std.specs.Str.{bytes_eq}
 use Rattle.std.specs.Prelude.{◌≡◌, ◌==◌, ℕ, true, false, if◌then◌else◌, nat_lt, List, [], ◌∷◌, ◌++◌, Bool, Option, Some, None, ◌⊎◌}
 use Rattle.vms_model.specs.Ids.{Id}
 use Rattle.vms_model.specs.Transactions.{Outcome, Commit as ToCommit, Abort as ToAbort}
+use Rattle.vms_model.specs.Limits.{boot_limit, moment_limit, position_limit}
 use Rattle.transcript_model.specs.Lines.{Line, Cause, Down, Normal, Broken, NoMemory, QuotaExceeded, Boots, Moments, Positions, NotInitializedAt, NoVolume, InDoubt}
 use Rattle.script_model.specs.Statements.{At, Settle, Init, EndTrans, Reading, Blank, Says, Bad}
 use Rattle.script_model.specs.Grammar.{reading}
@@ -17,7 +18,7 @@ use Rattle.commit_protocol.specs.Agreement.{view, Agrees}
 use Rattle.commit_protocol.specs.Opening.{Opening, Image, IsAgreeing, no_image, opened, settled_in, accepted_in, commits_in}
 use Rattle.run_model.specs.World as world
 use Rattle.run_model.specs.World.{World, DiskCounts, Node, Settlement, Sound, Faulty, Barred, NoRing, NoIndex, AllBoots, LateMoment, FarPosition, IsLogInOrder, find_node}
-use Rattle.run_model.specs.Answers.{boot_limit, branch_labelled, last_position, moment_limit, position_limit}
+use Rattle.run_model.specs.Answers.{branch_labelled, last_position}
 use Rattle.run_model.specs.Statements.{RoseAt, Step}
 use Rattle.run_model.specs.Transcript.{Entry, Turn, Legal, AreOpening}
 use Rattle.run_agreement.specs.Seen.{Resolution, IsKnown, has_volume, outcome_of, landed, image_of}
@@ -124,6 +125,17 @@ SettlingLeavesNone = (base v u : World) (es : List Entry) (events : List Line) �
 abbrev pub HasNode : World → (Node → Type 0) → Type 0
 HasNode u P = (n : Name) × (x : Node) × (find_node n u.nodes ≡ Some x) × P x
 
+-- the first of these nodes that is down
+abbrev pub first_down : List Node → Option Node
+first_down [] = None
+first_down (n ∷ ns) = if n.up then first_down ns else Some n
+
+-- A settling boots the nodes that are down, one after another in the order of the rack. It ended at the boot of the node of this name, and did not boot it: of the nodes
+-- behind it, this is the first that is down.
+pub record EndedAtBoot (behind : List Node) (n : Name) (x : Node) : Type 0 where
+  pub there : find_node n behind ≡ Some x
+  pub first : first_down behind ≡ Some x
+
 -- A failure of a disk ended a settling: last before its answer stands that a node is down, with that cause; the count of the cause rose at the node's disk, from
 -- the world before the settling to that behind it; and there the node is down.
 pub record HasFailed (w u : World) (events : List Line) (cause : Cause) : Type 0 where
@@ -133,18 +145,18 @@ pub record HasFailed (w u : World) (events : List Line) (cause : Cause) : Type 0
   pub rose : RoseAt w node cause u.disks
   pub down : option_map (λ n. n.up) (find_node node u.nodes) ≡ Some false
 
--- How a settling ends that does not succeed, from one world to another and with these lines before its answer: a disk failed or was stopped in it; memory is missing
--- for a node that was not up yet; a node was booted too often, or its greatest moment or a position is too late; an INIT of a node failed; a node has no volume; or the
--- coordinator of a prepared branch is not in the rack.
+-- How a settling ends that does not succeed, from one world to another and with these lines before its answer: a disk failed or was stopped in it; it ended at the boot of
+-- a node that was never up, and memory is missing; of one that was booted as often as may be, or whose greatest moment or a position is too late; of one whose INIT failed; or
+-- of one that has no volume; or the coordinator of a prepared branch is not in the rack.
 abbrev pub EndsFor : World → World → List Line → Line → Type 0
 EndsFor w u events (Broken cause) = HasFailed w u events cause
-EndsFor w u events NoMemory = HasNode u (λ x. x.was_up ≡ false)
-EndsFor w u events (QuotaExceeded Boots limit) = (limit ≡ boot_limit) × HasNode u (λ x. ((x.durable.boot == limit) ≡ true) ⊎ (x.durable.volume ≡ Barred AllBoots))
-EndsFor w u events (QuotaExceeded Moments limit) = (limit ≡ moment_limit) × HasNode u (λ x. (nat_lt limit x.durable.greatest ≡ true) ⊎ (x.durable.volume ≡ Barred LateMoment))
-EndsFor w u events (QuotaExceeded Positions limit) = (limit ≡ position_limit) × HasNode u (λ x. (nat_lt limit (last_position x) ≡ true) ⊎ (x.durable.volume ≡ Barred FarPosition))
-EndsFor w u events (NotInitializedAt n) = (x : Node) × (find_node n u.nodes ≡ Some x) × (x.unmade ≡ true)
+EndsFor w u events NoMemory = (n : Name) × (x : Node) × EndedAtBoot u.nodes n x × (x.was_up ≡ false)
+EndsFor w u events (QuotaExceeded Boots limit) = (limit ≡ boot_limit) × ((n : Name) × (x : Node) × EndedAtBoot u.nodes n x × (((x.durable.boot == limit) ≡ true) ⊎ (x.durable.volume ≡ Barred AllBoots)))
+EndsFor w u events (QuotaExceeded Moments limit) = (limit ≡ moment_limit) × ((n : Name) × (x : Node) × EndedAtBoot u.nodes n x × ((nat_lt limit x.durable.greatest ≡ true) ⊎ (x.durable.volume ≡ Barred LateMoment)))
+EndsFor w u events (QuotaExceeded Positions limit) = (limit ≡ position_limit) × ((n : Name) × (x : Node) × EndedAtBoot u.nodes n x × ((nat_lt limit (last_position x) ≡ true) ⊎ (x.durable.volume ≡ Barred FarPosition)))
+EndsFor w u events (NotInitializedAt n) = (x : Node) × EndedAtBoot u.nodes n x × (x.unmade ≡ true)
 EndsFor w u events (NoVolume n condition block) =
-    (x : Node) × (find_node n u.nodes ≡ Some x)
+    (x : Node) × EndedAtBoot u.nodes n x
     × ((x.durable.volume ≡ Faulty condition block) ⊎ (((condition ≡ 6) × (x.durable.volume ≡ Barred (NoRing block))) ⊎ ((condition ≡ 11) × (x.durable.volume ≡ Barred (NoIndex block)))))
 EndsFor w u events (InDoubt serial n) =
     (find_node n u.nodes ≡ None) × HasNode u (λ x. (b : Branch) × In b x.volatile.branches × (b.key.serial ≡ serial) × (coordinator_of b.key ≡ n) × (is_prepared b.state ≡ true))

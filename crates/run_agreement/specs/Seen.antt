@@ -2,6 +2,7 @@
 use Rattle.std.specs.Prelude.{◌≡◌, ◌≤◌, length, List, [], ◌++◌, map, Bool, true, false, Option, Some, None, option_map}
 use Rattle.vms_model.specs.Ids.{Id}
 use Rattle.vms_model.specs.Transactions.{Outcome}
+use Rattle.vms_model.specs.Limits.{slot_limit}
 use Rattle.unit_laws.specs.Journal.{RecoveryUnit, active_units, units_in, find_unit}
 use Rattle.commit_protocol.specs.Messages.{Name, LogRecord}
 use Rattle.commit_protocol.specs.Table.{Key, Branch, Prepared, child, find, record_serials, branches_of}
@@ -50,7 +51,7 @@ pub record IsTold (lost : List Key) (n : Node) : Type 0 where
   pub log : LogTells (tm_of n) n.durable.log
   pub apart : HasApartLog (tm_of n)
   pub kinds : AreCommitted n.volatile.records
-  pub slots : length n.durable.log ≤ 512
+  pub slots : length n.durable.log ≤ slot_limit
   pub volume : n.durable.volume ≡ Sound
   pub there : (k : Key) → In k (units_of n.volatile.branches ++ lost) → In k (left_keys n.durable)
   pub back : (k : Key) → In k (left_keys n.durable) → In k (units_of n.volatile.branches ++ lost)
@@ -71,7 +72,7 @@ pub record IsLeft (d : Durable) (y : protocol.Node) : Type 0 where
   pub distinct : Distinct (record_serials (records_in d.log))
   pub unwaiting : AreUnwaiting (records_in d.log)
   pub units : HavePrepared (prepared_of (records_in d.log)) d
-  pub slots : length d.log ≤ 512
+  pub slots : length d.log ≤ slot_limit
   pub volume : d.volume ≡ Sound
 
 -- what the protocol has of a node, and the node's settlements in this run

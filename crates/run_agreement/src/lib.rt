@@ -31,7 +31,8 @@ pub fn outcomes_stay()
 
 /// A settling that is answered with its success leaves each node up, and no branch of any transaction unsettled. It is answered otherwise only where
 /// the count of failures or of stops of a disk rose in it, and the line of its node stands last before the answer, that it is down for that cause; or
-/// memory is missing, a node cannot be booted, or the coordinator of a prepared branch is not in the rack.
+/// the first node that is down behind it was never up and memory is missing, or cannot be booted; or the coordinator of a prepared branch is not in
+/// the rack.
 pub fn settling_leaves_none()
     ensures none { SettlingLeavesNone }
     ensures ends { SettlingEnds }

@@ -28,7 +28,7 @@ use Rattle.run_model.specs.Answers as answers
 use Rattle.run_model.specs.Answers.{Task, task_service, unit_key}
 use Rattle.run_model.specs.Steps.{Choice, TaskAllowed, node_after, task_effect}
 use Rattle.run_model.specs.Statements.{Part, PartEffect, Begins, Phases, Step, Allowed, RoseAt, begun_with, part_effect, phases_of, refused_at_once, stops_at}
-use Rattle.run_model.specs.Transcript.{Entry, Legal, Turn}
+use Rattle.run_model.specs.Transcript.{AreOpening, Entry, Legal, Turn}
 use Rattle.run_model.proofs.PartLemmas.{phases_fold}
 use Rattle.run_model.proofs.PartTasks.{View, Doing, Fixed, view}
 use Rattle.run_model.proofs.Refusing.{each_phase}
@@ -278,9 +278,6 @@ lasts_keep = record {
 abbrev HasApart : Node → Type 0
 HasApart n = Kept lasts lasts_keep tt n
 
-abbrev HaveApart : World → Type 0
-HaveApart w = (node : List ℕ) (n : Node) → find_node node w.nodes ≡ Some n → HasApart n
-
 made_last : (slots journal : ℕ) (m : Node) → m.settled ≡ [] → IsLastDisk m.name (acted (Formats slots journal) m).durable
 made_last slots journal m none = record {
   own = λ s e. let no : ⊥ = cc in absurd no;
@@ -291,45 +288,50 @@ made_last slots journal m none = record {
 effect_last : (s : Shared) (stops : ℕ) (n : Node) (t : Task) (c : Choice) (rises : Cause → Type 0) → IsSoundNode s n → HasApart n → TaskAllowed s stops n t rises c → HasApart (task_effect s stops n t c).node
 effect_last s stops n t c rises sound h may = any_effect lasts lasts_keep s stops n tt sound.kept h (unused s n sound) (λ off. made_last) t (λ off. all_take lasts (λ o. tt) ((task_service t).rows s n)) (λ on. tt) c rises may
 
-part_last : (w : World) (p : Part) (c : Choice) (after : List DiskCounts) → Allowed w p after c → IsSound w → HaveApart w → HaveApart (part_effect w p c).world
-part_last w p c after allowed sound h = go (view w p)
-  where
-    go : View w p → HaveApart (part_effect w p c).world
-    go (Fixed answer ends kind is) = subst (λ (x : PartEffect). HaveApart x.world) (sym (is c)) h
-    go (Doing node t n named found does may) =
-        let e = task_effect w.shared (stops_at node w) n t c in
-        subst (λ (x : PartEffect). HaveApart x.world) (sym (does c)) (λ other k is.
-        at node n e.node other k found (effect_last w.shared (stops_at node w) n t c (λ cause. RoseAt w node cause after) (sound_node w sound node n found) (h node n found) (may after c allowed)) (changed node other n w.nodes e.node k (effect_name w.shared (stops_at node w) n t c) found is))
-      where
-        at : (node : List ℕ) (n m : Node) (other : List ℕ) (k : Node) → find_node node w.nodes ≡ Some n → HasApart m → Changed node other n w.nodes m k → HasApart k
-        at node n m other k found new (Here same is) = subst HasApart (sym is) new
-        at node n m other k found new (Beside apart is) = h other k is
+-- of the node of this name
+module _ (name : List ℕ) where
+  abbrev HaveApart : World → Type 0
+  HaveApart w = (n : Node) → find_node name w.nodes ≡ Some n → HasApart n
 
-begins_last : (s : Statement) (w : World) → HaveApart w → HaveApart (begun_with s w)
-begins_last Settle w h = h
-begins_last (At other request) w h = h
-begins_last (Deliver number) w h = h
-begins_last (LinkDown a b) w h = h
+  part_last : (w : World) (p : Part) (c : Choice) (after : List DiskCounts) → Allowed w p after c → IsSound w → HaveApart w → HaveApart (part_effect w p c).world
+  part_last w p c after allowed sound h = go (view w p)
+    where
+      go : View w p → HaveApart (part_effect w p c).world
+      go (Fixed answer ends kind is) = subst (λ (x : PartEffect). HaveApart x.world) (sym (is c)) h
+      go (Doing node t n named found does may) =
+          let e = task_effect w.shared (stops_at node w) n t c in
+          subst (λ (x : PartEffect). HaveApart x.world) (sym (does c)) (λ k is.
+          at node n e.node k (λ same. effect_last w.shared (stops_at node w) n t c (λ cause. RoseAt w node cause after) (sound_node w sound node n found) (h n (subst (λ x. find_node x w.nodes ≡ Some n) (sym same) found)) (may after c allowed)) (changed node name n w.nodes e.node k (effect_name w.shared (stops_at node w) n t c) found is))
+        where
+          at : (node : List ℕ) (n m k : Node) → (name ≡ node → HasApart m) → Changed node name n w.nodes m k → HasApart k
+          at node n m k new (Here same is) = subst HasApart (sym is) (new same)
+          at node n m k new (Beside apart is) = h k is
 
-step_last : (w v : World) (s : Statement) (lines : List Line) → Step w s lines v → IsSound w → HaveApart w → HaveApart v
-step_last w v s lines step sound h = subst HaveApart (sym step.goes) (go (refused_at_once w s) step.does)
-  where
-    go : (o : Option Line) → Begins o (Phases (phases_of s) v.disks (begun_with s w) line.Normal) w step.events step.answer step.world → HaveApart step.world
-    go (Some refusal) d = subst HaveApart (sym d.2) h
-    go None d = phases_fold v.disks (λ p. Unit {0}) (λ given. Unit {0}) (λ u rest answer x. IsSound u → HaveApart u → HaveApart x)
-        (λ u given q sd k. k)
-        (λ u p c ok allowed ends sd k. part_last u p c v.disks allowed sd k)
-        (λ u p c ok allowed on. (tt, λ rest answer x more sd k. more (part_sound u p c v.disks allowed sd) (part_last u p c v.disks allowed sd k)))
-        (phases_of s) (each_phase s) (begun_with s w) line.Normal step.events step.answer step.world tt d (begins_sound s w sound) (begins_last s w h)
+  begins_last : (s : Statement) (w : World) → HaveApart w → HaveApart (begun_with s w)
+  begins_last Settle w h = h
+  begins_last (At other request) w h = h
+  begins_last (Deliver number) w h = h
+  begins_last (LinkDown a b) w h = h
 
-turn_last : (w v : World) (r : Reading) (lines : List Line) → Turn w r lines v → IsSound w → HaveApart w → HaveApart v
-turn_last w v Blank lines t sound h = subst HaveApart (sym t.1) h
-turn_last w v (Says s) lines t sound h = step_last w v s lines t sound h
-turn_last w v (Bad column) lines t sound h = absurd t
+  step_last : (w v : World) (s : Statement) (lines : List Line) → Step w s lines v → IsSound w → HaveApart w → HaveApart v
+  step_last w v s lines step sound h = subst HaveApart (sym step.goes) (go (refused_at_once w s) step.does)
+    where
+      go : (o : Option Line) → Begins o (Phases (phases_of s) v.disks (begun_with s w) line.Normal) w step.events step.answer step.world → HaveApart step.world
+      go (Some refusal) d = subst HaveApart (sym d.2) h
+      go None d = phases_fold v.disks (λ p. Unit {0}) (λ given. Unit {0}) (λ u rest answer x. IsSound u → HaveApart u → HaveApart x)
+          (λ u given q sd k. k)
+          (λ u p c ok allowed ends sd k. part_last u p c v.disks allowed sd k)
+          (λ u p c ok allowed on. (tt, λ rest answer x more sd k. more (part_sound u p c v.disks allowed sd) (part_last u p c v.disks allowed sd k)))
+          (phases_of s) (each_phase s) (begun_with s w) line.Normal step.events step.answer step.world tt d (begins_sound s w sound) (begins_last s w h)
 
-legal_last : (opening w : World) (es : List Entry) → IsSound opening → HaveApart opening → Legal opening es w → HaveApart w
-legal_last opening w [] sound h legal = subst HaveApart (sym legal) h
-legal_last opening w (e ∷ es) sound h legal = turn_last legal.0 w (reading e.source.text) e.lines legal.2 (legal_sound opening legal.0 es sound legal.1) (legal_last opening legal.0 es sound h legal.1)
+  turn_last : (w v : World) (r : Reading) (lines : List Line) → Turn w r lines v → IsSound w → HaveApart w → HaveApart v
+  turn_last w v Blank lines t sound h = subst HaveApart (sym t.1) h
+  turn_last w v (Says s) lines t sound h = step_last w v s lines t sound h
+  turn_last w v (Bad column) lines t sound h = absurd t
+
+  legal_last : (opening w : World) (es : List Entry) → IsSound opening → HaveApart opening → Legal opening es w → HaveApart w
+  legal_last opening w [] sound h legal = subst HaveApart (sym legal) h
+  legal_last opening w (e ∷ es) sound h legal = turn_last legal.0 w (reading e.source.text) e.lines legal.2 (legal_sound opening legal.0 es sound legal.1) (legal_last opening legal.0 es sound h legal.1)
 
 each_apart : (ns : List Node) → AreLastApart ns → (node : List ℕ) (n : Node) → find_node node ns ≡ Some n → IsLastApart n
 each_apart [] h node n e = let none : ⊥ = cc in absurd none
@@ -353,7 +355,12 @@ opening_last n o h = record {
 disk_apart : (n : Node) → IsLastDisk n.name n.durable → IsLastApart n
 disk_apart n d = λ s e. (d.units s e, λ r i. d.prepared s r e i)
 
-pub lasts_stay_apart : LastsStayApart
-lasts_stay_apart nodes disks es closing opening apart legal name n found =
-    let h = legal_last (opened nodes disks) closing es (opening_sound nodes disks opening) (λ node m is. opening_last m (each_opening nodes opening node m is) (each_apart nodes apart node m is)) legal name n found in
+-- of one node, whatever the others have
+pub last_stays_apart : (nodes : List Node) (disks : List DiskCounts) (es : List Entry) (closing : World) → AreOpening nodes → (name : List ℕ) → ((n : Node) → find_node name nodes ≡ Some n → IsLastApart n) → Legal (opened nodes disks) es closing →
+    (n : Node) → find_node name closing.nodes ≡ Some n → IsLastApart n × ((act : Act) → n.under_way ≡ Some act → IsLastApart (acted act n))
+last_stays_apart nodes disks es closing opening name apart legal n found =
+    let h = legal_last name (opened nodes disks) closing es (opening_sound nodes disks opening) (λ m is. opening_last m (each_opening nodes opening name m is) (apart m is)) legal n found in
     (disk_apart n h.disk, λ act e. disk_apart (acted act n) (h.way act e))
+
+pub lasts_stay_apart : LastsStayApart
+lasts_stay_apart nodes disks es closing opening apart legal name = last_stays_apart nodes disks es closing opening name (each_apart nodes apart name) legal

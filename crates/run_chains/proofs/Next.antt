@@ -11,31 +11,28 @@ use Rattle.unit_laws.specs.Units.{Map}
 use Rattle.commit_protocol.specs.Messages.{Name}
 use Rattle.commit_protocol.specs.Table.{Key}
 use Rattle.commit_protocol.specs.World.{In}
-use Rattle.commit_protocol.specs.Opening.{Image, IsAgreeing, OldIn, image_at, image_in, new_volumes, no_image, or_none}
-use Rattle.commit_protocol.specs.Opening as opening
-use Rattle.commit_protocol.proofs.Gathered.{is_shown}
+use Rattle.commit_protocol.specs.Opening.{Image, IsAgreeing, OldIn, Opening, image_at, image_in, new_volumes, no_image, or_none}
 use Rattle.commit_protocol.proofs.NewVolumes.{new_agree}
-use Rattle.commit_protocol.proofs.Opened.{good_opened}
-use Rattle.commit_protocol.proofs.Running.{goes_run}
 use Rattle.run_model.specs.World.{World, Node, Durable, Volume, Sound, Faulty, Barred, Unknown, Act, Half, MayTurnOut, Settlement, aborted_prepared, acted, find_node, opened, with_half}
 use Rattle.run_model.specs.Transcript.{AreOpening, Entry, Legal}
-use Rattle.run_model.proofs.NodeLists.{some_is}
+use Rattle.run_model.proofs.NodeLists.{found_name, some_is}
 use Rattle.run_agreement.specs.Seen.{Face, IsFace, IsKnown, Resolution, has_volume, image_of, landed, outcome_of}
 use Rattle.run_agreement.specs.Following.{opening_of}
-use Rattle.run_agreement.specs.Laws.{IsReachedBy, IsRun, NamesApart, image_after, image_told, next_opening, opening_told, volume_image}
+use Rattle.run_agreement.specs.Laws.{IsRun, NamesApart, image_after, image_told, next_opening, opening_told, volume_image}
 use Rattle.run_agreement.proofs.Events.{down_of_face, up_of_face}
 use Rattle.run_agreement.proofs.Images.{after_in}
 use Rattle.run_agreement.proofs.Openings.{reached_by}
-use Rattle.run_laws.specs.Anew.{AreKnownOrAnew, IsMadeAnew}
+use Rattle.run_laws.specs.Anew.{AreForgotten, AreKnownOrAnew, IsMadeAnew}
 use Rattle.run_laws.specs.Promises.{AreLastApart, IsLastApart}
 use Rattle.run_laws.specs.Laws.{AgreedPromisesAreKept}
 use Rattle.run_laws.proofs.Anewed.{others_apart, others_for, others_forget, others_last, others_open, same_world, told_alike}
 use Rattle.run_chains.specs.Reopenings.{IsReopened, reopened}
 use Rattle.run_chains.specs.Chains.{Active, AgreeingAreNew, AreNext, ChainsAgree, Committed, Follow, IsNew, Last, MadeAreNew, MayAgree, NextRunsAgree, Prepared, RunOf, TellsBranch, TellsNoneOf, Waited, is_made}
 use Rattle.run_chains.proofs.Anew.{Turns, agree_anew, told_old}
-use Rattle.run_chains.proofs.Lasts.{lasts_stay_apart}
+use Rattle.run_chains.proofs.Lasts.{last_stays_apart}
 use Rattle.run_chains.proofs.Names.{Both, Nowhere, Place, all_apart, legal_names, next_names, node_at, place, same_apart}
-use Rattle.run_chains.proofs.Told.{IsToldSo, told_found, told_nowhere, told_so}
+use Rattle.run_laws.proofs.ToldImages.{face, in_base, told_found, told_nowhere, told_out}
+use Rattle.run_chains.proofs.Told.{IsToldSo, told_so}
 
 -- One node.
 
@@ -127,30 +124,24 @@ turned (n ∷ ns) (m ∷ ms) h = both (lands n m h.0.reopened) (turned ns ms h.1
         go name x y true e f = subst (λ z. Lands z y taken) (some_is n x e) (subst (λ z. Lands n z taken) (some_is m y f) own)
         go name x y false e f = others name x y e f
 
--- a node with a volume had one in the base, and has one however its act under way turns out
+-- a node with a volume has one however its act under way turns out
 module _ (base v : World) (es : List Entry) (is_run : IsRun base es v) (r : Resolution) (name : Name) (x : Node) (found : find_node name v.nodes ≡ Some x) (has : has_volume x ≡ true) where
-  reached : IsReachedBy base r v
-  reached = reached_by base v es is_run r
-
-  face : (f : Face) × (reached.shows.faces name ≡ Some f) × IsFace (r name) x f
-  face = reached.shows.are.there name x found has
-
-  pub in_base : is_some (image_in name (opening_of base).images) ≡ true
-  in_base = sym (ap (λ (g : Name → Bool). g name) (goes_run reached.steps (opening.opened (opening_of base)) (good_opened (opening_of base) is_run.agrees (is_shown (opening_of base) is_run.agrees))).rack) ∙ reached.shows.follows.rack name ∙ ap is_some face.1
-
   left_image : image_in name (next_opening base r v).images ≡ Some (image_of (landed (r name) x))
-  left_image = after_in r v (opening_of base).images name ∙ (λ i. if in_base i then Some (image_after (r name) (found i)) else None)
+  left_image = after_in r v (opening_of base).images name ∙ (λ i. if in_base base v es is_run r name x found has i then Some (image_after (r name) (found i)) else None)
 
   landed_volume : has_volume (landed (r name) x) ≡ true
   landed_volume = go x.up refl
     where
+      had : (f : Face) × ((reached_by base v es is_run r).shows.faces name ≡ Some f) × IsFace (r name) x f
+      had = face base v es is_run r name x found has
+
       go : (b : Bool) → x.up ≡ b → has_volume (landed (r name) x) ≡ true
-      go true up = quiet (r name) (up_of_face (r name) x face.0 up face.2).quiet
+      go true up = quiet (r name) (up_of_face (r name) x had.0 up had.2).quiet
         where
           quiet : (taken : Bool) → x.under_way ≡ None → has_volume (landed taken x) ≡ true
           quiet false e = has
           quiet true e = ap (λ (o : Option Act). has_volume (acted_if x o)) e ∙ has
-      go false down = ap volume_of (down_of_face (r name) x face.0 down face.2).left.volume
+      go false down = ap volume_of (down_of_face (r name) x had.0 down had.2).left.volume
 
 -- The next run.
 
@@ -188,7 +179,7 @@ next_runs_agree promised nodes disks es closing may legal next are =
     let told = agrees_told p.base closing p.since p.run.is_run p.run.leaves next are names in
     record {
       names = names;
-      lasts = all_apart next names (λ name m e. apart name m e (place name closing.nodes next are));
+      lasts = all_apart next names (λ name m e. apart p.base p.since p.run.is_run p.told name m e (place name closing.nodes next are));
       agree = told [] (λ n e. let no : ⊥ = cc in absurd no);
       told = told;
       known = λ none name m e f. absurd (known p.base p.since p.run.is_run none name m e f (place name closing.nodes next are));
@@ -225,15 +216,23 @@ next_runs_agree promised nodes disks es closing may legal next are =
             went (Barred bar) q k = let clash : Barred bar ≡ Unknown = sym k ∙ unknown in let no : ⊥ = cc in absurd no
             went Unknown q k = q
 
-    apart : (name : Name) (m : Node) → find_node name next ≡ Some m → Place name closing.nodes next → IsLastApart m
-    apart name m e (Nowhere a b) = let clash : ◌≡◌ {A = Option Node} None (Some m) = sym b ∙ e in let no : ⊥ = cc in absurd no
-    apart name m e (Both n y a b is) = subst IsLastApart (some_is y m (sym b ∙ e)) (by (lands n y is.reopened).0 (lands n y is.reopened).1)
+    forget : AreForgotten es nodes others
+    forget = others_forget es nodes may.disks
+
+    -- a node that is left with a volume began with an image
+    began : (base : World) (since : List Entry) → IsRun base since closing → opening_of base ≡ opening_told nodes es → (name : Name) (n : Node) → find_node name closing.nodes ≡ Some n → has_volume n ≡ true → (k : Node) → find_node name others ≡ Some k → image_told k.name (volume_image k) es ≡ None → ⊥
+    began base since is_run told name n a has k f none = both_ways (is_some (image_in name (opening_of base).images)) (ap (λ (o : Opening). is_some (image_in name o.images)) (told ∙ sym (told_alike es nodes others forget))
+        ∙ told_out name others es k (others_apart es nodes others may.opening opens forget may.names) f (ap (λ x. image_told x (volume_image k) es) (sym (found_name name others k f)) ∙ none)) (in_base base closing since is_run (λ x. false) name n a has)
+
+    apart : (base : World) (since : List Entry) → IsRun base since closing → opening_of base ≡ opening_told nodes es → (name : Name) (m : Node) → find_node name next ≡ Some m → Place name closing.nodes next → IsLastApart m
+    apart base since is_run told name m e (Nowhere a b) = let clash : ◌≡◌ {A = Option Node} None (Some m) = sym b ∙ e in let no : ⊥ = cc in absurd no
+    apart base since is_run told name m e (Both n y a b is) = subst IsLastApart (some_is y m (sym b ∙ e)) (by (lands n y is.reopened).0 (lands n y is.reopened).1)
       where
-        kept : IsLastApart n × ((act : Act) → n.under_way ≡ Some act → IsLastApart (acted act n))
-        kept = lasts_stay_apart others disks es closing opens (others_last es nodes may.disks) led name n a
+        kept : has_volume n ≡ true → IsLastApart n × ((act : Act) → n.under_way ≡ Some act → IsLastApart (acted act n))
+        kept has = last_stays_apart others disks es closing opens name (λ k f. elim (others_last es nodes may.disks name k f) [ inl last ↦ last | inr none ↦ absurd (began base since is_run told name n a has k f none) ]) led n a
 
         by : (taken : Bool) → Lands n y taken → IsLastApart y
-        by taken (inl (has, disk)) = disk_apart (landed taken n) y disk (landed_apart taken n kept.0 kept.1)
+        by taken (inl (has, disk)) = disk_apart (landed taken n) y disk (landed_apart taken n (kept has).0 (kept has).1)
         by taken (inr (gone, none)) = is.bare none
 
 -- Any number of runs.
@@ -288,7 +287,7 @@ module _ (nodes : List Node) (es : List Entry) (names : NamesApart nodes) (new :
 -- what is known of the disks of the first run, or is made on them
 abbrev first_known : (es : List Entry) (ns : List Node) → AllByRecursion (λ (n : Node). (IsNew n × IsKnown n) ⊎ IsMadeAnew n.name es) ns → AreKnownOrAnew es ns
 first_known es [] h = tt
-first_known es (n ∷ ns) (inl (new, known), rest) = (inl (known, new_apart n new), first_known es ns rest)
+first_known es (n ∷ ns) (inl (new, known), rest) = (inl (known, inl (new_apart n new)), first_known es ns rest)
 first_known es (n ∷ ns) (inr made, rest) = (inr made, first_known es ns rest)
 
 -- without the volumes that it makes anew each of its nodes is new
@@ -299,7 +298,7 @@ first_new es (n ∷ ns) (inr made, rest) = (record { image = λ has. let no : �
 
 next_known : (es : List Entry) (ns : List Node) → AreLastApart ns → AllByRecursion (λ (n : Node). IsKnown n ⊎ IsMadeAnew n.name es) ns → AreKnownOrAnew es ns
 next_known es [] lasts h = tt
-next_known es (n ∷ ns) lasts (inl known, rest) = (inl (known, lasts.0), next_known es ns lasts.1 rest)
+next_known es (n ∷ ns) lasts (inl known, rest) = (inl (known, inl lasts.0), next_known es ns lasts.1 rest)
 next_known es (n ∷ ns) lasts (inr made, rest) = (inr made, next_known es ns lasts.1 rest)
 
 chain_agrees : AgreedPromisesAreKept → (r : RunOf) (rs : List RunOf) → Follow (r ∷ rs) → MayAgree r.nodes r.entries

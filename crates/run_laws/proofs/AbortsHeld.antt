@@ -5,6 +5,7 @@ use Rattle.std.specs.Option.{option_map}
 use Rattle.std.proofs.lemmas.Bool.{both_ways}
 use Rattle.vms_model.specs.Ids.{Id}
 use Rattle.vms_model.specs.Transactions.{Reason}
+use Rattle.vms_model.specs.Limits.{message_limit}
 use Rattle.transcript_model.specs.Lines as line
 use Rattle.transcript_model.specs.Lines.{Line}
 use Rattle.script_model.specs.Statements.{Statement, At, Deliver, LinkDown, Settle, Clock}
@@ -17,7 +18,7 @@ use Rattle.commit_protocol.specs.Opening.{Opening}
 use Rattle.commit_protocol.proofs.Lists.{in_left, slice_in}
 use Rattle.log_laws.specs.Slots.{prepared_of, records_in}
 use Rattle.run_model.specs.World as world
-use Rattle.run_model.specs.World.{World, Shared, Node, Act, DiskCounts, find_node, message_limit, posted, shared_after, shared_tabled, with_node}
+use Rattle.run_model.specs.World.{World, Shared, Node, Act, DiskCounts, find_node, posted, shared_after, shared_tabled, with_node}
 use Rattle.run_model.specs.Answers.{Row, Task, Serves, Ticks, Takes, Hears, LosesLink, RunsDown, Restarts, refused_before_reading, task_service}
 use Rattle.run_model.specs.Steps.{Choice, Cut, Unpowered, Whole, WithoutMemory, begun, ready_node, rows_to_cut, shared_after_rows, shared_then, TaskEffect, task_effect, whole}
 use Rattle.run_model.specs.Statements.{Part, Does, Asks, PartEffect, Question, Heard, Unanswered, Doubtful, Onward, Parts, Phase, Phases, Step, Allowed, RoseAt, Begins, all_questions, answer_of, asked, asking, begun_with, message_at, named_node, part_effect, phases_of, put_into, question, question_effect, refused_at_once, restarts_of, run_downs_of, stops_at}

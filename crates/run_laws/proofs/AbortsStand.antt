@@ -1,12 +1,13 @@
 -- Where the images agree with which a run begins, aborts stand.
 use Rattle.std.proofs.Common.{◌≡◌, ℕ, ◌⊎◌, List, [], ◌∷◌, ◌++◌, inl, inr, Bool, true, false, Option, Some, None, refl, sym, ◌∙◌, ap, subst}
+use Rattle.std.proofs.lemmas.Bool.{both_ways, cases_Bool}
 use Rattle.std.proofs.lemmas.List.{append_assoc}
 use Rattle.vms_model.specs.Ids.{Id}
 use Rattle.vms_model.specs.Transactions.{Reason}
 use Rattle.transcript_model.specs.Lines.{Line}
 use Rattle.script_model.specs.Statements.{Reading, Blank, Says, Bad}
 use Rattle.script_model.specs.Grammar.{reading}
-use Rattle.commit_protocol.specs.Messages.{LogRecord, same_id}
+use Rattle.commit_protocol.specs.Messages.{LogRecord, Name, same_id}
 use Rattle.commit_protocol.specs.Table.{Key as BranchKey}
 use Rattle.commit_protocol.specs.World as protocol
 use Rattle.commit_protocol.specs.World.{In}
@@ -16,11 +17,12 @@ use Rattle.commit_protocol.proofs.Lists.{same_id-refl, same_id-true}
 use Rattle.log_laws.specs.Slots.{prepared_of, records_in}
 use Rattle.run_model.specs.World.{World, Node, Act, DiskCounts, find_node, opened}
 use Rattle.run_model.specs.Transcript.{Entry, Legal, AreOpening, Turn}
-use Rattle.run_agreement.specs.Seen.{IsKnown, Resolution}
-use Rattle.commit_protocol.specs.Opening.{IsAgreeing}
+use Rattle.run_agreement.specs.Seen.{IsKnown, Resolution, has_volume}
+use Rattle.commit_protocol.specs.Opening.{IsAgreeing, Opening, in_rack}
 use Rattle.run_agreement.specs.Following.{Shows, opening_of}
-use Rattle.run_agreement.specs.Laws.{IsRun, NamesApart, RunsFrom, opening_told}
+use Rattle.run_agreement.specs.Laws.{IsRun, NamesApart, RunsFrom, image_told, opening_told, volume_image}
 use Rattle.run_agreement.proofs.Begun.{runs_begin}
+use Rattle.run_agreement.proofs.Openings.{reached_by}
 use Rattle.run_agreement.proofs.Told.{quiet_images, runs_tell_no_more, unused_are_told, used_tell_no_more}
 use Rattle.world_laws.proofs.WorldLemmas.{each_opening}
 use Rattle.run_laws.specs.Promises.{IsNeverCommitted}
@@ -28,10 +30,11 @@ use Rattle.run_said.specs.Said.{Said}
 use Rattle.run_laws.proofs.TurnsTell.{legal_told}
 use Rattle.run_laws.specs.Laws.{AgreedAbortsStand, AgreedDumpsHold, AllAgree, ToldAgree}
 use Rattle.run_laws.proofs.AbortsHeld.{IsAborting, Leaves, Told, same_leaves, step_leaves}
-use Rattle.run_laws.proofs.DumpsShown.{dumps_hold, legal_on}
+use Rattle.run_laws.proofs.DumpsShown.{IsDownThroughout, dumps_hold, legal_on}
 use Rattle.run_laws.proofs.Dying.{dead_other, dead_own, dead_told, dies, runs_used}
 use Rattle.run_laws.proofs.Falling.{NoRecord, RecordsOf, aborting}
 use Rattle.run_laws.proofs.SoundWorlds.{IsSound, legal_sound, opening_sound}
+use Rattle.run_laws.proofs.ToldImages.{in_base, told_out}
 use Rattle.run_laws.proofs.Undecided.{down, gone, home, never_of, of_its, used}
 
 -- a record of this serial, or none
@@ -176,8 +179,10 @@ legal_parts start (e ∷ later) es w legal =
           (t.0, λ nodes. (λ j. record { images = quiet_images e (later ++ es) nodes t.1 j }) ∙ s.1 nodes),
     )
 
-pub told_agree : ToldAgree
-told_agree nodes disks es closing opening apart known legal agrees later since before base v split path base_is off runs on = subst IsAgreeing (sym (same ∙ sym (fewer ∙ told))) agrees
+-- so a base from which entries lead to a world in which a node may be in use has the images that all entries tell
+pub told_same : (nodes : List Node) (disks : List DiskCounts) (es : List Entry) (closing : World) → AreOpening nodes → NamesApart nodes → ((name : List ℕ) (n : Node) → find_node name nodes ≡ Some n → IsKnown n) → Legal (opened nodes disks) es closing → (later since before : List Entry) (base v : World) → es ≡ later ++ (since ++ before) →
+    Legal (opened nodes disks) before base → base.shared.in_use ≡ false → RunsFrom base since v → v.shared.in_use ≡ true → opening_of base ≡ opening_told nodes es
+told_same nodes disks es closing opening apart known legal later since before base v split path off runs on = same ∙ sym (fewer ∙ told)
   where
     first : World
     first = opened nodes disks
@@ -203,3 +208,30 @@ told_agree nodes disks es closing opening apart known legal agrees later since b
         let in_use : parts.0.shared.in_use ≡ true =
         ap (λ (x : Said). x.shared.in_use) ((legal_told nodes disks parts.0 (since ++ before) opening parts.1).0 ∙ sym (legal_told nodes disks v (since ++ before) opening through).0) ∙ on in
         ap (opening_told nodes) split ∙ (parts.3 in_use).1 nodes
+
+pub told_agree : ToldAgree
+told_agree nodes disks es closing opening apart known legal agrees later since before base v split path base_is off runs on =
+    subst IsAgreeing (sym (told_same nodes disks es closing opening apart known legal later since before base v split path off runs on)) agrees
+
+-- Nodes of which no image is told.
+
+-- a node of which a run has no image is down
+down_without : (base w : World) (es : List Entry) (name : Name) (x : Node) → IsRun base es w → in_rack (opening_of base) name ≡ false → find_node name w.nodes ≡ Some x → x.up ≡ false
+down_without base w es name x is_run out found =
+    elim (cases_Bool (has_volume x)) [
+      | inl sound ↦ absurd (both_ways (in_rack (opening_of base) name) out (in_base base w es is_run (λ m. false) name x found sound))
+      | inr none ↦ ((reached_by base w es is_run (λ m. false)).shows.are.without name x found none).1.down
+    ]
+
+-- so it is in each world that the oldest entries lead to
+pub down_throughout : (nodes : List Node) (disks : List DiskCounts) (es : List Entry) (closing : World) → AreOpening nodes → NamesApart nodes → ((name : List ℕ) (n : Node) → find_node name nodes ≡ Some n → IsKnown n) → IsAgreeing (opening_told nodes es) → Legal (opened nodes disks) es closing →
+    (name : Name) (n : Node) → find_node name nodes ≡ Some n → image_told name (volume_image n) es ≡ None → IsDownThroughout (opened nodes disks) es name
+down_throughout nodes disks es closing opening apart known agrees legal name n found none later before w x split path there = by w.shared.in_use refl
+  where
+    by : (b : Bool) → w.shared.in_use ≡ b → x.up ≡ false
+    by false off = (((legal_sound (opened nodes disks) w before (opening_sound nodes disks opening) path).kept name x there).unused off).0
+    by true on =
+        let b = runs_begin nodes disks before w opening apart known path in
+        let same : opening_of b.0 ≡ opening_told nodes es = told_same nodes disks es closing opening apart known legal later b.2 b.1 b.0 w (split ∙ ap (λ xs. later ++ xs) b.3) b.4 b.7 b.6 on in
+        let is_run : IsRun b.0 b.2 w = record { base_is = b.5; agrees = subst IsAgreeing (sym same) agrees; runs = b.6 } in
+        down_without b.0 w b.2 name x is_run (ap (λ (o : Opening). in_rack o name) same ∙ told_out name nodes es n apart found none) there

@@ -27,9 +27,9 @@ use Rattle.run_agreement.specs.Laws.{MakesNoVolume, NamesApart, RunsFrom, image_
 use Rattle.run_agreement.specs.Seen.{IsKnown}
 use Rattle.run_agreement.proofs.Found.{bytes_itself}
 use Rattle.run_agreement.proofs.Told.{used_tell_no_more}
-use Rattle.run_laws.specs.Accounts.{Account, MayHave, Tells, account_after, account_by, account_behind, broken_id, given_in, is_up_in, known_again, recovered_by, recovered_here, broken_sets, commits_here, committed_in, created_here, direct_told, file_of, left_sets, made_anew, no_account, one_told, serial_told, sets_here, sets_of, unsettled_in}
+use Rattle.run_laws.specs.Accounts.{Account, MayHave, HasAccount, account_after, account_by, account_behind, broken_id, given_in, is_up_in, known_again, recovered_by, recovered_here, broken_sets, commits_here, committed_in, created_here, direct_told, file_of, left_sets, made_anew, no_account, one_told, serial_told, sets_here, sets_of, unsettled_in}
 use Rattle.run_laws.specs.Anew.{AreForgotten, AreKnownOrAnew, IsMadeAnew, IsMadeIn, Makes}
-use Rattle.run_laws.specs.Promises.{AbortsStand, AreLastApart, DumpPromises, DumpsShow, DumpsShowByAll, IsLastApart, RecoveriesAreWhole, Shows}
+use Rattle.run_laws.specs.Promises.{AbortsStand, DumpPromises, DumpsShow, DumpsShowByAll, IsLastApart, RecoveriesAreWhole, Shows}
 use Rattle.run_laws.specs.SaidLaws.{SaidThere}
 use Rattle.run_laws.proofs.AbortsStand.{legal_parts}
 use Rattle.run_laws.proofs.DumpsShown.{dumped, legal_on, legal_tells, tells_legal}
@@ -74,7 +74,7 @@ run_makes node base v (e ∷ since) runs made = go (made_by node e since made) (
 init_quiet : (s : Shared) (stops : ℕ) (n : Node) (slots journal : ℕ) (c : Choice) → (task_effect s stops n (Serves (Init slots journal)) c).answer ≡ Normal → (task_effect s stops n (Serves (Init slots journal)) c).lines ≡ []
 init_quiet s stops n slots journal (Whole o) e = go (refused_before_reading s n (answers.service (Init slots journal)))
   where
-    go : (l : Option Line) → (steps.whole s n (steps.spoilt true (powered o stops n)) (answers.service (Init slots journal)) l).lines ≡ []
+    go : (l : Option Line) → (steps.whole s n (steps.with_unknown_volume true (powered o stops n)) (answers.service (Init slots journal)) l).lines ≡ []
     go (Some refusal) = refl
     go None = refl
 init_quiet s stops n slots journal WithoutMemory e = refl
@@ -209,11 +209,11 @@ module _ (es : List Entry) (ns ms : List Node) (disks : List DiskCounts) (openin
     record AccountLike (before : List Entry) (w : World) (a : Account) : Type 0 where
       nodes : List Node
       account : Account
-      tells : Tells node file (opened ms disks) before (record w { nodes = nodes }) account
+      tells : HasAccount node file (opened ms disks) before (record w { nodes = nodes }) account
       like : Like es Same before w.nodes nodes
       same : A before node → account ≡ a
 
-    tells_like : (later before : List Entry) (w : World) (a : Account) → es ≡ later ++ before → Tells node file (opened ns disks) before w a → AccountLike before w a
+    tells_like : (later before : List Entry) (w : World) (a : Account) → es ≡ later ++ before → HasAccount node file (opened ns disks) before w a → AccountLike before w a
     tells_like later [] w a parts tells = record {
       nodes = ms;
       account = record { records = committed_in node file (opened ms disks); told = unsettled_in node file (opened ms disks); left = []; given = None };
@@ -415,9 +415,13 @@ bare_opening n = record {
   few_locks = omega arith;
 }
 
+-- its last settlement is of no branch that stands unsettled there, or no image is told of it
+abbrev pub LastFits : List Entry → Node → Type 0
+LastFits es n = IsLastApart n ⊎ (image_told n.name (volume_image n) es ≡ None)
+
 -- one that is known, and what is known of it; or one whose volume is made anew
 abbrev KnownOrAnew : List Entry → Node → Type 0
-KnownOrAnew es n = (IsKnown n × IsLastApart n) ⊎ IsMadeAnew n.name es
+KnownOrAnew es n = (IsKnown n × LastFits es n) ⊎ IsMadeAnew n.name es
 
 abbrev other_for : (es : List Entry) (n : Node) → KnownOrAnew es n → Node
 other_for es n (inl known) = n
@@ -444,13 +448,17 @@ others_forget es (n ∷ ns) h = (one h.0, others_forget es ns h.1)
     one (inl known) = inl refl
     one (inr anew) = inr (anew, refl, refl)
 
-pub others_last : (es : List Entry) (ns : List Node) (h : AreKnownOrAnew es ns) → AreLastApart (others_for es ns h)
-others_last es [] h = tt
-others_last es (n ∷ ns) h = (one h.0, others_last es ns h.1)
+pub others_last : (es : List Entry) (ns : List Node) (h : AreKnownOrAnew es ns) (name : Name) (m : Node) → find_node name (others_for es ns h) ≡ Some m → LastFits es m
+others_last es [] h name m e = let none : ⊥ = cc in absurd none
+others_last es (n ∷ ns) h name m e = go h.0 (bytes_eq name (other_for es n h.0).name) e (others_last es ns h.1 name m)
   where
-    one : (k : KnownOrAnew es n) → IsLastApart (other_for es n k)
+    one : (k : KnownOrAnew es n) → LastFits es (other_for es n k)
     one (inl known) = known.1
-    one (inr anew) = λ s e. let none : ⊥ = cc in absurd none
+    one (inr anew) = inl (λ s e. let none : ⊥ = cc in absurd none)
+
+    go : (k : KnownOrAnew es n) (b : Bool) → ◌≡◌ {A = Option Node} (if b then Some (other_for es n k) else find_node name (others_for es ns h.1)) (Some m) → (find_node name (others_for es ns h.1) ≡ Some m → LastFits es m) → LastFits es m
+    go k true f more = subst (LastFits es) (some_is (other_for es n k) m f) (one k)
+    go k false f more = more f
 
 pub others_known : (es : List Entry) (ns : List Node) (h : AreKnownOrAnew es ns) (name : Name) (m : Node) → find_node name (others_for es ns h) ≡ Some m → IsKnown m
 others_known es [] h name m e = let none : ⊥ = cc in absurd none

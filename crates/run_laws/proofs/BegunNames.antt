@@ -5,12 +5,13 @@ use Rattle.std.specs.Prelude.{length, nat_le}
 use Rattle.std.specs.Str.{bytes_eq}
 use Rattle.std.proofs.lemmas.Slice.Eq.{bytes_eq-Decides}
 use Rattle.vms_model.specs.Ids.{Id}
+use Rattle.vms_model.specs.Limits.{label_limit}
 use Rattle.transcript_model.specs.Lines as line
 use Rattle.transcript_model.specs.Lines.{Line}
 use Rattle.script_model.specs.Statements.{Statement, At, Request, AddBranch, StartBranch, StartTrans, Reading, Says}
 use Rattle.script_model.specs.Grammar.{reading}
 use Rattle.run_model.specs.World.{World, Shared, Label, Node, DiskCounts, find_label, opened}
-use Rattle.run_model.specs.Answers.{label_limit, new_label}
+use Rattle.run_model.specs.Answers.{new_label}
 use Rattle.run_model.specs.Operations.{refused_if}
 use Rattle.run_model.specs.Statements.{Step}
 use Rattle.run_model.specs.StepLaws.{is_refusal}

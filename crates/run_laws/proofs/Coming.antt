@@ -10,7 +10,7 @@ use Rattle.commit_protocol.specs.World.{In, undo_all}
 use Rattle.run_model.specs.World as world
 use Rattle.run_model.specs.World.{Shared, Node, Act, Boots, ComesUp, Tables, Outturn, Lost, Taken, Half, acted, fallen, is_durable, powered, prepared_left, unpowered}
 use Rattle.run_model.specs.Answers.{Row, Service, Task, Serves, Restarts, boot_rows, left_active, task_service, service, refused_before_reading, powers, spoils, table_rows, unit_key}
-use Rattle.run_model.specs.Steps.{Choice, Whole, WithoutMemory, Unpowered, Cut, TaskEffect, act_begun, cut, task_effect, ready_node, node_after, node_after_rows, lines_of_rows, rows_if, rows_to_cut, spoilt, whole, begun}
+use Rattle.run_model.specs.Steps.{Choice, Whole, WithoutMemory, Unpowered, Cut, TaskEffect, act_begun, cut, task_effect, ready_node, node_after, node_after_rows, lines_of_rows, rows_if, rows_to_cut, with_unknown_volume, whole, begun}
 use Rattle.run_model.proofs.Refusing.{not_ready}
 use Rattle.run_laws.proofs.Contents.{Comes, From, PutsIn, TaskNotes, TaskAccepts, acted_comes, begins_none, comes_on, cut_putting, more_put, none_comes, rows_come, take_putting, task_putting, undone_putting}
 use Rattle.run_laws.proofs.EffectsTell.{IsStep}
@@ -50,14 +50,14 @@ powered_comes outturn stops n h = go outturn n.under_way h
     go Lost o k = record { from = λ x i u. (x, refl, inl i); up = λ u. u; clock = refl }
     go (Half standing) o k = record { from = λ x i u. (x, refl, inl i); up = λ u. u; clock = refl }
 
-spoilt_comes : (b : Bool) (ls : List Line) (n m : Node) → Comes None_ Never ls n m → Comes None_ Never ls n (spoilt b m)
+spoilt_comes : (b : Bool) (ls : List Line) (n m : Node) → Comes None_ Never ls n m → Comes None_ Never ls n (with_unknown_volume b m)
 spoilt_comes true ls n m h = record { from = h.from; up = h.up; clock = h.clock }
 spoilt_comes false ls n m h = h
 
 ready_comes : (outturn : Outturn) (stops : ℕ) (e : Service) (n : Node) → IsStep n.under_way → Comes None_ Never [] n (ready_node outturn stops e n)
 ready_comes outturn stops e n h = go (powers e)
   where
-    go : (b : Bool) → Comes None_ Never [] n (if b then spoilt (spoils e) (powered outturn stops n) else n)
+    go : (b : Bool) → Comes None_ Never [] n (if b then with_unknown_volume (spoils e) (powered outturn stops n) else n)
     go true = spoilt_comes (spoils e) [] n (powered outturn stops n) (powered_comes outturn stops n h)
     go false = none_comes None_ Never [] n
 
@@ -206,9 +206,9 @@ effect_came s stops n t (Whole outturn) begins h = go (refused_before_reading s 
 effect_came s stops n t WithoutMemory begins h = same_came s stops n t begins h []
 effect_came s stops n t Unpowered begins h = dead (spoils (task_service t))
   where
-    dead : (b : Bool) → Came s t (line.Down n.name line.Failed ∷ []) n (spoilt b (unpowered stops n))
-    dead true = fell s t _ n n (spoilt true (unpowered stops n)) refl refl refl (same_came s stops n t begins h _)
-    dead false = fell s t _ n n (spoilt false (unpowered stops n)) refl refl refl (same_came s stops n t begins h _)
+    dead : (b : Bool) → Came s t (line.Down n.name line.Failed ∷ []) n (with_unknown_volume b (unpowered stops n))
+    dead true = fell s t _ n n (with_unknown_volume true (unpowered stops n)) refl refl refl (same_came s stops n t begins h _)
+    dead false = fell s t _ n n (with_unknown_volume false (unpowered stops n)) refl refl refl (same_came s stops n t begins h _)
 effect_came s stops n t (Cut outturn done started cause) begins h = either (powers e) refl
   where
     e : Service

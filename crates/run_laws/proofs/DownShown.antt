@@ -7,6 +7,7 @@ use Rattle.std.specs.List.{AllByRecursion}
 use Rattle.vms_model.specs.Keys.{Key}
 use Rattle.vms_model.specs.Transactions as txn
 use Rattle.vms_model.specs.Transactions.{Outcome, Commit, Abort, Reason}
+use Rattle.vms_model.specs.Limits.{message_limit}
 use Rattle.transcript_model.specs.Lines as line
 use Rattle.transcript_model.specs.Lines.{Line, Cause}
 use Rattle.script_model.specs.Statements.{Statement, At, Deliver, LinkDown, Settle, Operation, Request, Init, Boot, Create, SetFile, StartTrans, AddBranch, StartBranch, Records, Direct, EndBranch, EndTrans, AbortTrans, Inquire, DeclareRm, JoinRm, AckEvent, ForgetRm, GetDti, LmcpShow, LmcpDump, Dump, DumpJournal, DumpImages, Backup, Recover, Fuse, Crash, Clock}
@@ -20,7 +21,7 @@ use Rattle.commit_protocol.specs.Rows as rows
 use Rattle.commit_protocol.specs.Rows.{row}
 use Rattle.commit_protocol.specs.World.{In}
 use Rattle.run_model.specs.World as world
-use Rattle.run_model.specs.World.{World, Shared, Node, Act, Tables, DiskCounts, acted, shared_after, next_id, next_moment, tm_of, message_limit, find_node}
+use Rattle.run_model.specs.World.{World, Shared, Node, Act, Tables, DiskCounts, acted, shared_after, next_id, next_moment, tm_of, find_node}
 use Rattle.run_model.specs.Answers as answers
 use Rattle.run_model.specs.Answers.{Row, Task, Serves, Ticks, Takes, Hears, LosesLink, RunsDown, Restarts, task_service, service, told_if, told_rows, table_rows, begins, just, shown_by, branch_labelled, branch_named, refused_before_reading}
 use Rattle.run_model.specs.Steps.{Choice, Whole, WithoutMemory, Unpowered, Cut, TaskAllowed, TaskEffect, task_effect, ready_node, lines_of_rows, rows_if, rows_to_cut, whole, begun, succeeded}

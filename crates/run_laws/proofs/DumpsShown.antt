@@ -30,9 +30,9 @@ use Rattle.run_model.proofs.CauseLemmas.{refuses_first}
 use Rattle.run_model.proofs.Failing.{once_refuses}
 use Rattle.run_model.proofs.PartLemmas.{turn}
 use Rattle.run_model.proofs.TaskLemmas.{effect_name}
-use Rattle.run_laws.specs.Accounts.{Account, MayHave, Told, Tells, account_after, account_by, account_behind, commits_here, committed_in, is_up_in, known_again, recovered_by, recovered_here, created_here, file_of, left_sets, made_anew, no_account, direct_told, one_told, serial_told, sets_of, told_by, unsettled_in}
+use Rattle.run_laws.specs.Accounts.{Account, MayHave, Told, HasAccount, account_after, account_by, account_behind, commits_here, committed_in, is_up_in, known_again, recovered_by, recovered_here, created_here, file_of, left_sets, made_anew, no_account, direct_told, one_told, serial_told, sets_of, told_by, unsettled_in}
 use Rattle.run_laws.specs.Laws.{DumpsHold}
-use Rattle.run_laws.specs.Promises.{AbortsStand, AreLastApart, DumpsShow, DumpsShowByAll, RecoveriesAreWhole, Shows, IsLastApart, IsNeverCommitted, settlements_of}
+use Rattle.run_laws.specs.Promises.{AbortsStand, AreLastApart, DumpPromises, DumpsShow, DumpsShowByAll, RecoveriesAreWhole, Shows, IsLastApart, IsNeverCommitted, settlements_of}
 use Rattle.world_laws.specs.Nodes.{IsKeptDisk, IsKeptNode}
 use Rattle.world_laws.specs.Running.{history_in, history_of}
 use Rattle.world_laws.proofs.DirectLemmas.{none_of}
@@ -299,12 +299,12 @@ pub split_on : (after : List Entry) (e : Entry) (es : List Entry) → (after ++ 
 split_on [] e es = refl
 split_on (x ∷ after) e es = ap (λ xs. x ∷ xs) (split_on after e es)
 
-pub tells_legal : (node file : List ℕ) (opening : World) (es : List Entry) (w : World) (a : Account) → Tells node file opening es w a → Legal opening es w
+pub tells_legal : (node file : List ℕ) (opening : World) (es : List Entry) (w : World) (a : Account) → HasAccount node file opening es w a → Legal opening es w
 tells_legal node file opening [] w a tells = tells.0
 tells_legal node file opening (e ∷ es) w a tells = (tells.0, tells_legal node file opening es tells.0 tells.1 tells.2, tells.3)
 
 -- while its node is up, the records of a file are in no doubt
-sure_up : (node file : List ℕ) (opening : World) (es : List Entry) (w : World) (a : Account) → Tells node file opening es w a → is_up_in node w ≡ true → a.given ≡ None
+sure_up : (node file : List ℕ) (opening : World) (es : List Entry) (w : World) (a : Account) → HasAccount node file opening es w a → is_up_in node w ≡ true → a.given ≡ None
 sure_up node file opening [] w a tells up = ap (λ (b : Account). b.given) tells.1
 sure_up node file opening (e ∷ es) w a tells up = ap (λ (b : Account). b.given) tells.4 ∙ go (account_behind node file es tells.0 (reading e.source.text) e.lines tells.1)
   where
@@ -316,7 +316,7 @@ sure_up node file opening (e ∷ es) w a tells up = ap (λ (b : Account). b.give
         at (Some m) false e k = let no : ⊥ = cc in absurd no
         at None c e k = e
 
-pub legal_tells : (node file : List ℕ) (opening : World) (es : List Entry) (w : World) → Legal opening es w → (a : Account) × Tells node file opening es w a
+pub legal_tells : (node file : List ℕ) (opening : World) (es : List Entry) (w : World) → Legal opening es w → (a : Account) × HasAccount node file opening es w a
 legal_tells node file opening [] w legal = (record { records = committed_in node file opening; told = unsettled_in node file opening; left = []; given = None }, (legal, refl))
 legal_tells node file opening (e ∷ es) w legal =
     let before = legal_tells node file opening es legal.0 legal.1 in
@@ -331,7 +331,7 @@ last_apart (m ∷ ns) h node n e = go (bytes_eq node m.name) e (last_apart ns h.
     go false k more = more k
 
 -- What is told of a file agrees with its node in the world that these entries lead to, over branches that are never committed there.
-module _ (node file : List ℕ) (nodes : List Node) (disks : List DiskCounts) (opens : AreOpening nodes) (apart : AreLastApart nodes) (all later : List Entry) (stand : AbortsStand (opened nodes disks) all) (closing : World) where
+module _ (node file : List ℕ) (nodes : List Node) (disks : List DiskCounts) (opens : AreOpening nodes) (apart : (n : Node) → find_node node nodes ≡ Some n → IsLastApart n) (all later : List Entry) (stand : AbortsStand (opened nodes disks) all) (closing : World) where
   abbrev Never : Id → Type 0
   Never x = IsNeverCommitted x closing
 
@@ -341,9 +341,9 @@ module _ (node file : List ℕ) (nodes : List Node) (disks : List DiskCounts) (o
       let own = (((sound.once node n found).way (Tables (Settles k Abort reason r) moment) under).own s (inl refl)).0 in
       stand later after es w closing n k reason r moment split before legal (subst (λ x. find_node x w.nodes ≡ Some n) (sym (own ∙ found_name node w.nodes n found)) found) under
 
-  path_told : (es after : List Entry) (w : World) (a : Account) → all ≡ later ++ (after ++ es) → Tells node file (opened nodes disks) es w a → Legal w after closing → AreTold node file Never a w
+  path_told : (es after : List Entry) (w : World) (a : Account) → all ≡ later ++ (after ++ es) → HasAccount node file (opened nodes disks) es w a → Legal w after closing → AreTold node file Never a w
   path_told [] after w a split tells legal = subst (λ b. AreTold node file Never b w) (sym tells.1) (subst (λ x. AreTold node file Never (opening_account node file Never (opened nodes disks)) x) (sym tells.0) (λ n found.
-      opening_kept node file Never nodes disks n found (each_opening nodes opens node n found) (last_apart nodes apart node n found) ((opening_sound nodes disks opens).kept node n found).disk))
+      opening_kept node file Never nodes disks n found (each_opening nodes opens node n found) (apart n found) ((opening_sound nodes disks opens).kept node n found).disk))
   path_told (e ∷ es) after w a split tells legal =
       let mid = tells.0 in
       let before = tells_legal node file (opened nodes disks) es mid tells.1 tells.2 in
@@ -438,57 +438,79 @@ not_betrayed node file mid n sound found b =
     let clash : Abort ≡ Commit = sym (b.3 s there refl) ∙ b.2 in
     let no : ⊥ = cc in no
 
+-- a node is down in each world that the oldest of these entries lead to
+abbrev pub IsDownThroughout : World → List Entry → List ℕ → Type 0
+IsDownThroughout opening es node = (later before : List Entry) (w : World) (n : Node) → es ≡ later ++ before → Legal opening before w → find_node node w.nodes ≡ Some n → n.up ≡ false
+
+module _ (nodes : List Node) (disks : List DiskCounts) (es : List Entry) (closing : World) (opens : AreOpening nodes) (lasts : (node : List ℕ) (n : Node) → find_node node nodes ≡ Some n → IsLastApart n ⊎ IsDownThroughout (opened nodes disks) es node) (legal : Legal (opened nodes disks) es closing)
+    (stand : AbortsStand (opened nodes disks) es) where
+  -- the last settlement of a node that is up in some world is of no branch that stands unsettled
+  lasts_apart : (node : List ℕ) → ((n : Node) → find_node node nodes ≡ Some n → IsLastApart n) ⊎ IsDownThroughout (opened nodes disks) es node
+  lasts_apart node = go (find_node node nodes) refl
+    where
+      go : (o : Option Node) → find_node node nodes ≡ o → ((n : Node) → find_node node nodes ≡ Some n → IsLastApart n) ⊎ IsDownThroughout (opened nodes disks) es node
+      go None none = inl (λ n found. let clash : ◌≡◌ {A = Option Node} None (Some n) = sym none ∙ found in let no : ⊥ = cc in absurd no)
+      go (Some m) there = elim (lasts node m there) [ inl last ↦ inl (λ n found. subst IsLastApart (some_is m n (sym there ∙ found)) last) | inr down ↦ inr down ]
+
+  pub dumps_hold_where : DumpPromises (opened nodes disks) es
+  dumps_hold_where = record { shows = shows; by_all = by_all; recoveries = recoveries }
+    where
+      recoveries : RecoveriesAreWhole (opened nodes disks) es
+      recoveries later before e parts node file mid v closing a tells turn on up = at (find_node node v.nodes) refl
+        where
+          first : Legal (opened nodes disks) before mid
+          first = tells_legal node file (opened nodes disks) before mid a tells
+
+          here : Legal mid (e ∷ []) v
+          here = (mid, refl, turn)
+
+          sound : IsSound mid
+          sound = legal_sound (opened nodes disks) mid before (opening_sound nodes disks opens) first
+
+          then_sound : IsSound v
+          then_sound = legal_sound (opened nodes disks) v (e ∷ before) (opening_sound nodes disks opens) (mid, first, turn)
+
+          told : ((n : Node) → find_node node nodes ≡ Some n → IsLastApart n) → AreTold node file (λ x. IsNeverCommitted x v) (account_behind node file before mid (reading e.source.text) e.lines a) v
+          told apart = turn_told node file (λ x. IsNeverCommitted x v) before mid a (sure_up node file (opened nodes disks) before mid a tells) v (reading e.source.text) e.lines (legal_named nodes disks before mid opens first) sound
+              (doomed_at node file nodes disks opens apart es later stand v before (e ∷ []) mid parts first here sound) turn (path_told node file nodes disks opens apart es later stand v before (e ∷ []) mid a parts tells here)
+
+          at : (o : Option Node) → find_node node v.nodes ≡ o → MayHave (account_behind node file before mid (reading e.source.text) e.lines a) (committed_in node file v)
+          at (Some n) found =
+              let is_up : n.up ≡ true = sym (ap (λ (o : Option Node). elim o as (λ x. Bool) [ Some m ↦ m.up | None ↦ false ]) found) ∙ up in
+              elim (lasts_apart node) [
+                | inl apart ↦ elim ((told apart n found).runs is_up) [
+                  | inl b ↦ absurd (not_betrayed node file v n then_sound found b)
+                  | inr k ↦ subst (MayHave (account_behind node file before mid (reading e.source.text) e.lines a)) (sym (there_committed node file (λ x. IsNeverCommitted x v) v then_sound n found)) k.records_are
+                ]
+                | inr off ↦ absurd (both_ways n.up (off later (e ∷ before) v n parts (mid, first, turn) found) is_up)
+              ]
+          at None none = let clash : false ≡ true = sym (ap (λ (o : Option Node). elim o as (λ x. Bool) [ Some m ↦ m.up | None ↦ false ]) none) ∙ up in let no : ⊥ = cc in absurd no
+
+      by_all : DumpsShowByAll (opened nodes disks) es
+      by_all before node file events count there mid new a tells step =
+          let first = tells_legal node file (opened nodes disks) before mid a tells in
+          let sound = legal_sound (opened nodes disks) mid before (opening_sound nodes disks opens) first in
+          let later = there.after ++ there.entry ∷ [] in
+          let split : es ≡ later ++ ([] ++ before) = there.stands ∙ sym (split_on there.after there.entry before) in
+          let d = dumped mid new node file events count sound step in
+          elim (lasts_apart node) [
+            | inl apart ↦ of_node d.0 d.1 d.2 sound (path_told node file nodes disks opens apart es later stand mid before [] mid a split tells refl d.0 d.1)
+            | inr off ↦ absurd (both_ways d.0.up (off later before mid d.0 split first d.1) d.2.up)
+          ]
+        where
+          of_node : (n : Node) → find_node node mid.nodes ≡ Some n → IsDumped n file events count → IsSound mid → IsKept node file (λ x. IsNeverCommitted x mid) a n → Shows events count a.records
+          of_node n found d sound k = elim (k.runs d.up) [
+            | inl b ↦ absurd (not_betrayed node file mid n sound found b)
+            | inr up ↦ subst (Shows events count) (sym (sure_records a (records (history_in file n.durable.directory)) (sure_up node file (opened nodes disks) before mid a tells (ap (λ (o : Option Node). elim o as (λ x. Bool) [ Some m ↦ m.up | None ↦ false ]) found ∙ d.up)) up.records_are)) d.shows
+          ]
+
+      shows : DumpsShow (opened nodes disks) es
+      shows before node file events count there =
+          let r = stays (opened nodes disks) closing there.after (there.entry ∷ before) (subst (λ xs. Legal (opened nodes disks) xs closing) there.stands legal) in
+          let l = r.1 in
+          let t = legal_tells node file (opened nodes disks) before l.0 l.1 in
+          let step : Step l.0 (At node (Dump file)) (events ++ line.NormalCount count ∷ []) r.0 = subst (λ ls. Step l.0 (At node (Dump file)) ls r.0) there.shown (subst (λ x. Turn l.0 x there.entry.lines r.0) there.said l.2) in
+          (l.0, t.0, t.1, by_all before node file events count there l.0 r.0 t.0 t.1 step)
+
 pub dumps_hold : DumpsHold
-dumps_hold nodes disks es closing opens apart legal stand = record { shows = shows; by_all = by_all; recoveries = recoveries }
-  where
-    recoveries : RecoveriesAreWhole (opened nodes disks) es
-    recoveries later before e parts node file mid v closing a tells turn on up = at (find_node node v.nodes) refl
-      where
-        first : Legal (opened nodes disks) before mid
-        first = tells_legal node file (opened nodes disks) before mid a tells
-
-        here : Legal mid (e ∷ []) v
-        here = (mid, refl, turn)
-
-        sound : IsSound mid
-        sound = legal_sound (opened nodes disks) mid before (opening_sound nodes disks opens) first
-
-        then_sound : IsSound v
-        then_sound = legal_sound (opened nodes disks) v (e ∷ before) (opening_sound nodes disks opens) (mid, first, turn)
-
-        told : AreTold node file (λ x. IsNeverCommitted x v) (account_behind node file before mid (reading e.source.text) e.lines a) v
-        told = turn_told node file (λ x. IsNeverCommitted x v) before mid a (sure_up node file (opened nodes disks) before mid a tells) v (reading e.source.text) e.lines (legal_named nodes disks before mid opens first) sound
-            (doomed_at node file nodes disks opens apart es later stand v before (e ∷ []) mid parts first here sound) turn (path_told node file nodes disks opens apart es later stand v before (e ∷ []) mid a parts tells here)
-
-        at : (o : Option Node) → find_node node v.nodes ≡ o → MayHave (account_behind node file before mid (reading e.source.text) e.lines a) (committed_in node file v)
-        at (Some n) found =
-            let is_up : n.up ≡ true = sym (ap (λ (o : Option Node). elim o as (λ x. Bool) [ Some m ↦ m.up | None ↦ false ]) found) ∙ up in
-            elim ((told n found).runs is_up) [
-              | inl b ↦ absurd (not_betrayed node file v n then_sound found b)
-              | inr k ↦ subst (MayHave (account_behind node file before mid (reading e.source.text) e.lines a)) (sym (there_committed node file (λ x. IsNeverCommitted x v) v then_sound n found)) k.records_are
-            ]
-        at None none = let clash : false ≡ true = sym (ap (λ (o : Option Node). elim o as (λ x. Bool) [ Some m ↦ m.up | None ↦ false ]) none) ∙ up in let no : ⊥ = cc in absurd no
-
-    by_all : DumpsShowByAll (opened nodes disks) es
-    by_all before node file events count there mid new a tells step =
-        let first = tells_legal node file (opened nodes disks) before mid a tells in
-        let sound = legal_sound (opened nodes disks) mid before (opening_sound nodes disks opens) first in
-        let later = there.after ++ there.entry ∷ [] in
-        let split : es ≡ later ++ ([] ++ before) = there.stands ∙ sym (split_on there.after there.entry before) in
-        let told = path_told node file nodes disks opens apart es later stand mid before [] mid a split tells refl in
-        let d = dumped mid new node file events count sound step in
-        of_node d.0 d.1 d.2 sound (told d.0 d.1)
-      where
-        of_node : (n : Node) → find_node node mid.nodes ≡ Some n → IsDumped n file events count → IsSound mid → IsKept node file (λ x. IsNeverCommitted x mid) a n → Shows events count a.records
-        of_node n found d sound k = elim (k.runs d.up) [
-          | inl b ↦ absurd (not_betrayed node file mid n sound found b)
-          | inr up ↦ subst (Shows events count) (sym (sure_records a (records (history_in file n.durable.directory)) (sure_up node file (opened nodes disks) before mid a tells (ap (λ (o : Option Node). elim o as (λ x. Bool) [ Some m ↦ m.up | None ↦ false ]) found ∙ d.up)) up.records_are)) d.shows
-        ]
-
-    shows : DumpsShow (opened nodes disks) es
-    shows before node file events count there =
-        let r = stays (opened nodes disks) closing there.after (there.entry ∷ before) (subst (λ xs. Legal (opened nodes disks) xs closing) there.stands legal) in
-        let l = r.1 in
-        let t = legal_tells node file (opened nodes disks) before l.0 l.1 in
-        let step : Step l.0 (At node (Dump file)) (events ++ line.NormalCount count ∷ []) r.0 = subst (λ ls. Step l.0 (At node (Dump file)) ls r.0) there.shown (subst (λ x. Turn l.0 x there.entry.lines r.0) there.said l.2) in
-        (l.0, t.0, t.1, by_all before node file events count there l.0 r.0 t.0 t.1 step)
+dumps_hold nodes disks es closing opens apart legal stand = dumps_hold_where nodes disks es closing opens (λ node n found. inl (last_apart nodes apart node n found)) legal stand

@@ -7,6 +7,7 @@ use Rattle.std.specs.List.{AllByRecursion}
 use Rattle.vms_model.specs.Ids.{Id}
 use Rattle.vms_model.specs.Keys.{Key}
 use Rattle.vms_model.specs.Transactions.{Outcome, Abort, Reason, Aborted, SegFail}
+use Rattle.vms_model.specs.Limits.{message_limit}
 use Rattle.transcript_model.specs.Lines as line
 use Rattle.transcript_model.specs.Lines.{Line, Cause}
 use Rattle.script_model.specs.Statements.{Operation, Request, Init, Boot, Create, SetFile, StartTrans, AddBranch, StartBranch, Records, Direct, EndBranch, EndTrans, AbortTrans, Inquire, DeclareRm, JoinRm, AckEvent, ForgetRm, GetDti, LmcpShow, LmcpDump, Dump, DumpJournal, DumpImages, Backup, Recover, Fuse, Crash, Clock}
@@ -19,7 +20,7 @@ use Rattle.commit_protocol.specs.Table.{Branch, Key as BranchKey, Notes, Accepts
 use Rattle.commit_protocol.specs.Rows as rows
 use Rattle.commit_protocol.specs.Rows.{row}
 use Rattle.run_model.specs.World as world
-use Rattle.run_model.specs.World.{World, Shared, Node, File, Label, Settlement, Act, Boots, Creates, Tables, DiskCounts, acted, shared_after, next_moment, labelled, free_place, lowest_free, message_limit, find_node, opened}
+use Rattle.run_model.specs.World.{World, Shared, Node, File, Label, Settlement, Act, Boots, Creates, Tables, DiskCounts, acted, shared_after, next_moment, labelled, free_place, lowest_free, find_node, opened}
 use Rattle.run_model.specs.Answers as answers
 use Rattle.run_model.specs.Answers.{Row, Service, Task, Serves, Ticks, Takes, Hears, LosesLink, RunsDown, Restarts, task_service, service, refused_before_reading, told_if, told_rows, table_rows, begins, just, boot_rows, shown_by, settled_line, forgot_lines, acknowledged_lines, released_lines, table_lines, last_line, last_lines, branch_labelled, branch_named, creates, operated, directed, changes_at, keys_at, records_of, shown_record, entry_line, entry_lines, shown_line, prepared_line, prepared_lines, silent}
 use Rattle.run_model.specs.Steps.{node_after, node_after_rows, rows_if}

@@ -9,7 +9,7 @@ use Rattle.commit_protocol.specs.Rows.{row}
 use Rattle.run_model.specs.World.{Shared, Node, Label, Act, Boots, Tables, Labels, Draws, ComesUp, Falls, Formats, Outturn, Lost, Taken, Half, is_durable, acted, shared_after, fallen, powered, unpowered, next_id, tm_of}
 use Rattle.run_model.specs.Operations.{first_of, refused_if}
 use Rattle.run_model.specs.Answers.{Row, Service, Serves, Restarts, task_service, service, refused_before_reading, powers, spoils, occupies, branch_labelled, made_label, new_label, table_rows, silent, to_branch, adds, starts, in_state, is_first_active, prepared_lines}
-use Rattle.run_model.specs.Steps.{Choice, Whole, WithoutMemory, Unpowered, Cut, ServiceAllowed, service_effect, ready_node, node_after, shared_then, node_after_rows, shared_after_rows, lines_of_rows, rows_if, rows_to_cut, act_begun, if_durable, spoilt, whole, begun, occupied, succeeded, cut}
+use Rattle.run_model.specs.Steps.{Choice, Whole, WithoutMemory, Unpowered, Cut, ServiceAllowed, service_effect, ready_node, node_after, shared_then, node_after_rows, shared_after_rows, lines_of_rows, rows_if, rows_to_cut, act_begun, if_durable, with_unknown_volume, whole, begun, occupied, succeeded, cut}
 use Rattle.run_model.proofs.NodeLists.{clash}
 use Rattle.run_model.proofs.TaskLemmas.{rows_name, ready_name}
 use Rattle.run_model.specs.StepLaws.{is_refusal}
@@ -50,14 +50,14 @@ pub rows_under : (rs : List Row) (n : Node) → (node_after_rows rs n).under_way
 rows_under [] n = refl
 rows_under (r ∷ rs) n = rows_under rs (node_after r.act n) ∙ after_under r.act n
 
-spoilt_under : (b : Bool) (n : Node) → (spoilt b n).under_way ≡ n.under_way
+spoilt_under : (b : Bool) (n : Node) → (with_unknown_volume b n).under_way ≡ n.under_way
 spoilt_under true n = refl
 spoilt_under false n = refl
 
 ready_step : (outturn : Outturn) (stops : ℕ) (e : Service) (n : Node) → IsStep n.under_way → IsStep (ready_node outturn stops e n).under_way
 ready_step outturn stops e n h = go (powers e)
   where
-    go : (b : Bool) → IsStep (if b then spoilt (spoils e) (powered outturn stops n) else n).under_way
+    go : (b : Bool) → IsStep (if b then with_unknown_volume (spoils e) (powered outturn stops n) else n).under_way
     go true = subst IsStep (sym (spoilt_under (spoils e) (powered outturn stops n))) tt
     go false = h
 
@@ -194,7 +194,7 @@ module _ (node : List ℕ) (base : List SaidNode) where
     pub tells : (s : Shared) (n : Node) → n.name ≡ node → AllTell node base (e.rows s n) n s
 
   boot_ready : (outturn : Outturn) (stops : ℕ) (e : Service) (n : Node) → BootsNode e → IsStep n.under_way → node_told (ready_node outturn stops e n) ≡ node_told n
-  boot_ready outturn stops e n boots h = (λ i. node_told (if boots.on i then spoilt (boots.keeps i) (powered outturn stops n) else n)) ∙ powered_told outturn stops n h
+  boot_ready outturn stops e n boots h = (λ i. node_told (if boots.on i then with_unknown_volume (boots.keeps i) (powered outturn stops n) else n)) ∙ powered_told outturn stops n h
 
   -- what a boot tells with its success, behind its rows: that the node is up
   boot_done : (s : Shared) (stops : ℕ) (outturn : Outturn) (n : Node) (e : Service) → n.name ≡ node → BootsNode e → IsStep n.under_way → (ready : Node) → ready ≡ ready_node outturn stops e n →
@@ -221,9 +221,9 @@ module _ (node : List ℕ) (base : List SaidNode) where
       ap (View node base (record (node_told (node_after_rows rs ready)) { up = false })) (taken_use e (shared_after_rows rs s) boots.takes)
       ∙ ap with_use (sym (cut_rows rs ready s cause name tell) ∙ ap (λ x. lines_said (lines_of_rows rs ++ line.Down ready.name cause ∷ []) (View node base x (shared_told s))) same)
 
-  boot_dead : (s : Shared) (stops : ℕ) (n : Node) (e : Service) → n.name ≡ node → BootsNode e → at (spoilt (spoils e) (unpowered stops n)) (occupied e s) ≡ with_use (lines_said (line.Down n.name Failed ∷ []) (at n s))
+  boot_dead : (s : Shared) (stops : ℕ) (n : Node) (e : Service) → n.name ≡ node → BootsNode e → at (with_unknown_volume (spoils e) (unpowered stops n)) (occupied e s) ≡ with_use (lines_said (line.Down n.name Failed ∷ []) (at n s))
   boot_dead s stops n e named boots =
-      (λ i. View node base (node_told (spoilt (boots.keeps i) (unpowered stops n))) (shared_told (occupied e s)))
+      (λ i. View node base (node_told (with_unknown_volume (boots.keeps i) (unpowered stops n))) (shared_told (occupied e s)))
       ∙ ap (View node base (record (node_told n) { up = false })) (taken_use e s boots.takes)
       ∙ ap with_use (sym (up_view node base n.name false (node_told n) (shared_told s) named named))
 
@@ -302,7 +302,7 @@ module _ (node : List ℕ) (base : List SaidNode) where
   -- An INIT.
 
   init_dead : (s : Shared) (stops slots blocks : ℕ) (n : Node) → n.name ≡ node →
-      at (spoilt true (unpowered stops n)) (occupied (service (Init slots blocks)) s) ≡ with_unmade node true (lines_said (line.Down n.name Failed ∷ []) (at n s))
+      at (with_unknown_volume true (unpowered stops n)) (occupied (service (Init slots blocks)) s) ≡ with_unmade node true (lines_said (line.Down n.name Failed ∷ []) (at n s))
   init_dead s stops slots blocks n named =
       ap (View node base (record (node_told n) { up = false; unmade = true })) (calm_use (service (Init slots blocks)) s refl)
       ∙ sym (unmade_view node base true (record (node_told n) { up = false }) (shared_told s) named)

@@ -22,7 +22,7 @@ use Rattle.run_model.specs.World.{Shared, Node, Act, Tables, Outturn, acted, fal
 use Rattle.run_model.specs.Answers as answers
 use Rattle.run_model.specs.Answers.{Row, Service, Task, Serves, Ticks, Takes, Hears, LosesLink, RunsDown, Restarts, boot_rows, branch_labelled, just, powers, refused_before_reading, service, shown_line, spoils, table_rows, task_service, told_if, told_rows, touches, unit_key}
 use Rattle.run_model.specs.Operations.{refused_if}
-use Rattle.run_model.specs.Steps.{Choice, Cut, TaskAllowed, Unpowered, Whole, WithoutMemory, act_begun, begun, node_after, node_after_rows, ready_node, rows_if, rows_to_cut, spoilt, task_effect, whole}
+use Rattle.run_model.specs.Steps.{Choice, Cut, TaskAllowed, Unpowered, Whole, WithoutMemory, act_begun, begun, node_after, node_after_rows, ready_node, rows_if, rows_to_cut, task_effect, whole, with_unknown_volume}
 use Rattle.run_model.proofs.Refusing.{not_ready}
 use Rattle.world_laws.specs.Nodes.{IsKeptNode, IsUp}
 use Rattle.world_laws.proofs.AnswerLemmas.{neither, not_refused}
@@ -288,7 +288,7 @@ module _ (k : BranchKey) (reason : Reason) (r : Option LogRecord) (moment : ℕ)
     fell_effect t WithoutMemory rises may e = Was e refl
     fell_effect t Unpowered rises may e = go (spoils (task_service t)) e
       where
-        go : (b : Bool) → (spoilt b (unpowered stops n)).under_way ≡ Some act → Fell n t k reason r moment (spoilt b (unpowered stops n))
+        go : (b : Bool) → (with_unknown_volume b (unpowered stops n)).under_way ≡ Some act → Fell n t k reason r moment (with_unknown_volume b (unpowered stops n))
         go true is = Was is refl
         go false is = Was is refl
     fell_effect t (Cut o j b cause) rises may e = go (powers (task_service t)) refl

@@ -20,7 +20,7 @@ use Rattle.run_model.specs.World.{World, Shared, Node, File, Act, Changes, Creat
 use Rattle.run_model.specs.Operations.{changes_of, form_refused, operation_answer, refused_if}
 use Rattle.run_model.specs.Answers as answers
 use Rattle.run_model.specs.Answers.{Row, Service, Serves, blocks_for, branch_labelled, changes_at, commit_settlement, created, creates, directed, in_state, keys_at, made_label, needs_unit, new_file, of_file, operated, operation_act, operation_told, powers, records_recovered, refused_before_reading, service, silent, there_is_file, to_branch, unsettled_label}
-use Rattle.run_model.specs.Steps.{Choice, Cut, TaskAllowed, Unpowered, Whole, WithoutMemory, act_begun, begun, if_durable, lines_of_rows, node_after, node_after_rows, ready_node, rows_if, rows_to_cut, spoilt, task_effect, whole}
+use Rattle.run_model.specs.Steps.{Choice, Cut, TaskAllowed, Unpowered, Whole, WithoutMemory, act_begun, begun, if_durable, lines_of_rows, node_after, node_after_rows, ready_node, rows_if, rows_to_cut, task_effect, whole, with_unknown_volume}
 use Rattle.run_model.specs.Transcript.{Entry}
 use Rattle.run_model.specs.StepLaws.{is_refusal}
 use Rattle.run_model.proofs.NodeLists.{found_name}
@@ -503,7 +503,7 @@ module _ (node file : List ℕ) (D : Id → Type 0) where
           none (suc j) false = broken (at_up first) first cause
 
       same_ready : (o : Outturn) → ready_node o stops e n ≡ n
-      same_ready o = ap (λ b. if b then spoilt (answers.spoils e) (powered o stops n) else n) off
+      same_ready o = ap (λ b. if b then with_unknown_volume (answers.spoils e) (powered o stops n) else n) off
 
       up_request : (goes : e.goes_on ≡ false) (c : Choice) (rises : Cause → Type 0) → TaskAllowed s stops n (Serves r) rises c → Leaves (task_effect s stops n (Serves r) c).lines (task_effect s stops n (Serves r) c).answer (task_effect s stops n (Serves r) c).node
       up_request goes (Whole o) rises may = subst (λ m. let x = whole s n m e (refused_before_reading s n e) in Leaves x.lines x.answer x.node) (sym (same_ready o)) (whole_up (refused_before_reading s n e) refl)
@@ -692,16 +692,16 @@ module _ (node file : List ℕ) (D : Id → Type 0) where
     init_effect slots journal (Whole o) rises may = go (refused_before_reading s n (service (Init slots journal))) refl
       where
         ready : Node
-        ready = spoilt true (powered o stops n)
+        ready = with_unknown_volume true (powered o stops n)
 
         made : by (Init slots journal) (line.Normal ∷ []) ≡ no_account
         made = ap (λ b. if b then no_account else a) (same_text node)
 
-        disk : IsToldDisk node file D no_account (acted (Formats slots journal) (spoilt true (powered o stops n))).name (acted (Formats slots journal) (spoilt true (powered o stops n))).durable
+        disk : IsToldDisk node file D no_account (acted (Formats slots journal) (with_unknown_volume true (powered o stops n))).name (acted (Formats slots journal) (with_unknown_volume true (powered o stops n))).durable
         disk = record {
           named = powered_name o stops n ∙ found_name node w.nodes n found;
           records_are = inl (sym (ap (λ q. records (history_of q)) (none_found 64)));
-          still = sure_still no_account (history_in file (acted (Formats slots journal) (spoilt true (powered o stops n))).durable.directory).live refl;
+          still = sure_still no_account (history_in file (acted (Formats slots journal) (with_unknown_volume true (powered o stops n))).durable.directory).live refl;
           quiet = λ gone x m. refl;
           own = λ x e. let no : ⊥ = cc in absurd no;
           apart = λ x r e commit i j. let no : ⊥ = cc in no;
@@ -714,15 +714,15 @@ module _ (node file : List ℕ) (D : Id → Type 0) where
             none_found (suc k) = none_found k
 
         go : (q : Option Line) → refused_before_reading s n (service (Init slots journal)) ≡ q →
-            (let x = whole s n (spoilt true (powered o stops n)) (service (Init slots journal)) q in IsKept (by (Init slots journal) (x.lines ++ x.answer ∷ [])) x.node)
+            (let x = whole s n (with_unknown_volume true (powered o stops n)) (service (Init slots journal)) q in IsKept (by (Init slots journal) (x.lines ++ x.answer ∷ [])) x.node)
         go (Some refusal) first = refused_told (Init slots journal) refusal n ((refuses_first s n (Serves (Init slots journal))).says refusal first) h
-        go None first = subst (λ b. IsKept b (acted (Formats slots journal) (spoilt true (powered o stops n)))) (sym made)
+        go None first = subst (λ b. IsKept b (acted (Formats slots journal) (with_unknown_volume true (powered o stops n)))) (sym made)
             (init_done (telling node file D) (telling_keeps node file D) s stops n (Serves (Init slots journal)) a sound.kept h (unused s n sound) slots journal no_account o may first (inr disk))
     init_effect slots journal WithoutMemory rises may = refused_told (Init slots journal) line.NoMemory n refl h
     init_effect slots journal Unpowered rises may = init_else (telling node file D) (telling_keeps node file D) s stops n (Serves (Init slots journal)) a sound.kept h (unused s n sound) slots journal Unpowered rises may (λ o is. let no : ⊥ = cc in absurd no)
     init_effect slots journal (Cut o j t cause) rises may =
-        subst (λ ls. IsKept (by (Init slots journal) ((ls ++ line.Down (spoilt true (powered o stops n)).name cause ∷ []) ++ line.Broken cause ∷ [])) (fallen (act_begun t (drop j [])) (node_after_rows (take j []) (spoilt true (powered o stops n))))) (sym (no_row j))
-        (subst (λ ls. IsKept (commits_here node (ls ++ line.Down (spoilt true (powered o stops n)).name cause ∷ []) a) (fallen (act_begun t (drop j [])) (node_after_rows (take j []) (spoilt true (powered o stops n))))) (no_row j)
+        subst (λ ls. IsKept (by (Init slots journal) ((ls ++ line.Down (with_unknown_volume true (powered o stops n)).name cause ∷ []) ++ line.Broken cause ∷ [])) (fallen (act_begun t (drop j [])) (node_after_rows (take j []) (with_unknown_volume true (powered o stops n))))) (sym (no_row j))
+        (subst (λ ls. IsKept (commits_here node (ls ++ line.Down (with_unknown_volume true (powered o stops n)).name cause ∷ []) a) (fallen (act_begun t (drop j [])) (node_after_rows (take j []) (with_unknown_volume true (powered o stops n))))) (no_row j)
         (init_else (telling node file D) (telling_keeps node file D) s stops n (Serves (Init slots journal)) a sound.kept h (unused s n sound) slots journal (Cut o j t cause) rises may (λ q is. let no : ⊥ = cc in absurd no)))
       where
         no_row : (j : ℕ) → lines_of_rows (take j []) ≡ []

@@ -116,19 +116,19 @@ module _ (n : Node) (d : world.Durable) (s : Shared) (stops : ℕ) (rises : Caus
   awake x = record x { calls = world.Power stops ∷ x.calls; under_way = None }
 
   abbrev format : (slots journal : ℕ) → Node → Node
-  format slots journal x = world.acted (world.Formats slots journal) (steps.spoilt true x)
+  format slots journal x = world.acted (world.Formats slots journal) (steps.with_unknown_volume true x)
 
   abbrev cut_at : (slots journal : ℕ) → Cause → Node → ℕ → Bool → TaskEffect
   cut_at slots journal cause x done begun = steps.cut s x (answers.service (Init slots journal)) [] done begun cause
 
   abbrev fell : Node → Node
-  fell x = world.fallen None (steps.spoilt true (awake x))
+  fell x = world.fallen None (steps.with_unknown_volume true (awake x))
 
   init_alike : (slots journal : ℕ) (c : Choice) → TaskAllowed s stops n (Serves (Init slots journal)) rises c → DoneAlike (Serves (Init slots journal)) c
   init_alike slots journal (Whole o) may = (Whole Lost, tt, by (refused_before_reading s n (answers.service (Init slots journal))) refl)
     where
       by : (l : Option Line) → refused_before_reading s n (answers.service (Init slots journal)) ≡ l →
-          IsAlike n m true (steps.whole s n (steps.spoilt true (powered o stops n)) (answers.service (Init slots journal)) l) (steps.whole s m (steps.spoilt true (powered Lost stops m)) (answers.service (Init slots journal)) l)
+          IsAlike n m true (steps.whole s n (steps.with_unknown_volume true (powered o stops n)) (answers.service (Init slots journal)) l) (steps.whole s m (steps.with_unknown_volume true (powered Lost stops m)) (answers.service (Init slots journal)) l)
       by (Some refusal) is = refused_alike true refusal ((refuses_first s n (Serves (Init slots journal))).says refusal is)
       by None is =
           let f = quiet_powered o stops n quiet in
@@ -148,15 +148,15 @@ module _ (n : Node) (d : world.Durable) (s : Shared) (stops : ℕ) (rises : Caus
   init_alike slots journal Unpowered may = (
     Unpowered,
     may,
-    record { lines = refl; answer = refl; ends = refl; shared = refl; down = refl; quiet = quiet; node = refl; same = λ is. ap (λ (x : Node). steps.spoilt true (unpowered stops x)) is; made = λ i normal. let none : ⊥ = cc in absurd none },
+    record { lines = refl; answer = refl; ends = refl; shared = refl; down = refl; quiet = quiet; node = refl; same = λ is. ap (λ (x : Node). steps.with_unknown_volume true (unpowered stops x)) is; made = λ i normal. let none : ⊥ = cc in absurd none },
   )
   init_alike slots journal (Cut o done begun cause) may = (
     Cut Lost done begun cause,
     (may.0, may.1, tt, may.3, may.4),
-    subst (λ (x : Node). IsAlike n m true (cut_at slots journal cause (steps.spoilt true x) done begun) (cut_at slots journal cause (steps.spoilt true (awake m)) done begun)) (sym (quiet_powered o stops n quiet)) (go done begun),
+    subst (λ (x : Node). IsAlike n m true (cut_at slots journal cause (steps.with_unknown_volume true x) done begun) (cut_at slots journal cause (steps.with_unknown_volume true (awake m)) done begun)) (sym (quiet_powered o stops n quiet)) (go done begun),
   )
     where
-      go : (k : ℕ) (b : Bool) → IsAlike n m true (cut_at slots journal cause (steps.spoilt true (awake n)) k b) (cut_at slots journal cause (steps.spoilt true (awake m)) k b)
+      go : (k : ℕ) (b : Bool) → IsAlike n m true (cut_at slots journal cause (steps.with_unknown_volume true (awake n)) k b) (cut_at slots journal cause (steps.with_unknown_volume true (awake m)) k b)
       go zero true = record { lines = refl; answer = refl; ends = refl; shared = refl; down = refl; quiet = refl; node = refl; same = λ is. ap fell is; made = λ i normal. let none : ⊥ = cc in absurd none }
       go zero false = record { lines = refl; answer = refl; ends = refl; shared = refl; down = refl; quiet = refl; node = refl; same = λ is. ap fell is; made = λ i normal. let none : ⊥ = cc in absurd none }
       go (suc k) true = record { lines = refl; answer = refl; ends = refl; shared = refl; down = refl; quiet = refl; node = refl; same = λ is. ap fell is; made = λ i normal. let none : ⊥ = cc in absurd none }

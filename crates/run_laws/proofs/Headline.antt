@@ -1,23 +1,24 @@
 -- All that is proved of the promises, gathered.
-use Rattle.std.proofs.Common.{◌≡◌, inr, ℕ, List, [], ◌∷◌, ◌++◌, Some, refl, sym, subst, ◌∙◌, append_assoc}
+use Rattle.std.proofs.Common.{◌≡◌, inl, inr, ℕ, List, [], ◌∷◌, ◌++◌, Some, refl, sym, ap, subst, ◌∙◌, append_assoc}
 use Rattle.script_model.specs.Statements.{Settle}
 use Rattle.commit_protocol.specs.Opening.{IsAgreeing}
 use Rattle.run_model.specs.World.{DiskCounts, Node, World, find_node, opened}
 use Rattle.run_model.specs.Transcript.{AreOpening, Entry, Legal}
+use Rattle.run_model.proofs.NodeLists.{found_name}
 use Rattle.run_agreement.specs.Seen.{IsKnown}
-use Rattle.run_agreement.specs.Laws.{NamesApart, opening_told, CommittedAreOfCommitted, LeaveAgreement, RestingAreWhole, SettleAlike, SettlingEnds, SettlingLeavesNone}
+use Rattle.run_agreement.specs.Laws.{NamesApart, image_told, opening_told, volume_image, CommittedAreOfCommitted, LeaveAgreement, RestingAreWhole, SettleAlike, SettlingEnds, SettlingLeavesNone}
 use Rattle.run_laws.specs.Laws.{AgreedPromises, AgreedPromisesAreKept, PromisesAreKept}
-use Rattle.run_laws.specs.Promises.{AreLastApart}
 use Rattle.run_laws.proofs.AgreedRuns.{agreed_run, ended_for_all, ends_for_all, legal_names, run_of, settles_whole}
-use Rattle.run_laws.proofs.Anewed.{back_again, dumps_like, made_by_then, others_apart, others_for, others_forget, others_known, others_last, others_open, same_world, stand_like, told_alike}
+use Rattle.run_laws.proofs.Anewed.{LastFits, back_again, dumps_like, made_by_then, others_apart, others_for, others_forget, others_known, others_last, others_open, same_world, stand_like, told_alike}
 use Rattle.run_laws.proofs.Forgetting.{inits_forget}
 use Rattle.run_laws.proofs.AbortsAsked.{caused_hold}
-use Rattle.run_laws.proofs.AbortsStand.{agreed_aborts_stand, agreed_dumps_hold, told_agree}
+use Rattle.run_laws.proofs.AbortsStand.{agreed_aborts_stand, down_throughout, told_agree}
 use Rattle.run_laws.proofs.AllShown.{shown_hold}
 use Rattle.run_laws.proofs.AskedHold.{asked_hold}
 use Rattle.run_laws.proofs.BootLines.{boots_show_last}
 use Rattle.run_laws.proofs.RecordedRuns.{booted_hold}
 use Rattle.run_laws.proofs.CauseRuns.{aborted_hold, commits_hold}
+use Rattle.run_laws.proofs.DumpsShown.{dumps_hold_where}
 use Rattle.run_laws.proofs.DownsHeld.{downs_end, downs_have_causes, failures_show_down}
 use Rattle.run_laws.proofs.EndedComes.{ended_comes_hold}
 use Rattle.run_laws.proofs.EndedHold.{ended_hold}
@@ -78,9 +79,9 @@ kept_promises nodes disks es closing opening legal = record {
 
 -- where something is known of each disk
 module _ (alike : SettleAlike) (committed : CommittedAreOfCommitted) (leave : LeaveAgreement) (whole : RestingAreWhole) (none : SettlingLeavesNone) (ends : SettlingEnds) where
-  known_promises : (nodes : List Node) (disks : List DiskCounts) (es : List Entry) (closing : World) → AreOpening nodes → NamesApart nodes → ((name : List ℕ) (n : Node) → find_node name nodes ≡ Some n → IsKnown n) → AreLastApart nodes → IsAgreeing (opening_told nodes es) →
+  known_promises : (nodes : List Node) (disks : List DiskCounts) (es : List Entry) (closing : World) → AreOpening nodes → NamesApart nodes → ((name : List ℕ) (n : Node) → find_node name nodes ≡ Some n → IsKnown n) → ((name : List ℕ) (n : Node) → find_node name nodes ≡ Some n → LastFits es n) → IsAgreeing (opening_told nodes es) →
       Legal (opened nodes disks) es closing → AgreedPromises (opened nodes disks) es closing
-  known_promises nodes disks es closing opening apart known last_apart agrees legal =
+  known_promises nodes disks es closing opening apart known lasts agrees legal =
       let agree = told_agree nodes disks es closing opening apart known legal agrees in
       let b = run_of nodes disks es closing opening apart known legal agrees in
       let kept = kept_promises nodes disks es closing opening legal in
@@ -97,7 +98,10 @@ module _ (alike : SettleAlike) (committed : CommittedAreOfCommitted) (leave : Le
         ends = ends_for_all b.base es closing kept.ends;
         ended = ended_for_all b.base es closing kept.ended;
         settles = settles_whole whole none ends nodes disks es closing opening apart known legal agrees b.base b.told;
-        dumps = agreed_dumps_hold nodes disks es closing opening apart known last_apart agree legal;
+        dumps = dumps_hold_where nodes disks es closing opening (λ name n found. elim (lasts name n found) [
+          | inl last ↦ inl last
+          | inr none ↦ inr (down_throughout nodes disks es closing opening apart known agrees legal name n found (ap (λ x. image_told x (volume_image n) es) (sym (found_name name nodes n found)) ∙ none))
+        ]) legal (agreed_aborts_stand nodes disks es opening apart known agree);
         stand = agreed_aborts_stand nodes disks es opening apart known agree;
       }
 

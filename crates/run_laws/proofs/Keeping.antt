@@ -16,7 +16,7 @@ use Rattle.commit_protocol.specs.World.{undo_all}
 use Rattle.run_model.specs.World.{Shared, Node, Act, Arms, Boots, Clocks, ComesUp, Directs, Formats, Tables, Outturn, Lost, Taken, Half, MayTurnOut, Settlement, Unknown, aborted_prepared, acted, durable_after, fallen, is_durable, next_moment, powered, settlement_of, settled_more, unpowered, with_half}
 use Rattle.run_model.specs.Operations.{first_of, refused_if}
 use Rattle.run_model.specs.Answers.{Row, Service, Task, Serves, Ticks, Takes, Hears, LosesLink, RunsDown, Restarts, boot_rows, left_active, last_lines, prepared_lines, powers, refused_before_reading, service, settled_line, spoils, table_rows, task_service, touches, unit_key}
-use Rattle.run_model.specs.Steps.{Choice, Cut, TaskAllowed, Unpowered, Whole, WithoutMemory, act_begun, begun, if_durable, lines_of_rows, node_after, node_after_rows, ready_node, rows_if, rows_to_cut, spoilt, task_effect, whole}
+use Rattle.run_model.specs.Steps.{Choice, Cut, TaskAllowed, Unpowered, Whole, WithoutMemory, act_begun, begun, if_durable, lines_of_rows, node_after, node_after_rows, ready_node, rows_if, rows_to_cut, task_effect, whole, with_unknown_volume}
 use Rattle.world_laws.specs.Nodes.{AreKept, IsKeptDisk, IsKeptNode, IsOf, IsUp}
 use Rattle.world_laws.proofs.IdLemmas.{id_is, id_itself}
 use Rattle.world_laws.proofs.AnswerLemmas.{neither, not_refused}
@@ -401,7 +401,7 @@ module _ (t : Scheme) (k : Keeps t) where
     -- at a node that is up
     module _ (off : powers e ≡ false) (up : n.up ≡ true) where
       same_ready : (o : Outturn) → ready_node o stops e n ≡ n
-      same_ready o = ap (λ b. if b then spoilt (spoils e) (powered o stops n) else n) off
+      same_ready o = ap (λ b. if b then with_unknown_volume (spoils e) (powered o stops n) else n) off
 
       abbrev closed : Option Act → List Line → Node → Type 0
       closed act ls m = Kept (t.more (lines_of_rows (e.rows s n) ++ ls) a) (node_after act m)
@@ -491,7 +491,7 @@ module _ (t : Scheme) (k : Keeps t) where
       whole_down m is None first = (quietly (served first) m is).1 (e.refused_after_reading s m) refl
 
       pub down_effect : (c : Choice) (rises : Cause → Type 0) → TaskAllowed s stops n task rises c → KeptEffect a s stops n task c
-      down_effect (Whole o) rises may = whole_down (ready_node o stops e n) (ap (λ b. if b then spoilt (spoils e) (powered o stops n) else n) off) (refused_before_reading s n e) refl
+      down_effect (Whole o) rises may = whole_down (ready_node o stops e n) (ap (λ b. if b then with_unknown_volume (spoils e) (powered o stops n) else n) off) (refused_before_reading s n e) refl
       down_effect WithoutMemory rises may = still a n h
       down_effect Unpowered rises may = absurd (both_ways (powers e) off may.1)
       down_effect (Cut o j b cause) rises may = absurd (both_ways (touches e) (quietly (served may.0) n refl).0 may.1)
@@ -563,8 +563,8 @@ module _ (t : Scheme) (k : Keeps t) where
                 (on_down (boot_rows s r) (fallen (act_begun b (drop j (boot_rows s r))) (node_after_rows (take j (boot_rows s r)) r))
                 (fell b j (boot_rows s r) r (t.more (lines_of_rows (take j (boot_rows s r))) a) (boot_cut s r r_ready.disk a r_kept.0 j) (boot_under s r r_ready.disk a r_kept.0 b j)))
 
-      dead_boot : Kept (t.more (line.Down n.name line.Failed ∷ []) a) (spoilt (spoils e) (unpowered stops n))
-      dead_boot = subst (λ b. Kept (t.more (line.Down n.name line.Failed ∷ []) a) (spoilt b (unpowered stops n))) (sym whole_disk)
+      dead_boot : Kept (t.more (line.Down n.name line.Failed ∷ []) a) (with_unknown_volume (spoils e) (unpowered stops n))
+      dead_boot = subst (λ b. Kept (t.more (line.Down n.name line.Failed ∷ []) a) (with_unknown_volume b (unpowered stops n))) (sym whole_disk)
           (subst (λ c. Kept c (unpowered stops n)) (sym (k.plain (line.Down n.name line.Failed ∷ []) a (refl, tt) (refl, tt))) (like_kept n (unpowered stops n) a (record { name = refl; durable = refl; volatile = refl; settled = refl }) refl refl h))
 
       pub boot_effect : (c : Choice) (rises : Cause → Type 0) → TaskAllowed s stops n task rises c → KeptEffect a s stops n task c
@@ -584,7 +584,7 @@ module _ (t : Scheme) (k : Keeps t) where
         not_used : refused_before_reading s n makes ≡ None → s.in_use ≡ false
         not_used first = not_refused s.in_use line.VolumeInUse (neither (refused_if s.in_use line.VolumeInUse) _ (neither (refused_if (not (n.up || true)) line.NodeDown) _ first).1).0
 
-        pub init_ready : (o : Outturn) → MayTurnOut n o → refused_before_reading s n makes ≡ None → t.Disk a (spoilt true (powered o stops n)) × ((powered o stops n).under_way ≡ None) × ((powered o stops n).up ≡ false) × ((powered o stops n).settled ≡ [])
+        pub init_ready : (o : Outturn) → MayTurnOut n o → refused_before_reading s n makes ≡ None → t.Disk a (with_unknown_volume true (powered o stops n)) × ((powered o stops n).under_way ≡ None) × ((powered o stops n).up ≡ false) × ((powered o stops n).settled ≡ [])
         init_ready o may first =
             let off = not_used first in
             let p = powered_kept o stops s n a kept (k.none_ready n (kept.unused off).1) may h in
@@ -601,15 +601,15 @@ module _ (t : Scheme) (k : Keeps t) where
                 go (Some act) q = let no : ⊥ = cc in absurd no
 
         init_cut : (o : Outturn) → MayTurnOut n o → refused_before_reading s n makes ≡ None → (j : ℕ) (b : Bool) (cause : Cause) →
-            Kept (t.more (lines_of_rows (take j []) ++ line.Down n.name cause ∷ []) a) (fallen (act_begun b (drop j [])) (node_after_rows (take j []) (spoilt true (powered o stops n))))
+            Kept (t.more (lines_of_rows (take j []) ++ line.Down n.name cause ∷ []) a) (fallen (act_begun b (drop j [])) (node_after_rows (take j []) (with_unknown_volume true (powered o stops n))))
         init_cut o may first j b cause = go j b
           where
             r : Node
-            r = spoilt true (powered o stops n)
+            r = with_unknown_volume true (powered o stops n)
 
             done : Kept (t.more (line.Down n.name cause ∷ []) a) (fallen None r)
             done = subst (λ c. Kept c (fallen None r)) (sym (k.plain (line.Down n.name cause ∷ []) a (refl, tt) (refl, tt))) (record {
-              disk = k.same a (spoilt true (powered o stops n)) (fallen None r) refl refl refl (init_ready o may first).0;
+              disk = k.same a (with_unknown_volume true (powered o stops n)) (fallen None r) refl refl refl (init_ready o may first).0;
               way = λ act q. let no : ⊥ = cc in absurd no;
               runs = λ q. let no : ⊥ = cc in absurd no;
             })
@@ -620,10 +620,10 @@ module _ (t : Scheme) (k : Keeps t) where
             go (suc j) true = done
             go (suc j) false = done
 
-        init_dead : refused_before_reading s n makes ≡ None → Kept (t.more (line.Down n.name line.Failed ∷ []) a) (spoilt true (unpowered stops n))
-        init_dead first = subst (λ c. Kept c (spoilt true (unpowered stops n))) (sym (k.plain (line.Down n.name line.Failed ∷ []) a (refl, tt) (refl, tt))) (record {
+        init_dead : refused_before_reading s n makes ≡ None → Kept (t.more (line.Down n.name line.Failed ∷ []) a) (with_unknown_volume true (unpowered stops n))
+        init_dead first = subst (λ c. Kept c (with_unknown_volume true (unpowered stops n))) (sym (k.plain (line.Down n.name line.Failed ∷ []) a (refl, tt) (refl, tt))) (record {
           disk = k.spoils a (unpowered stops n) (k.same a n (unpowered stops n) refl refl refl h.disk);
-          way = λ act q. none_under a (spoilt true (unpowered stops n)) act (kept.unused (not_used first)).1 q;
+          way = λ act q. none_under a (with_unknown_volume true (unpowered stops n)) act (kept.unused (not_used first)).1 q;
           runs = λ q. let no : ⊥ = cc in absurd no;
         })
 
@@ -636,18 +636,18 @@ module _ (t : Scheme) (k : Keeps t) where
             go None first = absurd (fails o refl first)
         init_else WithoutMemory rises may fails = still a n h
         init_else Unpowered rises may fails = init_dead may.0
-        init_else (Cut o j b cause) rises may fails = subst (λ (name : List ℕ). Kept (t.more (lines_of_rows (take j []) ++ line.Down name cause ∷ []) a) (fallen (act_begun b (drop j [])) (node_after_rows (take j []) (spoilt true (powered o stops n))))) (sym (named o)) (init_cut o may.2 may.0 j b cause)
+        init_else (Cut o j b cause) rises may fails = subst (λ (name : List ℕ). Kept (t.more (lines_of_rows (take j []) ++ line.Down name cause ∷ []) a) (fallen (act_begun b (drop j [])) (node_after_rows (take j []) (with_unknown_volume true (powered o stops n))))) (sym (named o)) (init_cut o may.2 may.0 j b cause)
           where
             named : (o : Outturn) → (powered o stops n).name ≡ n.name
             named o = powered_name o stops n
 
         -- one that does, what is known of the volume that it makes
-        pub init_done : (b : t.Told) (o : Outturn) → MayTurnOut n o → refused_before_reading s n makes ≡ None → t.Disk b (acted (Formats slots journal) (spoilt true (powered o stops n))) → Kept b (acted (Formats slots journal) (spoilt true (powered o stops n)))
+        pub init_done : (b : t.Told) (o : Outturn) → MayTurnOut n o → refused_before_reading s n makes ≡ None → t.Disk b (acted (Formats slots journal) (with_unknown_volume true (powered o stops n))) → Kept b (acted (Formats slots journal) (with_unknown_volume true (powered o stops n)))
         init_done b o may first d =
             let r = init_ready o may first in
             record {
               disk = d;
-              way = λ act q. none_under b (acted (Formats slots journal) (spoilt true (powered o stops n))) act r.1 q;
+              way = λ act q. none_under b (acted (Formats slots journal) (with_unknown_volume true (powered o stops n))) act r.1 q;
               runs = λ q. absurd (both_ways (powered o stops n).up r.2 q);
             }
 
@@ -658,7 +658,7 @@ module _ (t : Scheme) (k : Keeps t) where
           where
             go : (q : Option Line) → refused_before_reading s n (service (Init slots journal)) ≡ q → Kept (t.more (whole s n (ready_node o stops (service (Init slots journal)) n) (service (Init slots journal)) q).lines a) (whole s n (ready_node o stops (service (Init slots journal)) n) (service (Init slots journal)) q).node
             go (Some refusal) first = still a n h
-            go None first = still a (acted (Formats slots journal) (spoilt true (powered o stops n))) (init_done slots journal a o may first (made (not_used slots journal first) slots journal (spoilt true (powered o stops n)) (init_ready slots journal o may first).3))
+            go None first = still a (acted (Formats slots journal) (with_unknown_volume true (powered o stops n))) (init_done slots journal a o may first (made (not_used slots journal first) slots journal (with_unknown_volume true (powered o stops n)) (init_ready slots journal o may first).3))
         init_effect slots journal c rises may = init_else slots journal c rises may (λ o is. let no : ⊥ = cc in absurd no)
 
   -- Tasks.

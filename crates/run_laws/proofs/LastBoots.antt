@@ -14,7 +14,7 @@ use Rattle.commit_protocol.specs.World.{In}
 use Rattle.run_model.specs.World.{World, Shared, Node, DiskCounts, Act, Boots, Directs, Tables, IsOpening, LastIsReached, Outturn, Settlement, find_node, opened, powered}
 use Rattle.run_model.specs.Operations.{refused_if}
 use Rattle.run_model.specs.Answers.{Row, Service, Task, LosesLink, Restarts, RunsDown, Serves, Takes, Ticks, last_line, powers, refused_before_reading, service, settled_line, spoils, task_service}
-use Rattle.run_model.specs.Steps.{Choice, Cut, TaskAllowed, Unpowered, Whole, WithoutMemory, begun, lines_of_rows, node_after, ready_node, rows_if, rows_to_cut, spoilt, task_effect, whole}
+use Rattle.run_model.specs.Steps.{Choice, Cut, TaskAllowed, Unpowered, Whole, WithoutMemory, begun, lines_of_rows, node_after, ready_node, rows_if, rows_to_cut, task_effect, whole, with_unknown_volume}
 use Rattle.run_model.specs.Statements.{Part, Asks, Does, PartEffect, Begins, Phases, Step, Allowed, RoseAt, begun_with, message_at, part_effect, phases_of, refused_at_once, stops_at}
 use Rattle.run_model.specs.StepLaws.{TaskAt, task_of_part}
 use Rattle.run_model.specs.Transcript.{Entry, Legal, AreOpening, Turn}
@@ -145,7 +145,7 @@ module _ (s : Shared) (stops : ℕ) (n : Node) (task : Task) (kept : IsKeptNode 
   quiet_last (Whole o) rises may = subst (λ m. NoLast (whole s n m e (refused_before_reading s n e)).lines) (sym (same o)) (go (refused_before_reading s n e) refl)
     where
       same : (o : Outturn) → ready_node o stops e n ≡ n
-      same o = ap (λ b. if b then spoilt (spoils e) (powered o stops n) else n) off
+      same o = ap (λ b. if b then with_unknown_volume (spoils e) (powered o stops n) else n) off
 
       late : refused_before_reading s n e ≡ None → (q : Option Line) → e.refused_after_reading s n ≡ q → NoLast (begun s n e q).lines
       late first (Some refusal) is = none_last
@@ -156,7 +156,7 @@ module _ (s : Shared) (stops : ℕ) (n : Node) (task : Task) (kept : IsKeptNode 
       go None is = late is (e.refused_after_reading s n) refl
   quiet_last WithoutMemory rises may = none_last
   quiet_last Unpowered rises may = absurd (both_ways (powers e) off may.1)
-  quiet_last (Cut o j b cause) rises may = subst (λ m. NoLast (lines_of_rows (take j (rows_to_cut s m e)) ++ line.Down m.name cause ∷ [])) (sym (ap (λ t. if t then spoilt (spoils e) (powered o stops n) else n) off))
+  quiet_last (Cut o j b cause) rises may = subst (λ m. NoLast (lines_of_rows (take j (rows_to_cut s m e)) ++ line.Down m.name cause ∷ [])) (sym (ap (λ t. if t then with_unknown_volume (spoils e) (powered o stops n) else n) off))
       (append_last (lines_of_rows (take j (rows_to_cut s n e))) (line.Down n.name cause ∷ []) (go (e.refused_after_reading s n) refl) (down_last n.name cause))
     where
       go : (q : Option Line) → e.refused_after_reading s n ≡ q → NoLast (lines_of_rows (take j (rows_if q rows)))

@@ -14,7 +14,7 @@ use Rattle.run_model.specs.World as world
 use Rattle.run_model.specs.World.{World, Shared, Node, DiskCounts, Durable, Settlement, Act, Boots, Formats, Tables, Directs, Outturn, Lost, Taken, Half, acted, powered, unpowered, settled_more, settlement_of, with_settlement, aborted_prepared, with_half, next_moment, find_node, with_node, opened}
 use Rattle.run_model.specs.Answers as answers
 use Rattle.run_model.specs.Answers.{Row, Service, Task, task_service, refused_before_reading, powers, spoils, last_line, last_lines, settled_line}
-use Rattle.run_model.specs.Steps.{Choice, Whole, WithoutMemory, Unpowered, Cut, task_effect, ready_node, node_after, node_after_rows, lines_of_rows, rows_to_cut, spoilt, whole, begun}
+use Rattle.run_model.specs.Steps.{Choice, Whole, WithoutMemory, Unpowered, Cut, task_effect, ready_node, node_after, node_after_rows, lines_of_rows, rows_to_cut, with_unknown_volume, whole, begun}
 use Rattle.run_model.specs.Statements.{Part, PartEffect, Begins, Phases, Step, part_effect, put_into, stops_at, phases_of, refused_at_once, begun_with}
 use Rattle.run_model.specs.Transcript.{Entry, Legal, Turn as LineTurn}
 use Rattle.run_model.proofs.NodeLists.{put_node, some_is}
@@ -67,14 +67,14 @@ module _ (o : Option Node) where
       go Lost act t e = h t e
       go (Half standing) act t e = h t (sym (half_last (aborted_prepared act n.durable) standing n.durable) ∙ e)
 
-  spoilt_last : (b : Bool) (n : Node) → HasLast o n → HasLast o (spoilt b n)
+  spoilt_last : (b : Bool) (n : Node) → HasLast o n → HasLast o (with_unknown_volume b n)
   spoilt_last true n h t e = h t e
   spoilt_last false n h t e = h t e
 
   ready_last : (outturn : Outturn) (stops : ℕ) (e : Service) (n : Node) → HasLast o n → HasLast o (ready_node outturn stops e n)
   ready_last outturn stops e n h = go (powers e)
     where
-      go : (b : Bool) → HasLast o (if b then spoilt (spoils e) (powered outturn stops n) else n)
+      go : (b : Bool) → HasLast o (if b then with_unknown_volume (spoils e) (powered outturn stops n) else n)
       go true t f = spoilt_last (spoils e) (powered outturn stops n) (powered_last outturn stops n h) t f
       go false t f = h t f
 

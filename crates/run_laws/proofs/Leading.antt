@@ -6,6 +6,7 @@ use Rattle.std.specs.Option.{option_map, option_and_then}
 use Rattle.vms_model.specs.Ids.{Id}
 use Rattle.vms_model.specs.Keys.{Key}
 use Rattle.vms_model.specs.Transactions.{Aborted}
+use Rattle.vms_model.specs.Limits.{message_limit}
 use Rattle.transcript_model.specs.Lines as line
 use Rattle.transcript_model.specs.Lines.{Line}
 use Rattle.script_model.specs.Statements.{Statement, At, Deliver, LinkDown, Settle, Operation, Request, Init, Boot, Create, SetFile, StartTrans, AddBranch, StartBranch, Records, Direct, EndBranch, EndTrans, AbortTrans, Inquire, DeclareRm, JoinRm, AckEvent, ForgetRm, GetDti, LmcpShow, LmcpDump, Dump, DumpJournal, DumpImages, Backup, Recover, Fuse, Crash, Clock, Reading, Blank, Says, Bad}
@@ -20,7 +21,7 @@ use Rattle.commit_protocol.specs.Allowed.{is_prepared}
 use Rattle.commit_protocol.specs.World.{In, undo_all}
 use Rattle.commit_protocol.proofs.Lists.{in_parts, slice_in}
 use Rattle.run_model.specs.World as world
-use Rattle.run_model.specs.World.{World, Shared, Node, Act, DiskCounts, Label, Tables, acted, find_node, message_limit, next_id, next_moment, posted, shared_after, shared_tabled, tm_of}
+use Rattle.run_model.specs.World.{World, Shared, Node, Act, DiskCounts, Label, Tables, acted, find_node, next_id, next_moment, posted, shared_after, shared_tabled, tm_of}
 use Rattle.run_model.specs.Answers as answers
 use Rattle.run_model.specs.Answers.{Row, Service, Task, Serves, Ticks, Takes, Hears, LosesLink, RunsDown, Restarts, begins, branch_labelled, branch_named, just, powers, refused_before_reading, service, silent, table_rows, task_service, told_if, told_rows}
 use Rattle.run_model.specs.Steps.{Choice, Cut, Unpowered, Whole, WithoutMemory, TaskAllowed, begun, ready_node, rows_if, rows_to_cut, shared_after_rows, shared_then, task_effect, whole}

@@ -22,6 +22,7 @@ pub mod SetsTold
 pub mod FileActs
 pub mod FileRequests
 pub mod DumpsShown
+pub mod ToldImages
 pub mod NewestLast
 pub mod LastBoots
 pub mod BootLines

@@ -10,7 +10,7 @@ use Rattle.run_model.specs.World.{Node, Outturn, World, acted, empty_directory, 
 use Rattle.run_model.specs.Answers.{Serves, refused_before_reading, service}
 use Rattle.run_model.specs.Statements.{Step, stops_at}
 use Rattle.run_model.specs.StepLaws.{is_refusal}
-use Rattle.run_model.specs.Steps.{Choice, Cut, TaskEffect, Unpowered, Whole, WithoutMemory, ready_node, spoilt, task_effect, whole}
+use Rattle.run_model.specs.Steps.{Choice, Cut, TaskEffect, Unpowered, Whole, WithoutMemory, ready_node, task_effect, whole, with_unknown_volume}
 use Rattle.run_model.specs.Transcript.{Turn}
 use Rattle.run_model.proofs.CauseLemmas.{refuses_first}
 use Rattle.run_model.proofs.NodeLists.{put_node, some_is}
@@ -62,7 +62,7 @@ init_new w v node slots journal step m now = go (ended w v (At node (Init slots 
         whole_done o (Some refusal) first k =
             let same : line.Normal ≡ refusal = (same_last [] [] line.Normal refusal k).1 in
             let clash : true ≡ false = sym ((refuses_first w.shared n (Serves (Init slots journal))).says refusal first) ∙ ap is_refusal (sym same) in let no : ⊥ = cc in absurd no
-        whole_done o None first k = record { before = spoilt true (powered o (stops_at node w) n); slots = slots; journal = journal; quiet = refl; is = refl }
+        whole_done o None first k = record { before = with_unknown_volume true (powered o (stops_at node w) n); slots = slots; journal = journal; quiet = refl; is = refl }
 
         done : (c : Choice) → line.Normal ∷ [] ≡ (task_effect w.shared (stops_at node w) n (Serves (Init slots journal)) c).lines ++ (task_effect w.shared (stops_at node w) n (Serves (Init slots journal)) c).answer ∷ [] → IsNew (task_effect w.shared (stops_at node w) n (Serves (Init slots journal)) c).node
         done (Whole o) k = whole_done o (refused_before_reading w.shared n (service (Init slots journal))) refl k

@@ -17,7 +17,7 @@ use Rattle.run_model.specs.World.{World, Shared, Node, DiskCounts, Durable, Sett
 use Rattle.run_model.specs.Operations.{refused_if}
 use Rattle.run_model.specs.Answers as answers
 use Rattle.run_model.specs.Answers.{Row, Service, Task, Serves, Ticks, Takes, Hears, LosesLink, RunsDown, Restarts, task_service, service, refused_before_reading, powers, spoils, occupies, touches}
-use Rattle.run_model.specs.Steps.{Choice, Whole, WithoutMemory, Unpowered, Cut, TaskAllowed, task_effect, ready_node, node_after, node_after_rows, shared_then, shared_after_rows, rows_to_cut, act_begun, if_durable, spoilt, whole, begun, occupied}
+use Rattle.run_model.specs.Steps.{Choice, Whole, WithoutMemory, Unpowered, Cut, TaskAllowed, task_effect, ready_node, node_after, node_after_rows, shared_then, shared_after_rows, rows_to_cut, act_begun, if_durable, with_unknown_volume, whole, begun, occupied}
 use Rattle.run_model.specs.Statements.{Part, PartEffect, Begins, Phases, Step, Allowed, part_effect, stops_at, RoseAt, phases_of, refused_at_once, begun_with}
 use Rattle.run_model.specs.Transcript.{Entry, Legal, Turn as LineTurn, AreOpening}
 use Rattle.run_model.proofs.NodeLists.{clash, some_is}
@@ -158,14 +158,14 @@ powered_ascends outturn stops n h next = go outturn n.under_way next
     go Lost o k = h
     go (Half standing) o k = halved standing (aborted_prepared o n.durable)
 
-spoilt_ascends : (b : Bool) (n : Node) → NodeAscends n → NodeAscends (spoilt b n)
+spoilt_ascends : (b : Bool) (n : Node) → NodeAscends n → NodeAscends (with_unknown_volume b n)
 spoilt_ascends true n h = h
 spoilt_ascends false n h = h
 
 ready_ascends : (outturn : Outturn) (stops : ℕ) (e : Service) (n : Node) → NodeAscends n → IsNext n.durable.greatest n.under_way → NodeAscends (ready_node outturn stops e n)
 ready_ascends outturn stops e n h next = go (powers e)
   where
-    go : (b : Bool) → NodeAscends (if b then spoilt (spoils e) (powered outturn stops n) else n)
+    go : (b : Bool) → NodeAscends (if b then with_unknown_volume (spoils e) (powered outturn stops n) else n)
     go true = spoilt_ascends (spoils e) (powered outturn stops n) (powered_ascends outturn stops n h next)
     go false = h
 
@@ -184,14 +184,14 @@ powered_rests outturn stops n none = go outturn n.under_way none
     go Lost o k = record { up = refl; settled = refl; under = sym none }
     go (Half standing) o k = record { up = refl; settled = refl; under = sym none }
 
-spoilt_rests : (b : Bool) (n m : Node) → Rests n m → Rests n (spoilt b m)
+spoilt_rests : (b : Bool) (n m : Node) → Rests n m → Rests n (with_unknown_volume b m)
 spoilt_rests true n m h = record { up = h.up; settled = h.settled; under = h.under }
 spoilt_rests false n m h = h
 
 ready_rests : (outturn : Outturn) (stops : ℕ) (e : Service) (n : Node) → n.under_way ≡ None → Rests n (ready_node outturn stops e n)
 ready_rests outturn stops e n none = go (powers e)
   where
-    go : (b : Bool) → Rests n (if b then spoilt (spoils e) (powered outturn stops n) else n)
+    go : (b : Bool) → Rests n (if b then with_unknown_volume (spoils e) (powered outturn stops n) else n)
     go true = spoilt_rests (spoils e) n (powered outturn stops n) (powered_rests outturn stops n none)
     go false = record { up = refl; settled = refl; under = refl }
 
@@ -267,11 +267,11 @@ closing_ascends _ s n m first unused h = h
 pub ready_either : (outturn : Outturn) (stops : ℕ) (e : Service) (n : Node) → ((ready_node outturn stops e n).under_way ≡ None) ⊎ ((powers e ≡ false) × (ready_node outturn stops e n ≡ n))
 ready_either outturn stops e n = go (powers e) refl
   where
-    spoils_none : (b : Bool) → (spoilt b (powered outturn stops n)).under_way ≡ None
+    spoils_none : (b : Bool) → (with_unknown_volume b (powered outturn stops n)).under_way ≡ None
     spoils_none true = refl
     spoils_none false = refl
 
-    go : (b : Bool) → powers e ≡ b → ((if b then spoilt (spoils e) (powered outturn stops n) else n).under_way ≡ None) ⊎ ((powers e ≡ false) × ((if b then spoilt (spoils e) (powered outturn stops n) else n) ≡ n))
+    go : (b : Bool) → powers e ≡ b → ((if b then with_unknown_volume (spoils e) (powered outturn stops n) else n).under_way ≡ None) ⊎ ((powers e ≡ false) × ((if b then with_unknown_volume (spoils e) (powered outturn stops n) else n) ≡ n))
     go true is = inl (spoils_none (spoils e))
     go false is = inr (is, refl)
 
@@ -370,7 +370,7 @@ module _ (s : Shared) (stops : ℕ) (n : Node) (t : Task) (h : Kept s n) where
         each : EachRow IsNextRow rs ready
         each = cut_each IsNextRow (e.refused_after_reading s ready) (e.rows s ready) ready (all_next s ready t)
 
-  dead_kept : (b : Bool) → Kept (occupied e s) (spoilt b (unpowered stops n))
+  dead_kept : (b : Bool) → Kept (occupied e s) (with_unknown_volume b (unpowered stops n))
   dead_kept true = record { ascends = h.ascends; next = h.next; rests = λ up. let no : ⊥ = cc in absurd no; unused = λ off. let u = h.unused (or_parts s.in_use (occupies e) off).0 in (refl, u.1, u.2) }
   dead_kept false = record { ascends = h.ascends; next = h.next; rests = λ up. let no : ⊥ = cc in absurd no; unused = λ off. let u = h.unused (or_parts s.in_use (occupies e) off).0 in (refl, u.1, u.2) }
 

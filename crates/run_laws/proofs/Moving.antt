@@ -23,7 +23,7 @@ use Rattle.run_model.specs.World as world
 use Rattle.run_model.specs.World.{Shared, Node, File, Settlement, Durable, Act, Boots, ComesUp, Tables, Outturn, Lost, Taken, Half, acted, shared_after, shared_tabled, powered, unpowered, with_changed, with_half, with_settlement, settlement_of, aborted_prepared, is_durable, prepared_left, next_moment, tm_of}
 use Rattle.run_model.specs.Answers as answers
 use Rattle.run_model.specs.Answers.{Row, Service, Task, Serves, Ticks, Takes, Hears, LosesLink, RunsDown, Restarts, task_service, service, refused_before_reading, table_rows, told_if, told_rows, just, silent, branch_labelled, branch_named, powers, spoils}
-use Rattle.run_model.specs.Steps.{Choice, Whole, WithoutMemory, Unpowered, Cut, task_effect, ready_node, node_after, node_after_rows, shared_then, shared_after_rows, rows_if, rows_to_cut, spoilt, whole, begun}
+use Rattle.run_model.specs.Steps.{Choice, Whole, WithoutMemory, Unpowered, Cut, task_effect, ready_node, node_after, node_after_rows, shared_then, shared_after_rows, rows_if, rows_to_cut, with_unknown_volume, whole, begun}
 use Rattle.run_model.proofs.NodeLists.{clash}
 use Rattle.run_laws.proofs.EffectsTell.{IsStep}
 use Rattle.run_laws.proofs.Noting.{OpenIn, NotesIn, AllNote, row_notes}
@@ -355,14 +355,14 @@ powered_follows outturn stops n h = go outturn n.under_way h
     go Lost o k = record { past = λ id p. p; begun = λ j o. o }
     go (Half standing) o k = record { past = past_same n (powered (Half standing) stops (record n { under_way = o })) (halved standing (aborted_prepared o n.durable)) refl; begun = λ j o. o }
 
-spoilt_follows : (b : Bool) (n m : Node) → Follows n m → Follows n (spoilt b m)
+spoilt_follows : (b : Bool) (n m : Node) → Follows n m → Follows n (with_unknown_volume b m)
 spoilt_follows true n m f = record { past = f.past; begun = f.begun }
 spoilt_follows false n m f = f
 
 pub ready_follows : (outturn : Outturn) (stops : ℕ) (e : Service) (n : Node) → IsStep n.under_way → Follows n (ready_node outturn stops e n)
 ready_follows outturn stops e n h = go (powers e)
   where
-    go : (b : Bool) → Follows n (if b then spoilt (spoils e) (powered outturn stops n) else n)
+    go : (b : Bool) → Follows n (if b then with_unknown_volume (spoils e) (powered outturn stops n) else n)
     go true = spoilt_follows (spoils e) n (powered outturn stops n) (powered_follows outturn stops n h)
     go false = stays_so n
 

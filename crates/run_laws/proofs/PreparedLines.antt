@@ -4,6 +4,7 @@ use Rattle.std.specs.Prelude.{nat_lt, length}
 use Rattle.std.proofs.lemmas.Bool.{both_ways}
 use Rattle.vms_model.specs.Ids.{Id}
 use Rattle.vms_model.specs.Transactions.{Outcome, Commit, Abort, Reason}
+use Rattle.vms_model.specs.Limits.{message_limit}
 use Rattle.transcript_model.specs.Lines as line
 use Rattle.transcript_model.specs.Lines.{Line, Cause}
 use Rattle.commit_protocol.specs.Messages as message
@@ -17,7 +18,7 @@ use Rattle.commit_protocol.proofs.Lists.{in_right}
 use Rattle.log_laws.proofs.Reading.{prepared_is}
 use Rattle.log_laws.specs.Slots.{prepared_of, records_in}
 use Rattle.run_model.specs.World as world
-use Rattle.run_model.specs.World.{World, DiskCounts, Shared, Node, Settlement, Outturn, MayTurnOut, Tables, acted, message_limit, next_moment, powered, prepared_left, prepared_serials, shared_after, tm_of}
+use Rattle.run_model.specs.World.{World, DiskCounts, Shared, Node, Settlement, Outturn, MayTurnOut, Tables, acted, next_moment, powered, prepared_left, prepared_serials, shared_after, tm_of}
 use Rattle.run_model.specs.Answers as answers
 use Rattle.run_model.specs.Answers.{Row, Task, Serves, Ticks, Takes, Hears, LosesLink, RunsDown, Restarts, boot_rows, last_line, last_lines, left_active, powers, refused_before_reading, shown_by, shown_line, table_rows, task_service, unit_key}
 use Rattle.run_model.specs.Steps.{Choice, Cut, TaskAllowed, TaskEffect, Unpowered, Whole, WithoutMemory, begun, lines_of_rows, ready_node, rows_if, rows_to_cut, task_effect, whole}

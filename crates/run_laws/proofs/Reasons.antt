@@ -5,6 +5,7 @@ use Rattle.std.specs.Option.{option_map, option_and_then}
 use Rattle.std.specs.List.{list_any}
 use Rattle.vms_model.specs.Ids.{Id}
 use Rattle.vms_model.specs.Transactions.{Outcome, Commit, Abort, Reason, Aborted, Vetoed, SyncFail, Timeout, CommFail, SegFail}
+use Rattle.vms_model.specs.Limits.{message_limit}
 use Rattle.transcript_model.specs.Lines as line
 use Rattle.transcript_model.specs.Lines.{Line, Cause}
 use Rattle.script_model.specs.Statements.{Statement, At, Deliver, LinkDown, Settle, Request, Init, Boot, Create, SetFile, StartTrans, AddBranch, StartBranch, Records, Direct, EndBranch, EndTrans, AbortTrans, Inquire, DeclareRm, JoinRm, AckEvent, ForgetRm, GetDti, LmcpShow, LmcpDump, Dump, DumpJournal, DumpImages, Backup, Recover, Fuse, Crash, Clock, Reading, Blank, Says, Bad, Named}
@@ -19,7 +20,7 @@ use Rattle.commit_protocol.specs.Reasons.{Causes, MessageCauses, HasCause, HaveC
 use Rattle.commit_protocol.proofs.Causes.{causes}
 use Rattle.commit_protocol.specs.World.{In, undo_all}
 use Rattle.run_model.specs.World as world
-use Rattle.run_model.specs.World.{World, Shared, Node, DiskCounts, Act, Boots, Tables, acted, shared_after, next_moment, tm_of, message_limit, find_node, opened}
+use Rattle.run_model.specs.World.{World, Shared, Node, DiskCounts, Act, Boots, Tables, acted, shared_after, next_moment, tm_of, find_node, opened}
 use Rattle.run_model.specs.Answers as answers
 use Rattle.run_model.specs.Answers.{Row, Service, Task, Serves, Ticks, Takes, Hears, LosesLink, RunsDown, Restarts, task_service, service, refused_before_reading, told_if, told_rows, table_rows, begins, just, shown_by, settled_line, silent, branch_labelled, branch_named}
 use Rattle.run_model.specs.Steps.{Choice, Whole, WithoutMemory, Unpowered, Cut, task_effect, ready_node, node_after, lines_of_rows, rows_if, rows_to_cut, whole, begun}

@@ -20,7 +20,7 @@ use Rattle.commit_protocol.specs.World.{In}
 use Rattle.log_laws.specs.Slots.{prepared_of, records_in}
 use Rattle.run_model.specs.World.{World, Node, Act, DiskCounts, IsOpening, Outturn, Settlement, find_node, opened, powered, prepared_left, prepared_serials, with_node}
 use Rattle.run_model.specs.Answers.{Serves, Takes, refused_before_reading, service}
-use Rattle.run_model.specs.Steps.{Choice, Cut, TaskAllowed, TaskEffect, Unpowered, Whole, WithoutMemory, ready_node, spoilt, task_effect, whole}
+use Rattle.run_model.specs.Steps.{Choice, Cut, TaskAllowed, TaskEffect, Unpowered, Whole, WithoutMemory, ready_node, task_effect, whole, with_unknown_volume}
 use Rattle.run_model.specs.Statements.{Step, RoseAt, message_at, named_node, stops_at}
 use Rattle.run_model.specs.StepLaws.{TaskAt, is_refusal}
 use Rattle.run_model.specs.Transcript.{Entry, Legal, AreOpening, Turn}
@@ -212,7 +212,7 @@ module _ (nodes : List Node) (disks : List DiskCounts) (opening : AreOpening nod
             let clash : true ≡ false = sym ((refuses_first w.shared n (Serves (Init slots journal))).says refusal first) ∙ ap is_refusal same in let no : ⊥ = cc in absurd no
         made_whole o may None first k =
             init_done (recorded tid serial (Reason (e ∷ es)) (find_node serial.node nodes) (late (e ∷ es))) (recorded_keeps tid serial (Reason (e ∷ es)) (find_node serial.node nodes) (late (e ∷ es))) w.shared (stops_at serial.node w) n (Serves (Init slots journal)) told known.kept (h n found) (unused w.shared n known) slots journal false o may first (
-              made_once slots journal (spoilt true (powered o (stops_at serial.node w) n)) (init_ready (recorded tid serial (Reason (e ∷ es)) (find_node serial.node nodes) (late (e ∷ es))) (recorded_keeps tid serial (Reason (e ∷ es)) (find_node serial.node nodes) (late (e ∷ es))) w.shared (stops_at serial.node w) n (Serves (Init slots journal)) told known.kept (h n found) (unused w.shared n known) slots journal o may first).3,
+              made_once slots journal (with_unknown_volume true (powered o (stops_at serial.node w) n)) (init_ready (recorded tid serial (Reason (e ∷ es)) (find_node serial.node nodes) (late (e ∷ es))) (recorded_keeps tid serial (Reason (e ∷ es)) (find_node serial.node nodes) (late (e ∷ es))) w.shared (stops_at serial.node w) n (Serves (Init slots journal)) told known.kept (h n found) (unused w.shared n known) slots journal o may first).3,
               λ t is. let no : ⊥ = cc in absurd no,
               λ has. absurd (none_made slots has.0 has.1),
             )

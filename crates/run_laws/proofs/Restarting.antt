@@ -2,6 +2,7 @@
 use Rattle.std.proofs.Common.{◌≡◌, ℕ, zero, suc, ◌+◌, List, [], ◌∷◌, ◌++◌, map, take, inl, inr, Bool, true, false, ◌||◌, Option, Some, None, if◌then◌else◌, refl, sym, ◌∙◌, ap, subst}
 use Rattle.std.specs.Prelude.{nat_lt, length}
 use Rattle.vms_model.specs.Transactions.{Outcome, Commit, Abort, Reason, SegFail}
+use Rattle.vms_model.specs.Limits.{message_limit}
 use Rattle.transcript_model.specs.Lines as line
 use Rattle.transcript_model.specs.Lines.{Line, Cause}
 use Rattle.script_model.specs.Statements.{Boot}
@@ -12,7 +13,7 @@ use Rattle.commit_protocol.specs.Rows as rows
 use Rattle.commit_protocol.specs.Rows.{row}
 use Rattle.commit_protocol.specs.World.{In, undo_all}
 use Rattle.run_model.specs.World as world
-use Rattle.run_model.specs.World.{Shared, Node, Settlement, Outturn, MayTurnOut, Tables, acted, message_limit, next_moment, powered, shared_after, tm_of, unpowered}
+use Rattle.run_model.specs.World.{Shared, Node, Settlement, Outturn, MayTurnOut, Tables, acted, next_moment, powered, shared_after, tm_of, unpowered}
 use Rattle.run_model.specs.Answers as answers
 use Rattle.run_model.specs.Answers.{Row, Service, Task, Serves, Hears, RunsDown, Restarts, boot_rows, left_active, last_line, last_lines, refused_before_reading, settled_line, shown_by, shown_line, spoils, table_rows, task_service, unit_key}
 use Rattle.run_model.specs.Steps.{Choice, Cut, TaskAllowed, TaskEffect, Unpowered, Whole, WithoutMemory, begun, lines_of_rows, node_after, node_after_rows, occupied, ready_node, shared_after_rows, shared_then, rows_if, rows_to_cut, task_effect, whole}

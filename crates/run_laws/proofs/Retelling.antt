@@ -28,14 +28,9 @@ use Rattle.run_laws.proofs.Owed.{in_table, kept_of, owed, owed_keeps, owed_of, o
 use Rattle.run_laws.proofs.SoundWorlds.{IsSound, Tracked, legal_sound, opening_sound, sound_node, turn_tracked}
 
 pub owed_stay : OwedStay
-owed_stay nodes disks after before closing opening legal =
-    let r = split_legal (opened nodes disks) closing after before legal in
-    let sound = legal_sound (opened nodes disks) r.0 before (opening_sound nodes disks opening) r.1 in (
-      r.0,
-      r.1,
-      λ tid serial rm n m here there none h.
-          owed_of tid serial rm m (owed_on tid serial rm r.0 after closing sound r.2 none (λ x found. kept_of tid serial rm x (subst (IsOwed tid serial rm) (some_is n x (sym here ∙ found)) h)) m there),
-    )
+owed_stay nodes disks after before w closing opening legal path tid serial rm n m here there none h =
+    let sound = legal_sound (opened nodes disks) w before (opening_sound nodes disks opening) legal in
+    owed_of tid serial rm m (owed_on tid serial rm w after closing sound path none (λ x found. kept_of tid serial rm x (subst (IsOwed tid serial rm) (some_is n x (sym here ∙ found)) h)) m there)
 
 -- Lines of a DECLARE_RM.
 

@@ -4,13 +4,14 @@ use Rattle.std.specs.Prelude.{nat_le}
 use Rattle.std.specs.Option.{option_map}
 use Rattle.std.specs.Str.{bytes_eq}
 use Rattle.std.proofs.lemmas.List.{length-map}
+use Rattle.vms_model.specs.Limits.{label_limit}
 use Rattle.transcript_model.specs.Lines as line
 use Rattle.transcript_model.specs.Lines.{Line}
 use Rattle.script_model.specs.Statements.{Statement, At, Deliver, LinkDown, Settle, Request, Init, Boot, StartTrans, AddBranch, StartBranch, Records, EndBranch, EndTrans, AbortTrans, Inquire, JoinRm, AckEvent, GetDti, Fuse, Clock, Named, ByLabel, BySerial}
 use Rattle.commit_protocol.specs.Messages.{Message}
 use Rattle.run_model.specs.World.{World, Shared, Node, Label, find_node, find_label, opened}
 use Rattle.run_model.specs.Operations.{first_of, refused_if}
-use Rattle.run_model.specs.Answers.{Task, Serves, Takes, service, task_service, made_label, new_label, made_name, label_limit}
+use Rattle.run_model.specs.Answers.{Task, Serves, Takes, service, task_service, made_label, new_label, made_name}
 use Rattle.run_model.specs.Statements.{Step, named_node, other_node, message_at, refused_at_once}
 use Rattle.run_model.specs.Transcript.{Entry, Legal, Turn as LineTurn}
 use Rattle.run_model.specs.StepLaws.{TaskAt, is_refusal, is_sweep, task_of, refused_first}

@@ -5,6 +5,7 @@ use Rattle.std.specs.List.{AllByRecursion}
 use Rattle.std.proofs.Math.Seq.{take-length}
 use Rattle.vms_model.specs.Ids.{Id}
 use Rattle.vms_model.specs.Transactions.{Outcome, Commit, Abort, Reason, Aborted, SyncFail}
+use Rattle.vms_model.specs.Limits.{message_limit}
 use Rattle.transcript_model.specs.Lines as line
 use Rattle.transcript_model.specs.Lines.{Line, Cause}
 use Rattle.script_model.specs.Statements.{At, Request, Direct, EndTrans, AbortTrans}
@@ -17,7 +18,7 @@ use Rattle.commit_protocol.specs.Rows.{all_replied, all_taken, all_voted, begins
 use Rattle.commit_protocol.specs.Allowed.{is_prepared}
 use Rattle.commit_protocol.specs.World.{In}
 use Rattle.commit_protocol.proofs.Lists.{same_key-refl, same_key-true}
-use Rattle.run_model.specs.World.{World, Shared, Node, Tables, acted, next_id, find_node, next_moment, shared_after, tm_of, message_limit}
+use Rattle.run_model.specs.World.{World, Shared, Node, Tables, acted, next_id, find_node, next_moment, shared_after, tm_of}
 use Rattle.run_model.specs.Answers.{Serves, Service, service, refused_before_reading, branch_labelled, changes_at, directed, is_declared, is_first_active, is_open, just, made_label, powers, shown_by, table_rows, told_rows, unsettled_label}
 use Rattle.run_model.specs.Steps.{Choice, Whole, WithoutMemory, Unpowered, Cut, TaskAllowed, task_effect, rows_if, rows_to_cut, whole, begun, lines_of_rows}
 use Rattle.run_model.specs.Statements.{Step, stops_at, RoseAt}

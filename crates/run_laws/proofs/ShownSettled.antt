@@ -1,6 +1,7 @@
 -- What a line shows to be settled is settled, for good.
 use Rattle.std.proofs.Common.{◌≡◌, ℕ, ◌⊎◌, List, [], ◌∷◌, ◌++◌, inl, inr, take, Bool, true, false, Option, Some, None, refl, sym, ◌∙◌, ap, subst}
 use Rattle.vms_model.specs.Transactions.{Outcome, Commit, Abort, Reason, SegFail}
+use Rattle.vms_model.specs.Limits.{message_limit}
 use Rattle.transcript_model.specs.Lines as line
 use Rattle.transcript_model.specs.Lines.{Line, Cause}
 use Rattle.script_model.specs.Statements.{Statement, Reading, Blank, Says, Bad}
@@ -9,7 +10,7 @@ use Rattle.records_model.specs.Records.{Change}
 use Rattle.commit_protocol.specs.Table.{Key as BranchKey}
 use Rattle.commit_protocol.specs.World.{In}
 use Rattle.run_model.specs.World as world
-use Rattle.run_model.specs.World.{World, Shared, Node, File, Label, Settlement, Act, Boots, Creates, Tables, DiskCounts, acted, shared_after, next_moment, labelled, free_place, lowest_free, message_limit, find_node, opened}
+use Rattle.run_model.specs.World.{World, Shared, Node, File, Label, Settlement, Act, Boots, Creates, Tables, DiskCounts, acted, shared_after, next_moment, labelled, free_place, lowest_free, find_node, opened}
 use Rattle.run_model.specs.Answers as answers
 use Rattle.run_model.specs.Answers.{Row, Service, Task, Serves, Ticks, Takes, Hears, LosesLink, RunsDown, Restarts, task_service, service, refused_before_reading, told_if, told_rows, table_rows, begins, just, boot_rows, shown_by, settled_line, forgot_lines, acknowledged_lines, released_lines, table_lines, last_line, last_lines, branch_labelled, branch_named, creates, operated, directed, changes_at, keys_at, records_of, shown_record, entry_line, entry_lines, shown_line, prepared_line, prepared_lines, silent}
 use Rattle.run_model.specs.Steps.{Choice, Whole, WithoutMemory, Unpowered, Cut, TaskEffect, task_effect, ready_node, node_after, node_after_rows, lines_of_rows, rows_to_cut, whole, begun}

@@ -8,7 +8,7 @@ use Rattle.script_model.specs.Grammar.{reading}
 use Rattle.commit_protocol.specs.World.{In}
 use Rattle.run_model.specs.World.{World, Shared, Node, Settlement, Act, Tables, Directs, Outturn, Lost, Taken, Half, opened, find_node, with_node, acted, powered, unpowered, settled_more, settlement_of}
 use Rattle.run_model.specs.Answers.{Row, Service, Task, task_service, refused_before_reading, powers, spoils}
-use Rattle.run_model.specs.Steps.{Choice, Whole, WithoutMemory, Unpowered, Cut, task_effect, ready_node, node_after, node_after_rows, rows_to_cut, spoilt, whole, begun}
+use Rattle.run_model.specs.Steps.{Choice, Whole, WithoutMemory, Unpowered, Cut, task_effect, ready_node, node_after, node_after_rows, rows_to_cut, with_unknown_volume, whole, begun}
 use Rattle.run_model.specs.Statements.{Part, PartEffect, Begins, Phases, Step, part_effect, stops_at, phases_of, refused_at_once, begun_with}
 use Rattle.run_model.specs.Transcript.{Entry, Legal, Turn as LineTurn}
 use Rattle.run_model.proofs.TaskLemmas.{effect_name}
@@ -51,14 +51,14 @@ powered_grows outturn stops n = go outturn n.under_way
     go Lost o s i = i
     go (Half standing) o s i = i
 
-spoilt_grows : (b : Bool) (n : Node) → Grows n (spoilt b n)
+spoilt_grows : (b : Bool) (n : Node) → Grows n (with_unknown_volume b n)
 spoilt_grows true n s i = i
 spoilt_grows false n s i = i
 
 ready_grows : (outturn : Outturn) (stops : ℕ) (e : Service) (n : Node) → Grows n (ready_node outturn stops e n)
 ready_grows outturn stops e n = go (powers e)
   where
-    go : (b : Bool) → Grows n (if b then spoilt (spoils e) (powered outturn stops n) else n)
+    go : (b : Bool) → Grows n (if b then with_unknown_volume (spoils e) (powered outturn stops n) else n)
     go true s i = spoilt_grows (spoils e) (powered outturn stops n) s (powered_grows outturn stops n s i)
     go false s i = i
 
@@ -148,6 +148,10 @@ turn_stays w v Blank lines t = subst (Stay w) (sym t.1) (λ node s i. i)
 turn_stays w v (Says s) lines t = step_stays w v s lines t
 turn_stays w v (Bad column) lines t = absurd t
 
+path_stays : (w closing : World) (es : List Entry) → Legal w es closing → Stay w closing
+path_stays w closing [] legal = subst (Stay w) (sym legal) (λ node s i. i)
+path_stays w closing (e ∷ es) legal = λ node s i. turn_stays legal.0 closing (reading e.source.text) e.lines legal.2 node s (path_stays w legal.0 es legal.1 node s i)
+
 pub stays : (opening closing : World) (after before : List Entry) → Legal opening (after ++ before) closing → (w : World) × Legal opening before w × Stay w closing
 stays opening closing [] before legal = (closing, legal, λ node s i. i)
 stays opening closing (e ∷ after) before legal =
@@ -155,4 +159,4 @@ stays opening closing (e ∷ after) before legal =
     (r.0, r.1, λ node s i. turn_stays legal.0 closing (reading e.source.text) e.lines legal.2 node s (r.2 node s i))
 
 pub settlements_stay : SettlementsStay
-settlements_stay nodes disks after before closing opening legal = stays (opened nodes disks) closing after before legal
+settlements_stay nodes disks after before w closing opening legal path = path_stays w closing after path

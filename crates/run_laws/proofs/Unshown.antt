@@ -12,7 +12,7 @@ use Rattle.commit_protocol.proofs.Lists.{in_left, in_right}
 use Rattle.run_model.specs.World as world
 use Rattle.run_model.specs.World.{Shared, Node, Act, Directs, Settlement, Tables, Outturn, Lost, Taken, Half, acted, fallen, next_id, next_moment, powered, unpowered}
 use Rattle.run_model.specs.Answers.{Row, Service, Task, Serves, Restarts, powers, refused_before_reading, settled_line, spoils, task_service}
-use Rattle.run_model.specs.Steps.{Choice, Cut, Unpowered, Whole, WithoutMemory, act_begun, begun, lines_of_rows, node_after, node_after_rows, ready_node, rows_to_cut, spoilt, task_effect, whole}
+use Rattle.run_model.specs.Steps.{Choice, Cut, Unpowered, Whole, WithoutMemory, act_begun, begun, lines_of_rows, node_after, node_after_rows, ready_node, rows_to_cut, task_effect, whole, with_unknown_volume}
 use Rattle.run_laws.specs.Promises.{abort, commitment, shown_in}
 use Rattle.run_laws.proofs.EachRow.{EachRow, cut_each, is_quiet, take_each, task_each}
 use Rattle.run_laws.proofs.EffectsTell.{after_under, rows_under}
@@ -104,14 +104,14 @@ module _ (s : Settlement) (it : Line) (is_line : IsLineOf s it) where
       go None e j = inl j
       go (Some act) e j = elim (acted_in act (record n { under_way = Some act }) s j) [ inl k ↦ inl k | inr q ↦ inr (act, e, q) ]
 
-  spoilt_in : (b : Bool) (n : Node) → In s (spoilt b n).settled → In s n.settled
+  spoilt_in : (b : Bool) (n : Node) → In s (with_unknown_volume b n).settled → In s n.settled
   spoilt_in true n i = i
   spoilt_in false n i = i
 
   ready_in : (o : Outturn) (stops : ℕ) (e : Service) (n : Node) → In s (ready_node o stops e n).settled → In s n.settled ⊎ UnderAt n s
   ready_in o stops e n i = go (powers e) i
     where
-      go : (b : Bool) → In s (if b then spoilt (spoils e) (powered o stops n) else n).settled → In s n.settled ⊎ UnderAt n s
+      go : (b : Bool) → In s (if b then with_unknown_volume (spoils e) (powered o stops n) else n).settled → In s n.settled ⊎ UnderAt n s
       go true j = powered_in o stops n (spoilt_in (spoils e) (powered o stops n) j)
       go false j = inl j
 
@@ -184,14 +184,14 @@ module _ (s : Settlement) (it : Line) (is_line : IsLineOf s it) where
           powered_none Taken None = refl
           powered_none Taken (Some act) = refl
 
-          spoilt_none : (b : Bool) (m : Node) → m.under_way ≡ None → (spoilt b m).under_way ≡ None
+          spoilt_none : (b : Bool) (m : Node) → m.under_way ≡ None → (with_unknown_volume b m).under_way ≡ None
           spoilt_none true m q = q
           spoilt_none false m q = q
 
           ready_under : (ready_node o stops (task_service t) n).under_way ≡ Some act → n.under_way ≡ Some act
           ready_under e = go (powers (task_service t)) e
             where
-              go : (b : Bool) → (if b then spoilt (spoils (task_service t)) (powered o stops n) else n).under_way ≡ Some act → n.under_way ≡ Some act
+              go : (b : Bool) → (if b then with_unknown_volume (spoils (task_service t)) (powered o stops n) else n).under_way ≡ Some act → n.under_way ≡ Some act
               go true q = let clash : ◌≡◌ {A = Option Act} None (Some act) = sym (spoilt_none (spoils (task_service t)) (powered o stops n) (powered_none o n.under_way)) ∙ q in let no : ⊥ = cc in absurd no
               go false q = q
 
@@ -205,7 +205,7 @@ module _ (s : Settlement) (it : Line) (is_line : IsLineOf s it) where
   effect_under sh stops n t WithoutMemory u = inl u
   effect_under sh stops n t Unpowered (act, e, so) = inl (act, go (spoils (task_service t)) e, so)
     where
-      go : (b : Bool) → (spoilt b (unpowered stops n)).under_way ≡ Some act → n.under_way ≡ Some act
+      go : (b : Bool) → (with_unknown_volume b (unpowered stops n)).under_way ≡ Some act → n.under_way ≡ Some act
       go true q = q
       go false q = q
   effect_under sh stops n t (Cut o j false cause) (act, e, so) = let no : ⊥ = cc in absurd no

@@ -183,6 +183,6 @@ MayHave a m = (a.records ≡ m) ⊎ (a.given ≡ Some m)
 
 -- These entries lead from the opening world to this one, and tell this of the file: from the records that were committed at the opening, or none where the file
 -- was made since, or those that a recovery gave, each branch whose commitment is shown leaves what it had set, over all restarts of the node.
-abbrev pub Tells : List ℕ → List ℕ → World → List Entry → World → Account → Type 0
-Tells node file opening [] w a = (w ≡ opening) × (a ≡ record { records = committed_in node file opening; told = unsettled_in node file opening; left = []; given = None })
-Tells node file opening (e ∷ es) w a = (mid : World) × (before : Account) × Tells node file opening es mid before × Turn mid (reading e.source.text) e.lines w × (a ≡ account_after node file es mid w (reading e.source.text) e.lines before)
+abbrev pub HasAccount : List ℕ → List ℕ → World → List Entry → World → Account → Type 0
+HasAccount node file opening [] w a = (w ≡ opening) × (a ≡ record { records = committed_in node file opening; told = unsettled_in node file opening; left = []; given = None })
+HasAccount node file opening (e ∷ es) w a = (mid : World) × (before : Account) × HasAccount node file opening es mid before × Turn mid (reading e.source.text) e.lines w × (a ≡ account_after node file es mid w (reading e.source.text) e.lines before)

@@ -183,10 +183,10 @@ OneNodeAgrees = (n : Node) (es : List Entry) → IsOpening n → IsOfOneNode n �
 abbrev pub SettlesOnce : Type 0
 SettlesOnce = InAllRuns (λ opening es closing. (node : List ℕ) → SettledOnce (settlements_of node closing) × Descends (settlements_of node closing))
 
--- What was settled in the world after some entries is settled so from then on.
+-- What was settled in a world to which some entries lead is settled so in each to which later ones lead from there.
 abbrev pub SettlementsStay : Type 0
-SettlementsStay = (nodes : List Node) (disks : List DiskCounts) (after before : List Entry) (closing : World) → AreOpening nodes → Legal (opened nodes disks) (after ++ before) closing →
-    (w : World) × Legal (opened nodes disks) before w × ((node : List ℕ) (s : Settlement) → In s (settlements_of node w) → In s (settlements_of node closing))
+SettlementsStay = (nodes : List Node) (disks : List DiskCounts) (after before : List Entry) (w closing : World) → AreOpening nodes → Legal (opened nodes disks) before w → Legal w after closing →
+    (node : List ℕ) (s : Settlement) → In s (settlements_of node w) → In s (settlements_of node closing)
 
 -- What a line shows to be settled in its statement is settled so by a node, with its transaction, branch, outcome, reason and moment, from then on and for good.
 abbrev pub ShownAreSettled : Type 0

@@ -1,5 +1,5 @@
 -- What a resource manager is owed: a committed record of its branch stands in the log of its node until it forgets, and tells it of the commitment at each DECLARE_RM.
-use Rattle.std.specs.Prelude.{◌≡◌, ◌⊎◌, ℕ, List, [], ◌∷◌, ◌++◌, Some}
+use Rattle.std.specs.Prelude.{◌≡◌, ◌⊎◌, ℕ, List, [], ◌∷◌, Some}
 use Rattle.vms_model.specs.Ids.{Id}
 use Rattle.transcript_model.specs.Lines as line
 use Rattle.transcript_model.specs.Lines.{Line}
@@ -30,10 +30,11 @@ abbrev pub NoneForget : (node : List ℕ) → (rm : Name) → List Entry → Typ
 NoneForget node rm [] = Unit {0}
 NoneForget node rm (e ∷ es) = (MayForget node rm (reading e.source.text) → ⊥) × NoneForget node rm es
 
--- What a manager is owed in the world after some entries it is owed from then on, over whatever statements, failures of disks and restarts, until it forgets.
+-- What a manager is owed in a world to which some entries lead it is owed in each to which later ones lead from there, over whatever statements, failures of disks and
+-- restarts, until it forgets.
 abbrev pub OwedStay : Type 0
-OwedStay = (nodes : List Node) (disks : List DiskCounts) (after before : List Entry) (closing : World) → AreOpening nodes → Legal (opened nodes disks) (after ++ before) closing →
-    (w : World) × Legal (opened nodes disks) before w × ((tid serial : Id) (rm : Name) (n m : Node) → find_node serial.node w.nodes ≡ Some n → find_node serial.node closing.nodes ≡ Some m → NoneForget serial.node rm after → IsOwed tid serial rm n → IsOwed tid serial rm m)
+OwedStay = (nodes : List Node) (disks : List DiskCounts) (after before : List Entry) (w closing : World) → AreOpening nodes → Legal (opened nodes disks) before w → Legal w after closing →
+    (tid serial : Id) (rm : Name) (n m : Node) → find_node serial.node w.nodes ≡ Some n → find_node serial.node closing.nodes ≡ Some m → NoneForget serial.node rm after → IsOwed tid serial rm n → IsOwed tid serial rm m
 
 -- A commitment of which a manager was told as it was declared it is told at each later DECLARE_RM that succeeds, until it forgets.
 abbrev pub Retells : List Entry → Type 0

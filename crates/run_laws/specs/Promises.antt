@@ -25,7 +25,7 @@ use Rattle.run_model.specs.Operations.{is_change}
 use Rattle.run_model.specs.Answers.{last_lines}
 use Rattle.run_model.specs.Statements.{RoseAt, Step}
 use Rattle.run_model.specs.Transcript.{Entry, Legal, Turn}
-use Rattle.run_laws.specs.Accounts.{Account, MayHave, Tells, account_behind, broken_id, committed_in, is_up_in, made_anew}
+use Rattle.run_laws.specs.Accounts.{Account, HasAccount, MayHave, account_behind, broken_id, committed_in, is_up_in, made_anew}
 use Rattle.run_laws.specs.Naming.{IdsDiffer, IsNamed, ids_told}
 use Rattle.run_laws.specs.Causes.{AbortCause, CommitCause, DeliversTo, HasBegun, HasJoined, IsDirect, IsMissing, IsWhole, Replies, WasAsked, WasBegun, WasEnded, WasSent}
 use Rattle.run_laws.specs.SaidLaws.{SaidThere}
@@ -452,17 +452,17 @@ AreLastApart (n ∷ ns) = IsLastApart n × AreLastApart ns
 -- what was committed is there, and nothing else is;
 abbrev pub DumpsShow : World → List Entry → Type 0
 DumpsShow opening es = (before : List Entry) (node file : List ℕ) (events : List Line) (count : ℕ) → SaidThere es before (At node (Dump file)) events (line.NormalCount count) →
-    (mid : World) × (a : Account) × Tells node file opening before mid a × Shows events count a.records
+    (mid : World) × (a : Account) × HasAccount node file opening before mid a × Shows events count a.records
 
 -- and so by every path of worlds by which those entries lead to one in which the dump may show this.
 abbrev pub DumpsShowByAll : World → List Entry → Type 0
 DumpsShowByAll opening es = (before : List Entry) (node file : List ℕ) (events : List Line) (count : ℕ) → SaidThere es before (At node (Dump file)) events (line.NormalCount count) →
-    (mid new : World) (a : Account) → Tells node file opening before mid a → Step mid (At node (Dump file)) (events ++ line.NormalCount count ∷ []) new → Shows events count a.records
+    (mid new : World) (a : Account) → HasAccount node file opening before mid a → Step mid (At node (Dump file)) (events ++ line.NormalCount count ∷ []) new → Shows events count a.records
 
 -- A recovery in which the disk failed has happened whole or not at all. Behind each entry that leaves the node of a file up, the records that are committed of the file
 -- are those that are told of it; or, where such a recovery is in doubt, just those that it was to give. So it is by every path of worlds by which these entries lead on.
 abbrev pub RecoveriesAreWhole : World → List Entry → Type 0
-RecoveriesAreWhole opening es = (later before : List Entry) (e : Entry) → es ≡ later ++ e ∷ before → (node file : List ℕ) (mid new closing : World) (a : Account) → Tells node file opening before mid a → Turn mid (reading e.source.text) e.lines new →
+RecoveriesAreWhole opening es = (later before : List Entry) (e : Entry) → es ≡ later ++ e ∷ before → (node file : List ℕ) (mid new closing : World) (a : Account) → HasAccount node file opening before mid a → Turn mid (reading e.source.text) e.lines new →
     Legal new later closing → is_up_in node new ≡ true → MayHave (account_behind node file before mid (reading e.source.text) e.lines a) (committed_in node file new)
 
 -- What is kept by the entries of a legal transcript, which lead from the opening world to the closing one, whatever its volumes have.

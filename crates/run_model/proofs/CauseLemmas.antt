@@ -6,6 +6,7 @@ use Rattle.std.specs.List.{list_any}
 use Rattle.vms_model.specs.Ids.{Id}
 use Rattle.vms_model.specs.Keys.{Key, Number, Text}
 use Rattle.vms_model.specs.Transactions.{Commit, Abort}
+use Rattle.vms_model.specs.Limits.{boot_limit, moment_limit, position_limit}
 use Rattle.transcript_model.specs.Lines as line
 use Rattle.transcript_model.specs.Lines.{Line, Cause}
 use Rattle.script_model.specs.Statements.{Request, Init, Boot, Create, SetFile, StartTrans, AddBranch, StartBranch, Records, Direct, EndBranch, EndTrans, AbortTrans, Inquire, DeclareRm, JoinRm, AckEvent, ForgetRm, GetDti, Dump, DumpImages, Backup, Recover, Recovery, Side, Setting, RecoveryUnits, NoRecoveryUnits, Images, NoImages, Named, ByLabel, BySerial, Operation, Put, Update, Delete, Truncate, Get, Next}
@@ -21,8 +22,8 @@ use Rattle.commit_protocol.specs.Rows as rows
 use Rattle.commit_protocol.specs.Allowed.{is_working, may_end}
 use Rattle.run_model.specs.World.{Shared, Node, File, Organization, Sequential, Relative, Indexed, Volume, Sound, Faulty, Barred, Unknown, NoRing, NoIndex, AllBoots, LateMoment, FarPosition, Label, find_file, find_label, labelled, next_id, serial_labelled, serials_of, state_of, tm_of}
 use Rattle.run_model.specs.Locks.{holder}
-use Rattle.run_model.specs.Operations.{first_of, refused_if, first_behind, in_order, record_in, standing_of, count_of, key_refused, place_refused, delete_refused, truncate_refused, after_refused, form_refused, keys_asked, keys_found, put_refused, other_refused, update_refused, missing, at_end, data_refused, put_answer, found_answer, next_answer, operation_answer}
-use Rattle.run_model.specs.Answers.{bar_line, Task, Serves, Restarts, service, task_service, Known, Unsettled, Recorded, Unheard, known, known_branch, known_manager, awaited_reply, declared_manager, is_declared, has_joined, is_joinable, more_managers, authorised, boot_limit, bootable, branch_labelled, branch_named, changes_at, end_answer, found_refused, held_against, in_state, is_file_form, is_first_active, is_in_doubt, is_marked, is_open, is_volume_form, journal_full, keys_refused, last_position, made_label, made_name, moment_limit, more_bids, more_branches, more_changes, blocks_of, blocks_recovered, file_told, full_line, has_journal, images_full, recovery_refused, refusal_line, setting_full, setting_refused, volume_full, way_of, needs_unit, new_file, new_label, of_file, of_label, operation_told, position_limit, refused_before_reading, seconds_refused, there_is_file, unchanged_file, unsettled, unsettled_label}
+use Rattle.run_model.specs.Operations.{first_of, refused_if, first_behind, in_order, record_in, current_records, count_of, key_refused, place_refused, delete_refused, truncate_refused, after_refused, form_refused, keys_asked, keys_found, put_refused, other_refused, update_refused, missing, at_end, data_refused, put_answer, found_answer, next_answer, operation_answer}
+use Rattle.run_model.specs.Answers.{bar_line, Task, Serves, Restarts, service, task_service, Known, Unsettled, Recorded, Unheard, known, known_branch, known_manager, awaited_reply, declared_manager, is_declared, has_joined, is_joinable, more_managers, authorised, bootable, branch_labelled, branch_named, changes_at, end_answer, found_refused, held_against, in_state, is_file_form, is_first_active, is_in_doubt, is_marked, is_open, is_volume_form, journal_full, keys_refused, last_position, made_label, made_name, more_bids, more_branches, more_changes, blocks_of, blocks_recovered, file_told, full_line, has_journal, images_full, recovery_refused, refusal_line, setting_full, setting_refused, volume_full, way_of, needs_unit, new_file, new_label, of_file, of_label, operation_told, refused_before_reading, seconds_refused, there_is_file, unchanged_file, unsettled, unsettled_label}
 use Rattle.run_model.specs.StepLaws.{is_refusal}
 
 -- a line that may stand here passes this test
@@ -229,7 +230,7 @@ refuses_end None = says_some is_by_more _ refl
 refuses_end (Some e) = says_none is_by_more
 
 refuses_data : (f : File) (op : Operation) → RefusesByMore (data_refused f op)
-refuses_data f (Put number bytes) = refuses_put f.organization (standing_of f) number bytes
+refuses_data f (Put number bytes) = refuses_put f.organization (current_records f) number bytes
 refuses_data f (Update key bytes) = refuses_update f.organization key (record_in f key) bytes
 refuses_data f (Delete key) = refuses_missing (record_in f key)
 refuses_data f (Truncate number) = says_if is_by_more _ _ refl

@@ -10,7 +10,7 @@ use Rattle.script_model.specs.Statements.{Statement, At, Deliver, LinkDown, Sett
 use Rattle.script_model.specs.Grammar.{reading}
 use Rattle.run_model.specs.World.{World, Shared, Node, DiskCounts, Act, Boots, Outturn, Lost, Taken, Half, MayTurnOut, aborted_prepared, opened, find_file, find_node, with_node, acted, powered}
 use Rattle.run_model.specs.Answers.{Row, Service, Task, Serves, Ticks, Hears, LosesLink, RunsDown, Restarts, task_service, blocks_recovered, refused_before_reading, prepared_lines, powers, spoils, volume_full}
-use Rattle.run_model.specs.Steps.{Choice, Whole, WithoutMemory, Unpowered, Cut, TaskEffect, TaskAllowed, task_effect, ready_node, node_after, node_after_rows, lines_of_rows, refused, succeeded, begun, whole, spoilt}
+use Rattle.run_model.specs.Steps.{Choice, Whole, WithoutMemory, Unpowered, Cut, TaskEffect, TaskAllowed, task_effect, ready_node, node_after, node_after_rows, lines_of_rows, refused, succeeded, begun, whole, with_unknown_volume}
 use Rattle.run_model.specs.Statements.{Part, PartEffect, Parts, Phases, Phase, Onward, Then, Allowed, Begins, Step, NoneFalls, part_effect, put_into, stops_at, RoseAt, phases_of, refused_at_once, begun_with}
 use Rattle.run_model.specs.Transcript.{Entry, Legal, Turn as LineTurn, AreOpening}
 use Rattle.run_model.specs.StepLaws.{CanRise, IsDetermined, IsTask, TaskAt, task_of, task_of_part, lacked_memory, lacking}
@@ -58,8 +58,8 @@ same_powered (Half standing) stops n e may =
 same_ready : (outturn : Outturn) (stops : ℕ) (e : Service) (n : Node) → n.under_way ≡ None → MayTurnOut n outturn → ready_node outturn stops e n ≡ ready_node Lost stops e n
 same_ready outturn stops e n quiet may = go (powers e)
   where
-    go : (b : Bool) → (if b then spoilt (spoils e) (powered outturn stops n) else n) ≡ (if b then spoilt (spoils e) (powered Lost stops n) else n)
-    go true = ap (spoilt (spoils e)) (same_powered outturn stops n quiet may)
+    go : (b : Bool) → (if b then with_unknown_volume (spoils e) (powered outturn stops n) else n) ≡ (if b then with_unknown_volume (spoils e) (powered Lost stops n) else n)
+    go true = ap (with_unknown_volume (spoils e)) (same_powered outturn stops n quiet may)
     go false = refl
 
 -- What is so done is done whole, or memory is missing.
@@ -90,14 +90,14 @@ rows_quiet : (rs : List Row) (n : Node) → n.under_way ≡ None → (node_after
 rows_quiet [] n e = e
 rows_quiet (r ∷ rs) n e = rows_quiet rs (node_after r.act n) (after_quiet r.act n e)
 
-spoilt_quiet : (b : Bool) (n : Node) → n.under_way ≡ None → (spoilt b n).under_way ≡ None
+spoilt_quiet : (b : Bool) (n : Node) → n.under_way ≡ None → (with_unknown_volume b n).under_way ≡ None
 spoilt_quiet true n e = e
 spoilt_quiet false n e = e
 
 ready_quiet : (stops : ℕ) (e : Service) (n : Node) → n.under_way ≡ None → (ready_node Lost stops e n).under_way ≡ None
 ready_quiet stops e n quiet = go (powers e)
   where
-    go : (b : Bool) → (if b then spoilt (spoils e) (powered Lost stops n) else n).under_way ≡ None
+    go : (b : Bool) → (if b then with_unknown_volume (spoils e) (powered Lost stops n) else n).under_way ≡ None
     go true = spoilt_quiet (spoils e) (powered Lost stops n) refl
     go false = quiet
 

@@ -76,7 +76,7 @@ abbrev last_moves : List Move
 last_moves = says (StartTrans (codes "T") None) ∷ says (Records (codes "T") (codes "G") (Get (Number 4))) ∷ says (Direct (codes "F") (Put (Some 1) (codes "a"))) ∷ []
 
 abbrev last_lines : List (List Line)
-last_lines = (line.NormalId (id 1 2) ∷ []) ∷ (line.NotMarked ∷ []) ∷ (line.NeedsUnit ∷ []) ∷ []
+last_lines = (line.NormalId (id 1 2) ∷ []) ∷ (line.NotForUnits ∷ []) ∷ (line.NeedsUnit ∷ []) ∷ []
 
 last_play : (bytes : List ℕ) → played (put_g bytes) last_moves ≡ last_lines
 unfolding same_name same_id same_key

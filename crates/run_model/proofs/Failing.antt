@@ -10,7 +10,7 @@ use Rattle.run_model.specs.World.{World, Node, DiskCounts, Outturn, MayTurnOut, 
 use Rattle.run_model.specs.Answers.{Task}
 use Rattle.run_model.specs.Steps.{Choice, TaskEffect, task_effect, count_of}
 use Rattle.run_model.specs.Statements.{Part, PartEffect, Begins, Phases, Step, named_node, other_node, message_at, part_effect, put_into, stops_at, RoseAt, phases_of, refused_at_once, begun_with}
-use Rattle.run_model.specs.StepLaws.{CanRise, EndsWhole, FailurePutsDown, IsTask, SuccessIsGiven, is_refusal, may_lack_memory, readied, refused_first, refused_then}
+use Rattle.run_model.specs.StepLaws.{CanRise, EndsWhole, FailurePutsDown, IsTask, SuccessIsGiven, is_refusal, may_lack_memory, ready_in_world, refused_first, refused_then}
 use Rattle.run_model.proofs.NodeLists.{clash, found_name, put_node, put_disk, some_is}
 use Rattle.run_model.proofs.CauseLemmas.{Refuses, is_success, says_none, says_some, says_if, says_first, says_case, refuses_first, refuses_then, task_succeeds, success_no_failure}
 use Rattle.run_model.proofs.TaskLemmas.{Outcome, First, Late, Success, Lacking, Failing, outcome, effect_name}
@@ -60,9 +60,9 @@ task_down : (w : World) (node : List ℕ) (t : Task) (n : Node) (after : List Di
     Outcome w.shared (stops_at node w) n t (λ cause. RoseAt w node cause after) e → IsDown w after cause node e.lines (put_into w node e).world
 task_down w node t n after e cause found named is (First refusal first f) = absurd (not_broken refusal cause ((refuses_first w.shared n t).says refusal first) (sym (ap (λ (x : TaskEffect). x.answer) f) ∙ is))
 task_down w node t n after e cause found named is (Late outturn refusal may first late f) =
-    absurd (not_broken refusal cause ((refuses_then w.shared (readied outturn w node t n) t).says refusal late) (sym (ap (λ (x : TaskEffect). x.answer) f) ∙ is))
+    absurd (not_broken refusal cause ((refuses_then w.shared (ready_in_world outturn w node t n) t).says refusal late) (sym (ap (λ (x : TaskEffect). x.answer) f) ∙ is))
 task_down w node t n after e cause found named is (Success outturn may first late f) =
-    absurd (success_no_failure cause (subst (λ l. is_success l ≡ true) (sym (ap (λ (x : TaskEffect). x.answer) f) ∙ is) (task_succeeds w.shared (readied outturn w node t n) t)))
+    absurd (success_no_failure cause (subst (λ l. is_success l ≡ true) (sym (ap (λ (x : TaskEffect). x.answer) f) ∙ is) (task_succeeds w.shared (ready_in_world outturn w node t n) t)))
 task_down w node t n after e cause found named is (Lacking first takes f) = absurd (not_broken line.NoMemory cause refl (sym (ap (λ (x : TaskEffect). x.answer) f) ∙ is))
 task_down w node t n after e cause found named is (Failing other shown true first rises shows down answers ends) = let none : line.Normal ≡ line.Broken cause = sym answers ∙ is in let no : ⊥ = cc in absurd no
 task_down w node t n after e cause found named is (Failing other shown false first rises shows down answers ends) =
@@ -88,7 +88,7 @@ outcome_not_broken : (w : World) (node : List ℕ) (t : Task) (n : Node) (rises 
 outcome_not_broken w node t n rises e cause on is (First refusal first f) = clash _ (ap (λ (x : TaskEffect). x.ends) f) on
 outcome_not_broken w node t n rises e cause on is (Late outturn refusal may first late f) = clash _ (ap (λ (x : TaskEffect). x.ends) f) on
 outcome_not_broken w node t n rises e cause on is (Success outturn may first late f) =
-    success_no_failure cause (subst (λ l. is_success l ≡ true) (sym (ap (λ (x : TaskEffect). x.answer) f) ∙ is) (task_succeeds w.shared (readied outturn w node t n) t))
+    success_no_failure cause (subst (λ l. is_success l ≡ true) (sym (ap (λ (x : TaskEffect). x.answer) f) ∙ is) (task_succeeds w.shared (ready_in_world outturn w node t n) t))
 outcome_not_broken w node t n rises e cause on is (Lacking first takes f) = clash _ (ap (λ (x : TaskEffect). x.ends) f) on
 outcome_not_broken w node t n rises e cause on is (Failing other shown true first rises_so shows down answers ends) = let none : line.Normal ≡ line.Broken cause = sym answers ∙ is in let no : ⊥ = cc in no
 outcome_not_broken w node t n rises e cause on is (Failing other shown false first rises_so shows down answers ends) = clash _ ends on
@@ -214,13 +214,13 @@ first_refused w v node t n lines refusal e found is shows goes (Failing cause sh
 -- what is not
 given : (w v : World) (node : List ℕ) (t : Task) (n : Node) (lines : List Line) (e : TaskEffect) → find_node node w.nodes ≡ Some n → refused_first w n t ≡ None → lines ≡ e.lines ++ e.answer ∷ [] → v ≡ record (put_into w node e).world { disks = v.disks } →
     v.disks ≡ w.disks → CanRise w.disks → Outcome w.shared (stops_at node w) n t (λ cause. RoseAt w node cause v.disks) e →
-    ((outturn : Outturn) × MayTurnOut n outturn × EndsWhole w node t (readied outturn w node t n) (refused_then w (readied outturn w node t n) t) lines v)
+    ((outturn : Outturn) × MayTurnOut n outturn × EndsWhole w node t (ready_in_world outturn w node t n) (refused_then w (ready_in_world outturn w node t n) t) lines v)
     ⊎ ((lines ≡ NoMemory ∷ []) × (may_lack_memory n t ≡ true) × (v ≡ record w { disks = v.disks }))
 given w v node t n lines e found is shows goes same h (First refusal first f) = absurd (none_some refusal _ is first)
 given w v node t n lines e found is shows goes same h (Late outturn refusal may first late f) =
-    inl (outturn, may, subst (λ o. EndsWhole w node t (readied outturn w node t n) o lines v) (sym late) (shows ∙ ap (λ (x : TaskEffect). x.lines ++ x.answer ∷ []) f, goes ∙ left_by w node n (readied outturn w node t n) refusal e v.disks f))
+    inl (outturn, may, subst (λ o. EndsWhole w node t (ready_in_world outturn w node t n) o lines v) (sym late) (shows ∙ ap (λ (x : TaskEffect). x.lines ++ x.answer ∷ []) f, goes ∙ left_by w node n (ready_in_world outturn w node t n) refusal e v.disks f))
 given w v node t n lines e found is shows goes same h (Success outturn may first late f) =
-    inl (outturn, may, subst (λ o. EndsWhole w node t (readied outturn w node t n) o lines v) (sym late) (shows ∙ ap (λ (x : TaskEffect). x.lines ++ x.answer ∷ []) f, goes ∙ ap (λ (x : TaskEffect). record (put_into w node x).world { disks = v.disks }) f))
+    inl (outturn, may, subst (λ o. EndsWhole w node t (ready_in_world outturn w node t n) o lines v) (sym late) (shows ∙ ap (λ (x : TaskEffect). x.lines ++ x.answer ∷ []) f, goes ∙ ap (λ (x : TaskEffect). record (put_into w node x).world { disks = v.disks }) f))
 given w v node t n lines e found is shows goes same h (Lacking first takes f) =
     inr (shows ∙ ap (λ (x : TaskEffect). x.lines ++ x.answer ∷ []) f, takes, goes ∙ left_by w node n n line.NoMemory e v.disks f ∙ left_same w node n v.disks found)
 given w v node t n lines e found is shows goes same h (Failing cause shown goes_on first rises told down answers ends) = absurd (not_risen w node cause v.disks same h rises)
@@ -228,7 +228,7 @@ given w v node t n lines e found is shows goes same h (Failing cause shown goes_
 task_given : (w v : World) (s : Statement) (node : List ℕ) (t : Task) (n : Node) (lines : List Line) → IsTask w s node t n → Step w s lines v →
     ((refusal : Line) → refused_first w n t ≡ Some refusal → (lines ≡ refusal ∷ []) × (v ≡ record w { disks = v.disks }))
     × (v.disks ≡ w.disks → CanRise w.disks → refused_first w n t ≡ None →
-    ((outturn : Outturn) × MayTurnOut n outturn × EndsWhole w node t (readied outturn w node t n) (refused_then w (readied outturn w node t n) t) lines v)
+    ((outturn : Outturn) × MayTurnOut n outturn × EndsWhole w node t (ready_in_world outturn w node t n) (refused_then w (ready_in_world outturn w node t n) t) lines v)
     ⊎ ((lines ≡ NoMemory ∷ []) × (may_lack_memory n t ≡ true) × (v ≡ record w { disks = v.disks })))
 task_given w v s node t n lines task step =
     let u = turn w v s node t n lines task step in

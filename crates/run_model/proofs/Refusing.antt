@@ -8,7 +8,7 @@ use Rattle.run_model.specs.Answers.{Task, Serves, Ticks, LosesLink, Service, tas
 use Rattle.run_model.specs.Operations.{first_of, refused_if}
 use Rattle.run_model.specs.Steps.{Choice, TaskEffect, task_effect, ready_node, refused}
 use Rattle.run_model.specs.Statements.{Part, Does, PartEffect, Onward, Parts, Phases, Phase, Then, Allowed, AllowedAt, Begins, Step, part_effect, put_into, where_up, stops_at, RoseAt, phases_of, refused_at_once, begun_with}
-use Rattle.run_model.specs.StepLaws.{EndsSettling, IsRefusedSo, IsTask, RefusalsLeaveWorld, RefusesIn, is_refusal, is_sweep, readied, with_ready}
+use Rattle.run_model.specs.StepLaws.{EndsSettling, IsRefusedSo, IsTask, RefusalsLeaveWorld, RefusesIn, is_refusal, is_sweep, ready_in_world, with_ready}
 use Rattle.run_model.proofs.NodeLists.{clash, put_node, put_same}
 use Rattle.run_model.proofs.CauseLemmas.{task_succeeds, success_no_refusal}
 use Rattle.run_model.proofs.TaskLemmas.{Outcome, First, Late, Success, Lacking, Failing, outcome, ready_name}
@@ -55,10 +55,10 @@ refused_so w v node t n answer e found is said goes (First refusal first f) =
     (ap (λ (x : TaskEffect). x.lines) f, inl (first ∙ ap Some (sym (said ∙ ap (λ (x : TaskEffect). x.answer) f)), goes ∙ left_by w node n n refusal e v.disks f ∙ left_same w node n v.disks found))
 refused_so w v node t n answer e found is said goes (Late outturn refusal may first late f) = (
   ap (λ (x : TaskEffect). x.lines) f,
-  inr (inr (first, outturn, may, late ∙ ap Some (sym (said ∙ ap (λ (x : TaskEffect). x.answer) f)), goes ∙ left_by w node n (readied outturn w node t n) refusal e v.disks f, λ off. not_ready outturn (stops_at node w) (task_service t) n off)),
+  inr (inr (first, outturn, may, late ∙ ap Some (sym (said ∙ ap (λ (x : TaskEffect). x.answer) f)), goes ∙ left_by w node n (ready_in_world outturn w node t n) refusal e v.disks f, λ off. not_ready outturn (stops_at node w) (task_service t) n off)),
 )
 refused_so w v node t n answer e found is said goes (Success outturn may first late f) =
-    absurd (no_refusal answer _ is (said ∙ ap (λ (x : TaskEffect). x.answer) f) (success_no_refusal _ (task_succeeds w.shared (readied outturn w node t n) t)))
+    absurd (no_refusal answer _ is (said ∙ ap (λ (x : TaskEffect). x.answer) f) (success_no_refusal _ (task_succeeds w.shared (ready_in_world outturn w node t n) t)))
 refused_so w v node t n answer e found is said goes (Lacking first takes f) =
     (ap (λ (x : TaskEffect). x.lines) f, inr (inl (first, said ∙ ap (λ (x : TaskEffect). x.answer) f, takes, goes ∙ left_by w node n n line.NoMemory e v.disks f ∙ left_same w node n v.disks found)))
 refused_so w v node t n answer e found is said goes (Failing cause shown true first rises shows down answers ends) = absurd (no_refusal answer line.Normal is (said ∙ answers) refl)
@@ -86,9 +86,9 @@ task_ends : (w : World) (node : List ℕ) (t : Task) (n : Node) (rises : Cause �
 task_ends w node t n rises e found is (First refusal first f) =
     subst (λ (x : TaskEffect). EndsSettling (put_into w node x).world x.answer) (sym f) (here_refuses w node t n n refusal found refl (inl first))
 task_ends w node t n rises e found is (Late outturn refusal may first late f) =
-    subst (λ (x : TaskEffect). EndsSettling (put_into w node x).world x.answer) (sym f) (here_refuses w node t n (readied outturn w node t n) refusal found (ready_name outturn (stops_at node w) (task_service t) n) (inr (inl late)))
+    subst (λ (x : TaskEffect). EndsSettling (put_into w node x).world x.answer) (sym f) (here_refuses w node t n (ready_in_world outturn w node t n) refusal found (ready_name outturn (stops_at node w) (task_service t) n) (inr (inl late)))
 task_ends w node t n rises e found is (Success outturn may first late f) =
-    absurd (no_refusal e.answer _ is (ap (λ (x : TaskEffect). x.answer) f) (success_no_refusal _ (task_succeeds w.shared (readied outturn w node t n) t)))
+    absurd (no_refusal e.answer _ is (ap (λ (x : TaskEffect). x.answer) f) (success_no_refusal _ (task_succeeds w.shared (ready_in_world outturn w node t n) t)))
 task_ends w node t n rises e found is (Lacking first takes f) =
     subst (λ (x : TaskEffect). EndsSettling (put_into w node x).world x.answer) (sym f) (here_refuses w node t n n line.NoMemory found refl (inr (inr (refl, takes))))
 task_ends w node t n rises e found is (Failing cause shown true first rises_so shows down answers ends) = absurd (no_refusal e.answer line.Normal is answers refl)
@@ -107,7 +107,7 @@ way_ends w p c after (Doubted node serial b there none is) h = subst (λ (x : Pa
 outcome_goes_on : (w : World) (node : List ℕ) (t : Task) (n : Node) (rises : Cause → Type 0) (e : TaskEffect) → e.ends ≡ false → Outcome w.shared (stops_at node w) n t rises e → is_refusal e.answer ≡ false
 outcome_goes_on w node t n rises e on (First refusal first f) = absurd (clash _ (ap (λ (x : TaskEffect). x.ends) f) on)
 outcome_goes_on w node t n rises e on (Late outturn refusal may first late f) = absurd (clash _ (ap (λ (x : TaskEffect). x.ends) f) on)
-outcome_goes_on w node t n rises e on (Success outturn may first late f) = ap (λ (x : TaskEffect). is_refusal x.answer) f ∙ success_no_refusal _ (task_succeeds w.shared (readied outturn w node t n) t)
+outcome_goes_on w node t n rises e on (Success outturn may first late f) = ap (λ (x : TaskEffect). is_refusal x.answer) f ∙ success_no_refusal _ (task_succeeds w.shared (ready_in_world outturn w node t n) t)
 outcome_goes_on w node t n rises e on (Lacking first takes f) = absurd (clash _ (ap (λ (x : TaskEffect). x.ends) f) on)
 outcome_goes_on w node t n rises e on (Failing cause shown true first rises_so shows down answers ends) = ap is_refusal answers
 outcome_goes_on w node t n rises e on (Failing cause shown false first rises_so shows down answers ends) = ap is_refusal answers

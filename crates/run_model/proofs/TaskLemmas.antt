@@ -4,7 +4,7 @@ use Rattle.transcript_model.specs.Lines as line
 use Rattle.transcript_model.specs.Lines.{Line, Cause, Failed}
 use Rattle.run_model.specs.World.{Shared, Node, Act, Outturn, Lost, Taken, Half, MayTurnOut, Boots, acted, powered, unpowered}
 use Rattle.run_model.specs.Answers.{Row, Service, Task, task_service, refused_before_reading, powers, spoils}
-use Rattle.run_model.specs.Steps.{Choice, Whole, WithoutMemory, Unpowered, Cut, TaskEffect, TaskAllowed, task_effect, ready_node, node_after, node_after_rows, succeeded, lines_of_rows, rows_to_cut, spoilt, whole, begun, refused}
+use Rattle.run_model.specs.Steps.{Choice, Whole, WithoutMemory, Unpowered, Cut, TaskEffect, TaskAllowed, task_effect, ready_node, node_after, node_after_rows, succeeded, lines_of_rows, rows_to_cut, with_unknown_volume, whole, begun, refused}
 
 -- The name of a node stays.
 
@@ -29,14 +29,14 @@ powered_name outturn stops n = go outturn n.under_way
     go Lost act = refl
     go (Half standing) act = refl
 
-spoilt_name : (b : Bool) (n : Node) → (spoilt b n).name ≡ n.name
+spoilt_name : (b : Bool) (n : Node) → (with_unknown_volume b n).name ≡ n.name
 spoilt_name true n = refl
 spoilt_name false n = refl
 
 pub ready_name : (outturn : Outturn) (stops : ℕ) (e : Service) (n : Node) → (ready_node outturn stops e n).name ≡ n.name
 ready_name outturn stops e n = go (powers e)
   where
-    go : (b : Bool) → (if b then spoilt (spoils e) (powered outturn stops n) else n).name ≡ n.name
+    go : (b : Bool) → (if b then with_unknown_volume (spoils e) (powered outturn stops n) else n).name ≡ n.name
     go true = spoilt_name (spoils e) (powered outturn stops n) ∙ powered_name outturn stops n
     go false = refl
 
@@ -74,7 +74,7 @@ pub data Outcome (s : Shared) (stops : ℕ) (n : Node) (t : Task) (rises : Cause
   Failing : (cause : Cause) (shown : List Line) (goes_on : Bool) → refused_before_reading s n (task_service t) ≡ None → rises cause → e.lines ≡ shown ++ line.Down n.name cause ∷ [] → e.node.up ≡ false →
       e.answer ≡ (if goes_on then line.Normal else line.Broken cause) → e.ends ≡ not goes_on → Outcome s stops n t rises e
 
-unpowered_down : (b : Bool) (stops : ℕ) (n : Node) → (spoilt b (unpowered stops n)).up ≡ false
+unpowered_down : (b : Bool) (stops : ℕ) (n : Node) → (with_unknown_volume b (unpowered stops n)).up ≡ false
 unpowered_down true stops n = refl
 unpowered_down false stops n = refl
 

@@ -7,6 +7,8 @@ use Rattle.std.specs.FinMap.{empty, entries}
 use Rattle.vms_model.specs.Keys.{Key}
 use Rattle.vms_model.specs.Ids.{Id}
 use Rattle.vms_model.specs.Transactions.{Outcome, Commit, Abort, Reason, Aborted, SegFail}
+use Rattle.vms_model.specs.Limits.{bid_limit, boot_limit, branch_limit, change_limit, declared_limit, file_limit, key_limit, label_limit, lock_limit, manager_limit, message_limit, moment_limit, position_limit, record_limit, second_limit, slot_limit}
+use Rattle.vms_model.specs.Blocks.{log_start}
 use Rattle.transcript_model.specs.Lines as line
 use Rattle.transcript_model.specs.Lines.{Line, Standing, ActiveBranch, EndingBranch, PreparedBranch, CommittedBranch, UnknownBranch}
 use Rattle.script_model.specs.Statements.{Request, Init, Boot, Create, SetFile, StartTrans, AddBranch, StartBranch, Records, Direct, EndBranch, EndTrans, AbortTrans, Inquire, DeclareRm, JoinRm, AckEvent, ForgetRm, GetDti, LmcpShow, LmcpDump, Dump, DumpJournal, DumpImages, Backup, Recover, Fuse, Crash, Clock, Named, ByLabel, BySerial, Form, Sequential, Relative, Indexed, Setting, Operation, RecoveryUnits, NoRecoveryUnits, Images, NoImages, Side, AfterImages, BeforeImages, Recovery}
@@ -32,46 +34,8 @@ use Rattle.commit_protocol.specs.World.{undo_all}
 use Rattle.log_laws.specs.Slots.{records_in, committed_of, prepared_of, waiting_for, slot_records, free_slots}
 use Rattle.run_model.specs.Locks.{holder, not_locked}
 use Rattle.run_model.specs.World as world
-use Rattle.run_model.specs.World.{Shared, Node, File, Organization, Label, Settlement, Volume, Sound, Faulty, Barred, Unknown, Bar, NoRing, NoIndex, AllBoots, LateMoment, FarPosition, Act, Formats, Boots, ComesUp, Creates, Marks, Saves, Recovers, Mark, ForUnits, BeginsImages, EndsImages, Draws, Labels, Numbers, Tables, Changes, Holds, Directs, Arms, Clocks, Declares, Falls, acted, shared_after, tm_of, booted, message_limit, nothing_carried, state_of, buckets_loaded, loaded_map, find_file, free_place, find_label, labelled, serial_labelled, find_branch, find_record, changes_made, serials_of, longest_free, lowest_free, next_id, next_moment}
+use Rattle.run_model.specs.World.{Shared, Node, File, Organization, Label, Settlement, Volume, Sound, Faulty, Barred, Unknown, Bar, NoRing, NoIndex, AllBoots, LateMoment, FarPosition, Act, Formats, Boots, ComesUp, Creates, Marks, Saves, Recovers, Mark, ForUnits, BeginsImages, EndsImages, Draws, Labels, Numbers, Tables, Changes, Holds, Directs, Arms, Clocks, Declares, Falls, acted, shared_after, tm_of, booted, nothing_carried, state_of, buckets_loaded, loaded_map, find_file, free_place, find_label, labelled, serial_labelled, find_branch, find_record, changes_made, serials_of, longest_free, lowest_free, next_id, next_moment}
 use Rattle.run_model.specs.Operations.{first_of, refused_if, in_order, form_refused, data_refused, changes_of, file_full, operation_answer, is_change, keys_asked, keys_found, keys_held}
-
--- how many labels a run makes, at the most
-abbrev pub label_limit : ℕ
-label_limit = 100000
-
--- how many unsettled branches a node has, how many changes a branch, and how many keys the branches of a node hold, at the most
-abbrev pub branch_limit : ℕ
-branch_limit = 64
-
-abbrev pub change_limit : ℕ
-change_limit = 1024
-
-abbrev pub lock_limit : ℕ
-lock_limit = 4096
-
--- how often a node is booted, and the greatest moment and the greatest position of a journal with which it is, at the most
-abbrev pub boot_limit : ℕ
-boot_limit = 4294967295
-
-abbrev pub moment_limit : ℕ
-moment_limit = 24000000000000
-
-abbrev pub position_limit : ℕ
-position_limit = 2305843009213693952
-
--- how many branches are authorised for a transaction, and how many seconds it may be given, at the most
-abbrev pub bid_limit : ℕ
-bid_limit = 15
-
-abbrev pub second_limit : ℕ
-second_limit = 1000000
-
--- how many resource managers are declared at a node, and how many join a branch, at the most
-abbrev pub declared_limit : ℕ
-declared_limit = 64
-
-abbrev pub manager_limit : ℕ
-manager_limit = 8
 
 -- a part of a statement: perhaps an act, and then lines
 pub record Row : Type 0 where
@@ -238,7 +202,7 @@ unchanged_file n f = elim (first_to_change f.history (serials_of n.volatile.bran
 
 -- a file whose records are to be read or changed by a branch: it is not marked for recovery units
 abbrev pub is_marked : File → Option Line
-is_marked f = refused_if (not f.recovery_units) line.NotMarked
+is_marked f = refused_if (not f.recovery_units) line.NotForUnits
 
 -- a change that is no branch's: its file is marked for recovery units
 abbrev pub needs_unit : Operation → File → Option Line
@@ -330,17 +294,17 @@ is_within from to n = nat_le from n && nat_le n to
 -- whether buckets and records may be sized so: a bucket has 1 to 16 blocks, a record at least one byte and so many that 32 bytes of a bucket are left, but
 -- at most 8,160
 abbrev pub are_sizes : ℕ → ℕ → Bool
-are_sizes bucket size = is_within 1 16 bucket && is_within 1 (min 8160 (512 * bucket - 32)) size
+are_sizes bucket size = is_within 1 16 bucket && is_within 1 (min record_limit (512 * bucket - 32)) size
 
 -- whether a file may be so: it has a bucket, or a record's number; a key has 1 to 64 bytes, which the longest record holds
 abbrev pub is_file_form : ℕ → ℕ → Form → Bool
 is_file_form bucket size (Sequential buckets) = are_sizes bucket size && nat_le 1 buckets
 is_file_form bucket size (Relative records) = are_sizes bucket size && nat_le 1 records
-is_file_form bucket size (Indexed buckets position key_size) = are_sizes bucket size && nat_le 1 buckets && is_within 1 64 key_size && nat_le (position + key_size) size
+is_file_form bucket size (Indexed buckets position key_size) = are_sizes bucket size && nat_le 1 buckets && is_within 1 key_limit key_size && nat_le (position + key_size) size
 
 -- whether a volume of so many log slots and journal blocks may be made on a disk: both are within their limits, and a block is left for files
 abbrev pub is_volume_form : ℕ → ℕ → Node → Bool
-is_volume_form slots journal n = is_within 64 512 slots && is_within 64 8192 journal && nat_lt (584 + slots + journal) n.blocks
+is_volume_form slots journal n = is_within 64 slot_limit slots && is_within 64 8192 journal && nat_lt (log_start + slots + journal) n.blocks
 
 -- how many buckets a file takes: as many as are said, or, in a relative file, those that hold all its cells. A bucket of so many blocks, less 16 bytes, has
 -- as many cells as hold records of this size with two bytes each.
@@ -355,7 +319,7 @@ blocks_for bucket size form = buckets_for bucket size form * bucket
 
 -- a file is to be made: the directory is full, or no run of free blocks is as long as the file
 abbrev pub room_for : ℕ → Node → Option Line
-room_for need n = first_of (refused_if (is_full (free_place n.durable.directory)) (line.QuotaExceeded line.Files 64))
+room_for need n = first_of (refused_if (is_full (free_place n.durable.directory)) (line.QuotaExceeded line.Files file_limit))
     (refused_if (nat_lt (longest_free n) need) (line.VolumeFull (longest_free n) need))
   where
     is_full : Option ℕ → Bool

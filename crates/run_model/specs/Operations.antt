@@ -28,12 +28,12 @@ refused_if false refusal = None
 -- The records of a file.
 
 -- the records as they stand, with the changes of unsettled branches
-abbrev pub standing_of : File → Records
-standing_of f = current f.history
+abbrev pub current_records : File → Records
+current_records f = current f.history
 
 -- in the order of their keys
 abbrev pub in_order : File → List (Key × List ℕ)
-in_order f = entries (standing_of f)
+in_order f = entries (current_records f)
 
 -- their number, which in a sequential file is the last position
 abbrev pub count_of : File → ℕ
@@ -41,7 +41,7 @@ count_of f = length (in_order f)
 
 -- what stands at a key
 abbrev pub record_in : File → Key → Option (List ℕ)
-record_in f key = get (standing_of f) key
+record_in f key = get (current_records f) key
 
 -- the bytes of so many from a position on: the key of a record
 abbrev pub key_within : ℕ → ℕ → List ℕ → List ℕ
@@ -162,7 +162,7 @@ at_end (Some e) = None
 
 -- what refuses an operation by the records that stand
 abbrev pub data_refused : File → Operation → Option Line
-data_refused f (Put number bytes) = put_refused f.organization (standing_of f) number bytes
+data_refused f (Put number bytes) = put_refused f.organization (current_records f) number bytes
 data_refused f (Update key bytes) = update_refused f.organization key (record_in f key) bytes
 data_refused f (Delete key) = missing (record_in f key)
 data_refused f (Truncate number) = refused_if (nat_lt number 1 || nat_lt (count_of f) number) line.RecordNotFound

@@ -136,7 +136,7 @@ direct_moves bytes longer = says (Create (codes "G") 16 8160 (said.Relative 4)) 
     ∷ says (StartTrans (codes "T") None) ∷ says (Records (codes "T") (codes "G") (Get (Number 4))) ∷ says (Direct (codes "F") (Put (Some 1) (codes "a"))) ∷ []
 
 abbrev pub direct_lines : List (List Line)
-direct_lines = (line.Normal ∷ []) ∷ (line.Committed (id 1 1) (id 1 1) 1 ∷ line.RecordNormal ∷ []) ∷ (line.BadRecordSize ∷ []) ∷ (line.NormalId (id 1 2) ∷ []) ∷ (line.NotMarked ∷ []) ∷ (line.NeedsUnit ∷ []) ∷ []
+direct_lines = (line.Normal ∷ []) ∷ (line.Committed (id 1 1) (id 1 1) 1 ∷ line.RecordNormal ∷ []) ∷ (line.BadRecordSize ∷ []) ∷ (line.NormalId (id 1 2) ∷ []) ∷ (line.NotForUnits ∷ []) ∷ (line.NeedsUnit ∷ []) ∷ []
 
 abbrev pub ChangeWithoutLabel : Type 0
 ChangeWithoutLabel = (bytes longer : List ℕ) → length bytes ≡ 8160 → length longer ≡ 8161 → played (zero_world 784) (base_moves ++ direct_moves bytes longer) ≡ base_lines ++ direct_lines

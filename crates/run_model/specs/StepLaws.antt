@@ -2,7 +2,7 @@
 use Rattle.std.specs.Prelude.{◌≡◌, ℕ, ◌+◌, ◌<◌, ◌^◌, ◌⊎◌, List, [], ◌∷◌, ◌++◌, Bool, true, false, Option, Some, None, map, length, option_map}
 use Rattle.std.specs.List.{last_or}
 use Rattle.vms_model.specs.Ids.{Id}
-use Rattle.transcript_model.specs.Lines.{Line, Cause, Down, NoSuchNode, NodeDown, NodeUp, VolumeInUse, NotInitialized, NotInitializedAt, NoSuchMessage, BadLabel, FileNotFound, FileExists, BadParameter, BadOperation, BadRecordNumber, BadRecordSize, NoSuchTransaction, NoSuchBranchId, NoSuchManager, WrongState, InDoubt, NotMarked, NeedsUnit, RecordLocked, FileLocked, NoVolume, RecordExists, KeyExists, RecordNotFound, EndOfFile, KeyChanged, QuotaExceeded, VolumeFull, FileFull, JournalFull, NoJournal, NoSave, TooEarly, PositionsMissing, MomentsMissing, AftersFull, BeforesFull, NoMemory, Broken}
+use Rattle.transcript_model.specs.Lines.{Line, Cause, Down, NoSuchNode, NodeDown, NodeUp, VolumeInUse, NotInitialized, NotInitializedAt, NoSuchMessage, BadLabel, FileNotFound, FileExists, BadParameter, BadOperation, BadRecordNumber, BadRecordSize, NoSuchTransaction, NoSuchBranchId, NoSuchManager, WrongState, InDoubt, NotForUnits, NeedsUnit, RecordLocked, FileLocked, NoVolume, RecordExists, KeyExists, RecordNotFound, EndOfFile, KeyChanged, QuotaExceeded, VolumeFull, FileFull, JournalFull, NoJournal, NoSave, TooEarly, PositionsMissing, MomentsMissing, AftersFull, BeforesFull, NoMemory, Broken}
 use Rattle.script_model.specs.Statements.{Statement, At, Deliver, LinkDown, Settle, Clock}
 use Rattle.commit_protocol.specs.Table.{Branch, coordinator_of}
 use Rattle.run_model.specs.World.{World, Shared, Node, DiskCounts, Outturn, MayTurnOut, opened, find_node, with_node, disk_of, with_counts}
@@ -81,7 +81,7 @@ is_refusal NoSuchBranchId = true
 is_refusal NoSuchManager = true
 is_refusal WrongState = true
 is_refusal (InDoubt serial node) = true
-is_refusal NotMarked = true
+is_refusal NotForUnits = true
 is_refusal NeedsUnit = true
 is_refusal (RecordLocked serial) = true
 is_refusal (FileLocked serial) = true
@@ -114,8 +114,8 @@ is_sweep (LinkDown a b) = true
 is_sweep Settle = false
 
 -- a node once its disk runs again, where the task makes it do so, and the world with it
-abbrev pub readied : Outturn → World → List ℕ → Task → Node → Node
-readied outturn w node t n = ready_node outturn (stops_at node w) (task_service t) n
+abbrev pub ready_in_world : Outturn → World → List ℕ → Task → Node → Node
+ready_in_world outturn w node t n = ready_node outturn (stops_at node w) (task_service t) n
 
 abbrev pub with_ready : World → List ℕ → Node → World
 with_ready w node ready = record w { nodes = with_node node (λ n. ready) w.nodes }
@@ -137,8 +137,8 @@ abbrev pub IsRefusedSo : World → List ℕ → Task → Node → Line → World
 IsRefusedSo w node t n answer v =
     ((refused_first w n t ≡ Some answer) × (v ≡ record w { disks = v.disks }))
     ⊎ ((refused_first w n t ≡ None) × (answer ≡ NoMemory) × (may_lack_memory n t ≡ true) × (v ≡ record w { disks = v.disks }))
-    ⊎ ((refused_first w n t ≡ None) × (outturn : Outturn) × MayTurnOut n outturn × (refused_then w (readied outturn w node t n) t ≡ Some answer)
-    × (v ≡ record (with_ready w node (readied outturn w node t n)) { disks = v.disks }) × (powers (task_service t) ≡ false → readied outturn w node t n ≡ n))
+    ⊎ ((refused_first w n t ≡ None) × (outturn : Outturn) × MayTurnOut n outturn × (refused_then w (ready_in_world outturn w node t n) t ≡ Some answer)
+    × (v ≡ record (with_ready w node (ready_in_world outturn w node t n)) { disks = v.disks }) × (powers (task_service t) ≡ false → ready_in_world outturn w node t n ≡ n))
 
 -- a node in this world refuses a task so, or lacks memory for it
 abbrev pub RefusesIn : World → Node → Task → Line → Type 0
@@ -187,7 +187,7 @@ SuccessIsGiven =
     ((w v : World) (s : Statement) (node : List ℕ) (t : Task) (n : Node) (lines : List Line) → IsTask w s node t n → Step w s lines v →
     ((refusal : Line) → refused_first w n t ≡ Some refusal → (lines ≡ refusal ∷ []) × (v ≡ record w { disks = v.disks }))
     × (v.disks ≡ w.disks → CanRise w.disks → refused_first w n t ≡ None →
-    ((outturn : Outturn) × MayTurnOut n outturn × EndsWhole w node t (readied outturn w node t n) (refused_then w (readied outturn w node t n) t) lines v)
+    ((outturn : Outturn) × MayTurnOut n outturn × EndsWhole w node t (ready_in_world outturn w node t n) (refused_then w (ready_in_world outturn w node t n) t) lines v)
     ⊎ ((lines ≡ NoMemory ∷ []) × (may_lack_memory n t ≡ true) × (v ≡ record w { disks = v.disks }))))
     × ((w v : World) (s : Statement) (events : List Line) (cause : Cause) → Step w s (events ++ Broken cause ∷ []) v → v.disks ≡ w.disks → CanRise w.disks → ⊥)
 

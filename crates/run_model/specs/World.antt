@@ -8,6 +8,8 @@ use Rattle.std.specs.Ordering.{eq_by_cmp}
 use Rattle.vms_model.specs.Ids.{Id}
 use Rattle.vms_model.specs.Keys.{Key, Number, Text, End}
 use Rattle.vms_model.specs.Transactions.{Outcome, Commit, Abort, Reason, SegFail}
+use Rattle.vms_model.specs.Limits.{branch_limit, file_limit, lock_limit, message_limit, slot_limit}
+use Rattle.vms_model.specs.Blocks.{log_start}
 use Rattle.records_model.specs.Records.{Change, Records, key_cmp}
 use Rattle.tree_model.specs.Layouts.{Layout, Sizes}
 use Rattle.tree_model.specs.Layouts.{no_layout, used_of}
@@ -333,7 +335,7 @@ with_counts name new (n ∷ ns) (d ∷ ds) = if bytes_eq name n.name then new �
 
 -- the first block behind the log slots and the journal: there begin the blocks for files
 abbrev pub area_start : Node → ℕ
-area_start n = 584 + length n.durable.log + n.durable.journal
+area_start n = log_start + length n.durable.log + n.durable.journal
 
 -- the longest run of free blocks of a node's disk
 abbrev pub longest_free : Node → ℕ
@@ -495,7 +497,7 @@ recovered_file start buckets m greatest f = record f {
 
 -- a directory without files
 abbrev pub empty_directory : List (Option File)
-empty_directory = replicate 64 None
+empty_directory = replicate file_limit None
 
 -- what a disk has after a volume was made on it, with so many log slots and blocks of a journal
 abbrev pub made_volume : (slots journal : ℕ) → Durable
@@ -787,10 +789,6 @@ unpowered stops n = record n { up = false; calls = Power stops ∷ n.calls }
 
 -- What nodes share.
 
--- how many messages are numbered, at the most; a later one is lost
-abbrev pub message_limit : ℕ
-message_limit = 1000000
-
 -- the messages with one more, where it is numbered
 abbrev pub posted : Message → List Message → List Message
 posted m wire = if nat_lt (length wire) message_limit then wire ++ m ∷ [] else wire
@@ -892,8 +890,8 @@ pub record IsLogInOrder (n : Node) : Type 0 where
   pub active : (r : LogRecord) (u : RecoveryUnit) → In r (prepared_of (records_in n.durable.log)) → find_unit r.serial (units_in n.durable.units.entries) ≡ Some u → (u.prepared ≡ true) × (r.tid ≡ u.tid)
   pub transactions : AllByRecursion (λ (r : LogRecord). AllByRecursion (IsOfTransaction r.tid r.serial) n.durable.units.entries) (prepared_of (records_in n.durable.log))
   pub unsettled : AllByRecursion (λ (r : LogRecord). is_settled_in r.serial n.durable.units.entries ≡ false) (prepared_of (records_in n.durable.log))
-  pub few : length (units_in n.durable.units.entries) + length (without_units n.durable.units (prepared_of (records_in n.durable.log))) ≤ 64
-  pub slots : length n.durable.log ≤ 512
+  pub few : length (units_in n.durable.units.entries) + length (without_units n.durable.units (prepared_of (records_in n.durable.log))) ≤ branch_limit
+  pub slots : length n.durable.log ≤ slot_limit
 
 -- The changes of a branch in a file, the newest first: none is of the file's end, and each found what the one before it left at its key.
 abbrev pub FollowOneAnother : List Change → Type 0
@@ -982,7 +980,7 @@ pub record IsOpening (n : Node) : Type 0 where
   pub ends : HavePlainEnds n.durable.directory
   pub images : KeepAllImages n n.durable.directory
   pub named : (name : List ℕ) → find_file name n.durable.directory ≡ None → list_any (is_of_file name) n.durable.units.entries ≡ false
-  pub few_locks : length (booted n.durable).locks ≤ 4096
+  pub few_locks : length (booted n.durable).locks ≤ lock_limit
 
 -- the world before the first line: these nodes with these disks, and no label
 abbrev pub opened : List Node → List DiskCounts → World

@@ -18,7 +18,7 @@ use Rattle.run_model.proofs.NodeLists.{some_is}
 use Rattle.run_model.specs.Statements.{answer_in}
 use Rattle.run_shared.specs.Sharing.{SharedState}
 use Rattle.dtm_node.specs.Asking as node
-use Rattle.node_standing.specs.Standing.{IsDown, IsRunning, Kept, Place, StandsFor, StandsIn, counts_of, disk_in}
+use Rattle.node_standing.specs.Standing.{IsDown, IsRunning, NodeState, Place, PlaceRepresents, RepresentsNode, counts_of, disk_in}
 use Rattle.statement_steps.specs.Doing.{IsWithin, moved}
 use Rattle.statement_steps.specs.Settling.{AreUp, Asking, Through, asks_of, doubts_of, question_in, question_of}
 use Rattle.statement_steps.proofs.Answering.{next_ended, next_hears, next_nobody, next_none, next_vain}
@@ -29,7 +29,7 @@ use Rattle.statement_steps.proofs.Rising.{up_at, up_put}
 use Rattle.statement_steps.proofs.Places.{put_at, step_name}
 use Rattle.statement_steps.proofs.Turning.{moved_behind, through_ended, through_next}
 use Rattle.statement_steps.specs.TheLaws.{StaysWithin}
-use Rattle.run_nodes.specs.Phases.{AskedOne, AskingAt, Ended, EndedAsking, Goes, Leaves, Stays}
+use Rattle.run_nodes.specs.Phases.{AskedOne, AskingAt, Ended, EndedAsking, Leaves, PartsDone, Stays}
 use Rattle.run_nodes.specs.Names.{AreApart}
 use Rattle.run_nodes.specs.Tasks.{DoesTask}
 use Rattle.run_nodes.specs.Together.{StandsTogether}
@@ -40,22 +40,22 @@ use Rattle.run_nodes.proofs.Doubts.{doubts_kept}
 use Rattle.run_nodes.proofs.Serving.{performed}
 
 -- What a node that is up asks and answers, by what is kept of it.
-pub question_kept : (log : CallLog) (k : Kept) (n : Node) (serial : Id) → StandsFor log k n → n.up ≡ true → node.question_in serial k.place ≡ question_in serial n.volatile.branches
+pub question_kept : (log : CallLog) (k : NodeState) (n : Node) (serial : Id) → RepresentsNode log k n → n.up ≡ true → node.question_in serial k.place ≡ question_in serial n.volatile.branches
 question_kept log k n serial h up = by k.place h.place
   where
-    by : (p : Place) → StandsIn k.clock p n → node.question_in serial p ≡ question_in serial n.volatile.branches
+    by : (p : Place) → PlaceRepresents k.clock p n → node.question_in serial p ≡ question_in serial n.volatile.branches
     by (IsDown has_parts disk) s = let no : true ≡ false = sym up ∙ s.down in let none : ⊥ = cc in absurd none
     by (IsRunning r) s = ap (λ (t : Tm). option_and_then question_of (find_serial serial t.table)) (sym s.stands.table)
 
-pub answer_kept : (log : CallLog) (k : Kept) (n : Node) (m : Message) → StandsFor log k n → n.up ≡ true → node.answer_in_place m k.place ≡ answer_in (row (tm_of n) (Got m))
+pub answer_kept : (log : CallLog) (k : NodeState) (n : Node) (m : Message) → RepresentsNode log k n → n.up ≡ true → node.answer_in_place m k.place ≡ answer_in (row (tm_of n) (Got m))
 answer_kept log k n m h up = by k.place h.place
   where
-    by : (p : Place) → StandsIn k.clock p n → node.answer_in_place m p ≡ answer_in (row (tm_of n) (Got m))
+    by : (p : Place) → PlaceRepresents k.clock p n → node.answer_in_place m p ≡ answer_in (row (tm_of n) (Got m))
     by (IsDown has_parts disk) s = let no : true ≡ false = sym up ∙ s.down in let none : ⊥ = cc in absurd none
     by (IsRunning r) s = ap (λ (t : Tm). answer_in (row t (Got m))) (sym s.stands.table)
 
 -- A node begins to ask;
-pub asking_begins : (logs : List CallLog) (w u : World) (place : ℕ) (a b : Shown) (ks : List Kept) (s : SharedState) (g : Goes asks_of logs w u place a b ks s) → AreUp g.world.nodes → (n : Node) → slice_get g.world.nodes place ≡ Some n → AskingAt logs w g.world place n.name (doubts_of n) 0 0 b b ks s
+pub asking_begins : (logs : List CallLog) (w u : World) (place : ℕ) (a b : Shown) (ks : List NodeState) (s : SharedState) (g : PartsDone asks_of logs w u place a b ks s) → AreUp g.world.nodes → (n : Node) → slice_get g.world.nodes place ≡ Some n → AskingAt logs w g.world place n.name (doubts_of n) 0 0 b b ks s
 asking_begins logs w u place a b ks s g up n at = record {
   lines = [];
   world = g.world;
@@ -78,12 +78,12 @@ past_end (x ∷ xs) zero h = absurd (omega arith)
 past_end (x ∷ xs) (suc i) h = past_end xs i (omega arith)
 
 -- as many asked as there were: none is left
-pub asking_over : (logs : List CallLog) (w v : World) (place : ℕ) (name : List ℕ) (serials : List Id) (many unanswered : ℕ) (a b : Shown) (ks : List Kept) (s : SharedState) (h : AskingAt logs w v place name serials many unanswered a b ks s) → length serials ≤ many → slice_get (doubts_of h.node) unanswered ≡ None
+pub asking_over : (logs : List CallLog) (w v : World) (place : ℕ) (name : List ℕ) (serials : List Id) (many unanswered : ℕ) (a b : Shown) (ks : List NodeState) (s : SharedState) (h : AskingAt logs w v place name serials many unanswered a b ks s) → length serials ≤ many → slice_get (doubts_of h.node) unanswered ≡ None
 asking_over logs w v place name serials many unanswered a b ks s h over = past_end (doubts_of h.node) unanswered (let c = h.count in omega arith)
 
 -- when none is left the node has done its part;
-pub asking_ends : (logs : List CallLog) (w u : World) (place : ℕ) (a x b : Shown) (ms : List Kept) (t : SharedState) (ks : List Kept) (s : SharedState) (g : Goes asks_of logs w u place a x ms t) (n : Node) → slice_get g.world.nodes place ≡ Some n → (many unanswered : ℕ) → (h : AskingAt logs w g.world place n.name (doubts_of n) many unanswered x b ks s) →
-    slice_get (doubts_of h.node) unanswered ≡ None → (j : Goes asks_of logs w u (place + 1) a b ks s) × AreUp j.world.nodes
+pub asking_ends : (logs : List CallLog) (w u : World) (place : ℕ) (a x b : Shown) (ms : List NodeState) (t : SharedState) (ks : List NodeState) (s : SharedState) (g : PartsDone asks_of logs w u place a x ms t) (n : Node) → slice_get g.world.nodes place ≡ Some n → (many unanswered : ℕ) → (h : AskingAt logs w g.world place n.name (doubts_of n) many unanswered x b ks s) →
+    slice_get (doubts_of h.node) unanswered ≡ None → (j : PartsDone asks_of logs w u (place + 1) a b ks s) × AreUp j.world.nodes
 asking_ends logs w u place a x b ms t ks s g n at many unanswered h none = (
   record {
     lines = g.lines ++ h.lines;
@@ -98,7 +98,7 @@ asking_ends logs w u place a x b ms t ks s g n at many unanswered h none = (
 )
 
 -- or the statement ended with a question of it.
-pub asking_ended_at : (logs : List CallLog) (w u : World) (place : ℕ) (a x b : Shown) (ms : List Kept) (t : SharedState) (ks : List Kept) (s : SharedState) (g : Goes asks_of logs w u place a x ms t) (n : Node) → slice_get g.world.nodes place ≡ Some n → EndedAsking logs w g.world n.name (doubts_of n) x b ks s → Ended asks_of logs w u a b ks s
+pub asking_ended_at : (logs : List CallLog) (w u : World) (place : ℕ) (a x b : Shown) (ms : List NodeState) (t : SharedState) (ks : List NodeState) (s : SharedState) (g : PartsDone asks_of logs w u place a x ms t) (n : Node) → slice_get g.world.nodes place ≡ Some n → EndedAsking logs w g.world n.name (doubts_of n) x b ks s → Ended asks_of logs w u a b ks s
 asking_ended_at logs w u place a x b ms t ks s g n at h = record {
   lines = g.lines ++ h.lines;
   answer = h.answer;
@@ -109,31 +109,31 @@ asking_ended_at logs w u place a x b ms t ks s g n at h = record {
 }
 
 -- The node that begins to ask, and what is kept of it in doubt then and later.
-pub goes_at : (logs : List CallLog) (w u : World) (place : ℕ) (a b : Shown) (ks : List Kept) (s : SharedState) → AreApart (kept_names ks) → (g : Goes asks_of logs w u place a b ks s) → (k : Kept) → slice_get ks place ≡ Some k → (n : Node) × (slice_get g.world.nodes place ≡ Some n)
+pub goes_at : (logs : List CallLog) (w u : World) (place : ℕ) (a b : Shown) (ks : List NodeState) (s : SharedState) → AreApart (kept_names ks) → (g : PartsDone asks_of logs w u place a b ks s) → (k : NodeState) → slice_get ks place ≡ Some k → (n : Node) × (slice_get g.world.nodes place ≡ Some n)
 goes_at logs w u place a b ks s apart g k e =
     let i = it logs ks s g.world g.stands apart place k e in
     (i.node, i.at)
 
-pub doubts_begun : (logs : List CallLog) (w u : World) (place : ℕ) (a b : Shown) (ks : List Kept) (s : SharedState) → AreApart (kept_names ks) → (g : Goes asks_of logs w u place a b ks s) → AreUp g.world.nodes → (k : Kept) → slice_get ks place ≡ Some k → Distinct (node.in_doubt_in k.place) → (n : Node) → slice_get g.world.nodes place ≡ Some n →
+pub doubts_begun : (logs : List CallLog) (w u : World) (place : ℕ) (a b : Shown) (ks : List NodeState) (s : SharedState) → AreApart (kept_names ks) → (g : PartsDone asks_of logs w u place a b ks s) → AreUp g.world.nodes → (k : NodeState) → slice_get ks place ≡ Some k → Distinct (node.in_doubt_in k.place) → (n : Node) → slice_get g.world.nodes place ≡ Some n →
     node.in_doubt_in k.place ≡ doubts_of n
 doubts_begun logs w u place a b ks s apart g up k e distinct n at =
     let i = it logs ks s g.world g.stands apart place k e in
     subst (λ (m : Node). node.in_doubt_in k.place ≡ doubts_of m) (some_is i.node n (sym i.at ∙ at)) (doubts_kept i.log k i.node i.stands (up_at g.world.nodes place i.node up i.at) distinct)
 
-pub doubts_at : (logs : List CallLog) (w v : World) (place : ℕ) (name : List ℕ) (serials : List Id) (many unanswered : ℕ) (a b : Shown) (ks : List Kept) (s : SharedState) → AreApart (kept_names ks) → (h : AskingAt logs w v place name serials many unanswered a b ks s) → (k : Kept) → slice_get ks place ≡ Some k → Distinct (node.in_doubt_in k.place) →
+pub doubts_at : (logs : List CallLog) (w v : World) (place : ℕ) (name : List ℕ) (serials : List Id) (many unanswered : ℕ) (a b : Shown) (ks : List NodeState) (s : SharedState) → AreApart (kept_names ks) → (h : AskingAt logs w v place name serials many unanswered a b ks s) → (k : NodeState) → slice_get ks place ≡ Some k → Distinct (node.in_doubt_in k.place) →
     node.in_doubt_in k.place ≡ doubts_of h.node
 doubts_at logs w v place name serials many unanswered a b ks s apart h k e distinct =
     let i = it logs ks s h.world h.stands apart place k e in
     subst (λ (m : Node). node.in_doubt_in k.place ≡ doubts_of m) (some_is i.node h.node (sym i.at ∙ h.at)) (doubts_kept i.log k i.node i.stands (up_at h.world.nodes place i.node h.up i.at) distinct)
 
 -- One that has asked is found at its number still, or it is not.
-pub asked_stays : (logs : List CallLog) (w v : World) (place : ℕ) (name : List ℕ) (serials : List Id) (many unanswered : ℕ) (serial : Id) (a b : Shown) (ks : List Kept) (s : SharedState) → AreApart (kept_names ks) → (k : Kept) → slice_get ks place ≡ Some k → Distinct (node.in_doubt_in k.place) → slice_get (node.in_doubt_in k.place) unanswered ≡ Some serial →
+pub asked_stays : (logs : List CallLog) (w v : World) (place : ℕ) (name : List ℕ) (serials : List Id) (many unanswered : ℕ) (serial : Id) (a b : Shown) (ks : List NodeState) (s : SharedState) → AreApart (kept_names ks) → (k : NodeState) → slice_get ks place ≡ Some k → Distinct (node.in_doubt_in k.place) → slice_get (node.in_doubt_in k.place) unanswered ≡ Some serial →
     AskedOne logs w v place name serials many unanswered serial a b ks s → AskingAt logs w v place name serials (many + 1) (unanswered + 1) a b ks s
 asked_stays logs w v place name serials many unanswered serial a b ks s apart k e distinct is (Stays h next) = h
 asked_stays logs w v place name serials many unanswered serial a b ks s apart k e distinct is (Leaves h never) =
     absurd (never (ap (λ (xs : List Id). slice_get xs unanswered) (sym (doubts_at logs w v place name serials (many + 1) unanswered a b ks s apart h k e distinct)) ∙ is))
 
-pub asked_leaves : (logs : List CallLog) (w v : World) (place : ℕ) (name : List ℕ) (serials : List Id) (many unanswered : ℕ) (serial : Id) (a b : Shown) (ks : List Kept) (s : SharedState) → AreApart (kept_names ks) → (k : Kept) → slice_get ks place ≡ Some k → Distinct (node.in_doubt_in k.place) → (slice_get (node.in_doubt_in k.place) unanswered ≡ Some serial → ⊥) →
+pub asked_leaves : (logs : List CallLog) (w v : World) (place : ℕ) (name : List ℕ) (serials : List Id) (many unanswered : ℕ) (serial : Id) (a b : Shown) (ks : List NodeState) (s : SharedState) → AreApart (kept_names ks) → (k : NodeState) → slice_get ks place ≡ Some k → Distinct (node.in_doubt_in k.place) → (slice_get (node.in_doubt_in k.place) unanswered ≡ Some serial → ⊥) →
     AskedOne logs w v place name serials many unanswered serial a b ks s → AskingAt logs w v place name serials (many + 1) unanswered a b ks s
 asked_leaves logs w v place name serials many unanswered serial a b ks s apart k e distinct never (Stays h next) =
     absurd (never (ap (λ (xs : List Id). slice_get xs unanswered) (doubts_at logs w v place name serials (many + 1) (unanswered + 1) a b ks s apart h k e distinct) ∙ next))
@@ -153,7 +153,7 @@ asks_inquire serial (IsRunning r) m e = by (find_serial serial r.tm.table) e
     by (Some b) f = of b (is_prepared b.state) f
 
 -- The next one asks nobody.
-pub asked_none : (logs : List CallLog) (w v : World) (place : ℕ) (name : List ℕ) (serials : List Id) (many unanswered : ℕ) (serial : Id) (a b : Shown) (ks : List Kept) (s : SharedState) (h : AskingAt logs w v place name serials many unanswered a b ks s) → slice_get (doubts_of h.node) unanswered ≡ Some serial →
+pub asked_none : (logs : List CallLog) (w v : World) (place : ℕ) (name : List ℕ) (serials : List Id) (many unanswered : ℕ) (serial : Id) (a b : Shown) (ks : List NodeState) (s : SharedState) (h : AskingAt logs w v place name serials many unanswered a b ks s) → slice_get (doubts_of h.node) unanswered ≡ Some serial →
     question_in serial h.node.volatile.branches ≡ None → AskedOne logs w v place name serials many unanswered serial a b ks s
 asked_none logs w v place name serials many unanswered serial a b ks s h next e =
     Stays (record {
@@ -173,7 +173,7 @@ asked_none logs w v place name serials many unanswered serial a b ks s h next e 
     }) next
 
 -- It asks one that does not answer.
-pub asked_vain : (logs : List CallLog) (w v : World) (place : ℕ) (name : List ℕ) (serials : List Id) (many unanswered : ℕ) (serial : Id) (a b : Shown) (ks : List Kept) (s : SharedState) (h : AskingAt logs w v place name serials many unanswered a b ks s) → slice_get (doubts_of h.node) unanswered ≡ Some serial →
+pub asked_vain : (logs : List CallLog) (w v : World) (place : ℕ) (name : List ℕ) (serials : List Id) (many unanswered : ℕ) (serial : Id) (a b : Shown) (ks : List NodeState) (s : SharedState) (h : AskingAt logs w v place name serials many unanswered a b ks s) → slice_get (doubts_of h.node) unanswered ≡ Some serial →
     (q : Message) (c : Node) → question_in serial h.node.volatile.branches ≡ Some q → find_node q.to h.world.nodes ≡ Some c → answer_in (row (tm_of c) (Got q)) ≡ None → AskedOne logs w v place name serials many unanswered serial a b ks s
 asked_vain logs w v place name serials many unanswered serial a b ks s h next q c e found answer =
     Stays (record {
@@ -193,7 +193,7 @@ asked_vain logs w v place name serials many unanswered serial a b ks s h next q 
     }) next
 
 -- Its coordinator is not there.
-pub ended_nobody : (logs : List CallLog) (w v : World) (place : ℕ) (name : List ℕ) (serials : List Id) (many unanswered : ℕ) (serial : Id) (a x b : Shown) (ks : List Kept) (s : SharedState) (h : AskingAt logs w v place name serials many unanswered a x ks s) → slice_get (doubts_of h.node) unanswered ≡ Some serial →
+pub ended_nobody : (logs : List CallLog) (w v : World) (place : ℕ) (name : List ℕ) (serials : List Id) (many unanswered : ℕ) (serial : Id) (a x b : Shown) (ks : List NodeState) (s : SharedState) (h : AskingAt logs w v place name serials many unanswered a x ks s) → slice_get (doubts_of h.node) unanswered ≡ Some serial →
     (q : Message) → question_in serial h.node.volatile.branches ≡ Some q → find_node q.to h.world.nodes ≡ None → Emits x (InDoubt serial q.to ∷ []) b → EndedAsking logs w v name serials a b ks s
 ended_nobody logs w v place name serials many unanswered serial a x b ks s h next q e none emits = record {
   lines = h.lines;
@@ -205,7 +205,7 @@ ended_nobody logs w v place name serials many unanswered serial a x b ks s h nex
 }
 
 -- It hears the answer, and is in doubt no more.
-pub asked_hears : StaysWithin → (logs : List CallLog) (w v : World) (place : ℕ) (name : List ℕ) (serials : List Id) (many unanswered : ℕ) (serial : Id) (a x b : Shown) (ks : List Kept) (s : SharedState) (ls : List Kept) (t : SharedState) → AreApart (kept_names ks) → (h : AskingAt logs w v place name serials many unanswered a x ks s) →
+pub asked_hears : StaysWithin → (logs : List CallLog) (w v : World) (place : ℕ) (name : List ℕ) (serials : List Id) (many unanswered : ℕ) (serial : Id) (a x b : Shown) (ks : List NodeState) (s : SharedState) (ls : List NodeState) (t : SharedState) → AreApart (kept_names ks) → (h : AskingAt logs w v place name serials many unanswered a x ks s) →
     slice_get (doubts_of h.node) unanswered ≡ Some serial → (q : Message) (c : Node) (m : Message) → question_in serial h.node.volatile.branches ≡ Some q → find_node q.to h.world.nodes ≡ Some c → answer_in (row (tm_of c) (Got q)) ≡ Some m → DoesTask place (Hears m) false false ks s x b ls t →
     AskedOne logs w v place name serials many unanswered serial a b ls t
 asked_hears stays logs w v place name serials many unanswered serial a x b ks s ls t apart h next q c m e found answer d =
@@ -240,7 +240,7 @@ asked_hears stays logs w v place name serials many unanswered serial a x b ks s 
     }) r.1
 
 -- The statement ends with what it hears.
-pub ended_hears : (logs : List CallLog) (w v : World) (place : ℕ) (name : List ℕ) (serials : List Id) (many unanswered : ℕ) (serial : Id) (a x b : Shown) (ks : List Kept) (s : SharedState) (ls : List Kept) (t : SharedState) → AreApart (kept_names ks) → (h : AskingAt logs w v place name serials many unanswered a x ks s) → slice_get (doubts_of h.node) unanswered ≡ Some serial →
+pub ended_hears : (logs : List CallLog) (w v : World) (place : ℕ) (name : List ℕ) (serials : List Id) (many unanswered : ℕ) (serial : Id) (a x b : Shown) (ks : List NodeState) (s : SharedState) (ls : List NodeState) (t : SharedState) → AreApart (kept_names ks) → (h : AskingAt logs w v place name serials many unanswered a x ks s) → slice_get (doubts_of h.node) unanswered ≡ Some serial →
     (q : Message) (c : Node) (m : Message) → question_in serial h.node.volatile.branches ≡ Some q → find_node q.to h.world.nodes ≡ Some c → answer_in (row (tm_of c) (Got q)) ≡ Some m → DoesTask place (Hears m) true true ks s x b ls t → EndedAsking logs w v name serials a b ls t
 ended_hears logs w v place name serials many unanswered serial a x b ks s ls t apart h next q c m e found answer d =
     let i = it logs ks s h.world h.stands apart place d.old d.here in
@@ -264,18 +264,18 @@ ended_hears logs w v place name serials many unanswered serial a x b ks s ls t a
     }
 
 -- What the code asked and was answered, in the world.
-module _ (logs : List CallLog) (w v : World) (place : ℕ) (name : List ℕ) (serials : List Id) (many unanswered : ℕ) (serial : Id) (a x : Shown) (ks : List Kept) (s : SharedState) (apart : AreApart (kept_names ks)) (h : AskingAt logs w v place name serials many unanswered a x ks s) where
-  pub asks_so : (k : Kept) → slice_get ks place ≡ Some k → (o : Option Message) → node.question_in serial k.place ≡ o → question_in serial h.node.volatile.branches ≡ o
+module _ (logs : List CallLog) (w v : World) (place : ℕ) (name : List ℕ) (serials : List Id) (many unanswered : ℕ) (serial : Id) (a x : Shown) (ks : List NodeState) (s : SharedState) (apart : AreApart (kept_names ks)) (h : AskingAt logs w v place name serials many unanswered a x ks s) where
+  pub asks_so : (k : NodeState) → slice_get ks place ≡ Some k → (o : Option Message) → node.question_in serial k.place ≡ o → question_in serial h.node.volatile.branches ≡ o
   asks_so k e o is =
       let i = it logs ks s h.world h.stands apart place k e in
       let here : i.node ≡ h.node = some_is i.node h.node (sym i.at ∙ h.at) in
       subst (λ (n : Node). question_in serial n.volatile.branches ≡ o) here (sym (question_kept i.log k i.node serial i.stands (up_at h.world.nodes place i.node h.up i.at)) ∙ is)
 
-  pub coordinator_there : (p : ℕ) (to : List ℕ) → slice_get (kept_names ks) p ≡ Some to → (m : Message) → (c : Node) × (find_node to h.world.nodes ≡ Some c) × ((k : Kept) → slice_get ks p ≡ Some k → (o : Option Message) → node.answer_in_place m k.place ≡ o → answer_in (row (tm_of c) (Got m)) ≡ o)
+  pub coordinator_there : (p : ℕ) (to : List ℕ) → slice_get (kept_names ks) p ≡ Some to → (m : Message) → (c : Node) × (find_node to h.world.nodes ≡ Some c) × ((k : NodeState) → slice_get ks p ≡ Some k → (o : Option Message) → node.answer_in_place m k.place ≡ o → answer_in (row (tm_of c) (Got m)) ≡ o)
   coordinator_there p to e m =
       let r = kept_at_place ks p to e in
       let i = it logs ks s h.world h.stands apart p r.kept r.here in (
         i.node,
         subst (λ y. find_node y h.world.nodes ≡ Some i.node) r.named (there_found logs ks s h.world h.stands apart p r.kept r.here),
-        λ k f o is. sym (answer_kept i.log r.kept i.node m i.stands (up_at h.world.nodes p i.node h.up i.at)) ∙ ap (λ (y : Kept). node.answer_in_place m y.place) (some_is r.kept k (sym r.here ∙ f)) ∙ is,
+        λ k f o is. sym (answer_kept i.log r.kept i.node m i.stands (up_at h.world.nodes p i.node h.up i.at)) ∙ ap (λ (y : NodeState). node.answer_in_place m y.place) (some_is r.kept k (sym r.here ∙ f)) ∙ is,
       )

@@ -13,10 +13,10 @@ use Rattle.run_model.specs.World.{Node}
 use Rattle.run_model.proofs.NodeLists.{some_is}
 use Rattle.recovery_units.specs.State.{UnitsState}
 use Rattle.run_shared.specs.Sharing.{SharedState}
-use Rattle.node_table.specs.Standing.{NamesPrepared, standing}
+use Rattle.node_table.specs.Standing.{NamesPrepared, unsettled_serials}
 use Rattle.dtm_node.specs.Asking.{in_doubt_in}
 use Rattle.dtm_node.specs.Nodes.{IsPlaceOf, kept_of, place_of}
-use Rattle.node_standing.specs.Standing.{IsDown, IsRunning, Kept, Place, StandsFor, StandsIn}
+use Rattle.node_standing.specs.Standing.{IsDown, IsRunning, NodeState, Place, PlaceRepresents, RepresentsNode}
 use Rattle.dtm_node.specs.declared.node.Node as code
 use Rattle.dtm_node.specs.declared.node.Place as code_of
 use Rattle.dtm_node.specs.declared.node.Place.TheVariants as code_place
@@ -71,14 +71,14 @@ cut_none k (x ∷ xs) e = elim (told_key x.key k) [
 ]
 
 -- Keys that stand among branches without one of them.
-standing_cut : (k : Key) (ks : List Key) (bs : List Branch) → is_some (find k bs) ≡ true → (In k.serial (standing ks bs) → ⊥) → standing ks (cut k bs) ≡ standing ks bs
+standing_cut : (k : Key) (ks : List Key) (bs : List Branch) → is_some (find k bs) ≡ true → (In k.serial (unsettled_serials ks bs) → ⊥) → unsettled_serials ks (cut k bs) ≡ unsettled_serials ks bs
 standing_cut k [] bs e none = refl
 standing_cut k (j ∷ ks) bs e none = elim (told_key k j) [
-  | inl q ↦ absurd (none (subst (λ y. In y.serial (if is_some (find j bs) then j.serial ∷ standing ks bs else standing ks bs)) (sym q.1) (rw (subst (λ y. is_some (find y bs) ≡ true) q.1 e) (inl refl))))
+  | inl q ↦ absurd (none (subst (λ y. In y.serial (if is_some (find j bs) then j.serial ∷ unsettled_serials ks bs else unsettled_serials ks bs)) (sym q.1) (rw (subst (λ y. is_some (find y bs) ≡ true) q.1 e) (inl refl))))
   | inr q ↦ rw (find-cut_other k j bs q.1) (go (is_some (find j bs)) refl (λ n. standing_cut k ks bs e n))
 ]
   where
-    go : (t : Bool) → is_some (find j bs) ≡ t → ((In k.serial (standing ks bs) → ⊥) → standing ks (cut k bs) ≡ standing ks bs) → ◌≡◌ {A = List Id} (if t then j.serial ∷ standing ks (cut k bs) else standing ks (cut k bs)) (if t then j.serial ∷ standing ks bs else standing ks bs)
+    go : (t : Bool) → is_some (find j bs) ≡ t → ((In k.serial (unsettled_serials ks bs) → ⊥) → unsettled_serials ks (cut k bs) ≡ unsettled_serials ks bs) → ◌≡◌ {A = List Id} (if t then j.serial ∷ unsettled_serials ks (cut k bs) else unsettled_serials ks (cut k bs)) (if t then j.serial ∷ unsettled_serials ks bs else unsettled_serials ks bs)
     go true f more = ap (λ ys. j.serial ∷ ys) (more (λ i. none (rw f (inr i))))
     go false f more = more (λ i. none (rw f i))
 
@@ -88,19 +88,19 @@ names_cut k ks bs h = record {
   prepared = λ b i j. h.prepared b (in_cut k bs b i).0 (inr j);
 }
 
-pub standing_is : (ks : List Key) (bs : List Branch) → Distinct (standing ks bs) → NamesPrepared ks bs → standing ks bs ≡ in_doubt_of (arranged ks bs)
+pub standing_is : (ks : List Key) (bs : List Branch) → Distinct (unsettled_serials ks bs) → NamesPrepared ks bs → unsettled_serials ks bs ≡ in_doubt_of (arranged ks bs)
 standing_is [] bs d h = sym (none_in_doubt bs (λ b i p. h.named b i p))
 standing_is (k ∷ ks) bs d h = by (find k bs) refl (λ cs x y. standing_is ks cs x y)
   where
-    by : (o : Option Branch) → find k bs ≡ o → ((cs : List Branch) → Distinct (standing ks cs) → NamesPrepared ks cs → standing ks cs ≡ in_doubt_of (arranged ks cs)) → standing (k ∷ ks) bs ≡ in_doubt_of (arranged (k ∷ ks) bs)
+    by : (o : Option Branch) → find k bs ≡ o → ((cs : List Branch) → Distinct (unsettled_serials ks cs) → NamesPrepared ks cs → unsettled_serials ks cs ≡ in_doubt_of (arranged ks cs)) → unsettled_serials (k ∷ ks) bs ≡ in_doubt_of (arranged (k ∷ ks) bs)
     by None e again =
-        let less : standing (k ∷ ks) bs ≡ standing ks bs = rw e refl in
+        let less : unsettled_serials (k ∷ ks) bs ≡ unsettled_serials ks bs = rw e refl in
         let same = cut_none k bs e in
         let more = again bs (subst Distinct less d) (subst (NamesPrepared ks) same (names_cut k ks bs h)) in
         less ∙ more ∙ sym (ap in_doubt_of (ap (λ o. arranged_by o (arranged ks (cut k bs))) e ∙ ap (arranged ks) same))
     by (Some b) e again =
-        let less : standing (k ∷ ks) bs ≡ k.serial ∷ standing ks bs = rw e refl in
-        let parts : Distinct (k.serial ∷ standing ks bs) = subst Distinct less d in
+        let less : unsettled_serials (k ∷ ks) bs ≡ k.serial ∷ unsettled_serials ks bs = rw e refl in
+        let parts : Distinct (k.serial ∷ unsettled_serials ks bs) = subst Distinct less d in
         let stands : is_some (find k bs) ≡ true = ap is_some e in
         let left = standing_cut k ks bs stands parts.0 in
         let more = again (cut k bs) (subst Distinct (sym left) parts.1) (names_cut k ks bs h) in
@@ -110,17 +110,17 @@ standing_is (k ∷ ks) bs d h = by (find k bs) refl (λ cs x y. standing_is ks c
         less ∙ ap (λ ys. k.serial ∷ ys) (sym left ∙ more) ∙ ap (λ (y : Key). y.serial ∷ in_doubt_of (arranged ks (cut k bs))) (sym key) ∙ sym first ∙ sym (ap in_doubt_of (ap (λ o. arranged_by o (arranged ks (cut k bs))) e))
 
 -- What is kept in doubt of a node that is up.
-pub doubts_kept : (log : CallLog) (k : Kept) (n : Node) → StandsFor log k n → n.up ≡ true → Distinct (in_doubt_in k.place) → in_doubt_in k.place ≡ doubts_of n
+pub doubts_kept : (log : CallLog) (k : NodeState) (n : Node) → RepresentsNode log k n → n.up ≡ true → Distinct (in_doubt_in k.place) → in_doubt_in k.place ≡ doubts_of n
 doubts_kept log k n h up d = by k.place h.place d
   where
-    by : (p : Place) → StandsIn k.clock p n → Distinct (in_doubt_in p) → in_doubt_in p ≡ doubts_of n
+    by : (p : Place) → PlaceRepresents k.clock p n → Distinct (in_doubt_in p) → in_doubt_in p ≡ doubts_of n
     by (IsDown has_parts disk) s e = let no : true ≡ false = sym up ∙ s.down in let none : ⊥ = cc in absurd none
     by (IsRunning r) s e = sym s.stands.doubt ∙ standing_is n.volatile.preparation n.volatile.branches (subst Distinct (sym s.stands.doubt) e) s.stands.names
 
 -- No two that the code keeps in doubt are one, whatever its disk has.
-pub in_doubt_apart : {D U : Type 0} (state : D → DiskState) (units : U → UnitsState) (count : ℕ) (s : SharedState) (es : List (List ℕ × code.Node D U)) (place : ℕ) (k : Kept) → AreNodesIn state units count s es → slice_get (kept_in state units es) place ≡ Some k → Distinct (in_doubt_in k.place)
+pub in_doubt_apart : {D U : Type 0} (state : D → DiskState) (units : U → UnitsState) (count : ℕ) (s : SharedState) (es : List (List ℕ × code.Node D U)) (place : ℕ) (k : NodeState) → AreNodesIn state units count s es → slice_get (kept_in state units es) place ≡ Some k → Distinct (in_doubt_in k.place)
 in_doubt_apart {D} {U} state units count s [] place k h e = let none : ⊥ = cc in absurd none
-in_doubt_apart {D} {U} state units count s (e ∷ es) zero k h at = subst (λ (x : Kept). Distinct (in_doubt_in x.place)) (some_is (kept_of state units e.1) k at) (by e.1.place h.1.place)
+in_doubt_apart {D} {U} state units count s (e ∷ es) zero k h at = subst (λ (x : NodeState). Distinct (in_doubt_in x.place)) (some_is (kept_of state units e.1) k at) (by e.1.place h.1.place)
   where
     by : (p : code_of.Place D U) → IsPlaceOf state units count s e.1 p → Distinct (in_doubt_in (place_of state units p))
     by (code_place.Down disk parts) q = tt

@@ -22,7 +22,7 @@ use Rattle.run_model.specs.Answers.{LosesLink, Takes, Ticks}
 use Rattle.run_model.specs.Statements.{message_at, other_node}
 use Rattle.run_shared.specs.Sharing.{SharedState}
 use Rattle.node_standing.specs.Moments.{CanBeTold}
-use Rattle.node_standing.specs.Standing.{Kept}
+use Rattle.node_standing.specs.Standing.{NodeState}
 use Rattle.node_standing.specs.Telling.{said_node}
 use Rattle.said_steps.proofs.Refusals.{delivery_said_lost, delivery_said_missing, link_said_first, link_said_second, request_said_alone, request_said_missing, there_said_at, there_said_missing}
 use Rattle.statement_steps.specs.Doing.{AllKept}
@@ -41,8 +41,8 @@ pub within_names : {A : Type 0} (xs : List A) (place : ℕ) (x : A) → slice_ge
 within_names xs place x e = slice_get_within xs place x e
 
 -- where nodes of these names are kept
-module _ (names : List (List ℕ)) (ks : List Kept) (s : SharedState) (same : names ≡ kept_names ks) (apart : AreApart names) where
-  told : (st : Statement) (a b : Shown) (ls : List Kept) (t : SharedState) → AnswersTogether (kept_names ks) st a b ks s ls t → AnswersTogether names st a b ks s ls t
+module _ (names : List (List ℕ)) (ks : List NodeState) (s : SharedState) (same : names ≡ kept_names ks) (apart : AreApart names) where
+  told : (st : Statement) (a b : Shown) (ls : List NodeState) (t : SharedState) → AnswersTogether (kept_names ks) st a b ks s ls t → AnswersTogether names st a b ks s ls t
   told st a b ls t h = subst (λ ns. AnswersTogether ns st a b ks s ls t) (sym same) h
 
   apart_kept : AreApart (kept_names ks)
@@ -54,7 +54,7 @@ module _ (names : List (List ℕ)) (ks : List Kept) (s : SharedState) (same : na
   there_kept : (name : List ℕ) (place : ℕ) → slice_get names place ≡ Some name → slice_get (kept_names ks) place ≡ Some name
   there_kept name place e = ap (λ ns. slice_get ns place) (sym same) ∙ e
 
-  found_said : (name : List ℕ) (place : ℕ) → slice_get names place ≡ Some name → (n : Kept) × (node_in name (map said_node ks) ≡ Some (said_node n))
+  found_said : (name : List ℕ) (place : ℕ) → slice_get names place ≡ Some name → (n : NodeState) × (node_in name (map said_node ks) ≡ Some (said_node n))
   found_said name place e =
       let i = kept_at_place ks place name (there_kept name place e) in
       (i.kept, subst (λ y. node_in y (map said_node ks) ≡ Some (said_node i.kept)) i.named (said_found ks place i.kept apart_kept i.here))
@@ -99,15 +99,15 @@ module _ (names : List (List ℕ)) (ks : List Kept) (s : SharedState) (same : na
       named_there w other (it logs ks s w h apart_kept there.0 i.kept i.here).node (subst (λ y. find_node y w.nodes ≡ Some (it logs ks s w h apart_kept there.0 i.kept i.here).node) i.named (found logs ks s w h apart_kept there.0 i.kept i.here))
   other_there _ lit there logs w h = refl
 
-  old_named : (place : ℕ) (name : List ℕ) (k : Kept) → slice_get names place ≡ Some name → slice_get ks place ≡ Some k → k.name ≡ name
+  old_named : (place : ℕ) (name : List ℕ) (k : NodeState) → slice_get names place ≡ Some name → slice_get ks place ≡ Some k → k.name ≡ name
   old_named place name k there here = named_so ks place k name here (there_kept name place there)
 
-  pub request_tells : (name : List ℕ) (place : ℕ) (r : code.Request) (lit : Literals) (a b : Shown) (ls : List Kept) (t : SharedState) → slice_get names place ≡ Some name → IsOtherThere names r → DoesRequest place (request_of lit r) ks s a b ls t → AnswersTogether names (At name (request_of lit r)) a b ks s ls t
+  pub request_tells : (name : List ℕ) (place : ℕ) (r : code.Request) (lit : Literals) (a b : Shown) (ls : List NodeState) (t : SharedState) → slice_get names place ≡ Some name → IsOtherThere names r → DoesRequest place (request_of lit r) ks s a b ls t → AnswersTogether names (At name (request_of lit r)) a b ks s ls t
   request_tells name place r lit a b ls t there other d =
       told (At name (request_of lit r)) a b ls t (subst (λ y. AnswersTogether (kept_names ks) (At y (request_of lit r)) a b ks s ls t) (old_named place name d.old there d.here)
       (subst (λ ms. AnswersTogether (kept_names ks) (At d.old.name (request_of lit r)) a b ks s ms t) (sym d.put) (answers_request (request_of lit r) ks s a b d.old d.new t place d.ends apart_kept d.here d.named (other_there_said r lit other) d.tells)))
 
-  pub request_is_served : (name : List ℕ) (place : ℕ) (r : code.Request) (lit : Literals) (a b : Shown) (ls : List Kept) (t : SharedState) → slice_get names place ≡ Some name → IsOtherThere names r → ((now : ℕ) → request_of lit r ≡ Clock now → ⊥) → DoesRequest place (request_of lit r) ks s a b ls t →
+  pub request_is_served : (name : List ℕ) (place : ℕ) (r : code.Request) (lit : Literals) (a b : Shown) (ls : List NodeState) (t : SharedState) → slice_get names place ≡ Some name → IsOtherThere names r → ((now : ℕ) → request_of lit r ≡ Clock now → ⊥) → DoesRequest place (request_of lit r) ks s a b ls t →
       (logs : List CallLog) (w : World) → StandsTogether logs ks s w → AllKept w.shared w.nodes → (BootsUnknown w (At name (request_of lit r)) → ⊥) → ServesTogether logs w (At name (request_of lit r)) a b ls t
   request_is_served name place r lit a b ls t there other not_clock d logs w h kept never =
       let named = old_named place name d.old there d.here in
@@ -116,12 +116,12 @@ module _ (names : List (List ℕ)) (ks : List Kept) (s : SharedState) (same : na
       (request_serves logs ks s w h apart_kept kept place d.old d.here (request_of lit r) a b d.new t not_clock (other_there r lit other logs w h) (subst (λ y. BootsUnknown w (At y (request_of lit r)) → ⊥) (sym named) never) d.performs))
 
   -- A clock that is set.
-  pub clock_tells : (name : List ℕ) (place now : ℕ) (a b c : Shown) (ms : List Kept) (ls : List Kept) (t : SharedState) → slice_get names place ≡ Some name → IsClocked place now ks s ms → DoesIfUp place Ticks ms s a b ls t → Emits b (Normal ∷ []) c → AnswersTogether names (At name (Clock now)) a c ks s ls t
+  pub clock_tells : (name : List ℕ) (place now : ℕ) (a b c : Shown) (ms : List NodeState) (ls : List NodeState) (t : SharedState) → slice_get names place ≡ Some name → IsClocked place now ks s ms → DoesIfUp place Ticks ms s a b ls t → Emits b (Normal ∷ []) c → AnswersTogether names (At name (Clock now)) a c ks s ls t
   clock_tells name place now a b c ms ls t there x d emits =
       told (At name (Clock now)) a c ls t (subst (λ y. AnswersTogether (kept_names ks) (At y (Clock now)) a c ks s ls t) (old_named place name x.kept there x.here)
       (answers_clock place now ks s a b c x.kept ls t apart_kept x.here (subst (λ y. DoesIfUp place Ticks y s a b ls t) x.put d) emits))
 
-  pub clock_is_served : StaysWithin → (name : List ℕ) (place now : ℕ) (a b c : Shown) (ms : List Kept) (ls : List Kept) (t : SharedState) → slice_get names place ≡ Some name → IsClocked place now ks s ms → DoesIfUp place Ticks ms s a b ls t → Emits b (Normal ∷ []) c →
+  pub clock_is_served : StaysWithin → (name : List ℕ) (place now : ℕ) (a b c : Shown) (ms : List NodeState) (ls : List NodeState) (t : SharedState) → slice_get names place ≡ Some name → IsClocked place now ks s ms → DoesIfUp place Ticks ms s a b ls t → Emits b (Normal ∷ []) c →
       (logs : List CallLog) (w : World) → StandsTogether logs ks s w → AllKept w.shared w.nodes → ServesTogether logs w (At name (Clock now)) a c ls t
   clock_is_served stays name place now a b c ms ls t there x d emits logs w h kept =
       subst (λ y. ServesTogether logs w (At y (Clock now)) a c ls t) (old_named place name x.kept there x.here)
@@ -146,23 +146,23 @@ module _ (names : List (List ℕ)) (ks : List Kept) (s : SharedState) (same : na
       refused_serves logs ks s w (Deliver number) line.NoSuchNode a b h (no_receiver w number m (ap (message_at number) h.shared.wire ∙ there) (missing logs ks s w h apart_kept m.to (none_kept m.to none))) emits
 
   -- A delivery.
-  pub over_tells : (number place : ℕ) (m : Message) (a b : Shown) (ls : List Kept) (t : SharedState) → message_at number s.wire ≡ Some m → slice_get names place ≡ Some m.to → DoesTask place (Takes m) true true ks s a b ls t → AnswersTogether names (Deliver number) a b ks s ls t
+  pub over_tells : (number place : ℕ) (m : Message) (a b : Shown) (ls : List NodeState) (t : SharedState) → message_at number s.wire ≡ Some m → slice_get names place ≡ Some m.to → DoesTask place (Takes m) true true ks s a b ls t → AnswersTogether names (Deliver number) a b ks s ls t
   over_tells number place m a b ls t there to d =
       told (Deliver number) a b ls t (subst (λ ms. AnswersTogether (kept_names ks) (Deliver number) a b ks s ms t) (sym d.put)
       (answers_over number m ks s a b d.old d.new t place apart_kept d.here d.named there (sym (old_named place m.to d.old to d.here)) d.tells))
 
-  pub over_serves : (number place : ℕ) (m : Message) (a b : Shown) (ls : List Kept) (t : SharedState) → message_at number s.wire ≡ Some m → slice_get names place ≡ Some m.to → DoesTask place (Takes m) true true ks s a b ls t →
+  pub over_serves : (number place : ℕ) (m : Message) (a b : Shown) (ls : List NodeState) (t : SharedState) → message_at number s.wire ≡ Some m → slice_get names place ≡ Some m.to → DoesTask place (Takes m) true true ks s a b ls t →
       (logs : List CallLog) (w : World) → StandsTogether logs ks s w → AllKept w.shared w.nodes → ServesTogether logs w (Deliver number) a b ls t
   over_serves number place m a b ls t there to d logs w h kept =
       subst (λ ms. ServesTogether logs w (Deliver number) a b ms t) (sym d.put)
       (delivery_over logs ks s w h apart_kept kept place d.old d.here number m a b d.new t (ap (message_at number) h.shared.wire ∙ there) (sym (old_named place m.to d.old to d.here)) d.performs)
 
-  pub on_tells : (number place : ℕ) (m : Message) (a b c : Shown) (ls : List Kept) (t : SharedState) → message_at number s.wire ≡ Some m → slice_get names place ≡ Some m.to → DoesTask place (Takes m) false false ks s a b ls t → Emits b (Normal ∷ []) c → AnswersTogether names (Deliver number) a c ks s ls t
+  pub on_tells : (number place : ℕ) (m : Message) (a b c : Shown) (ls : List NodeState) (t : SharedState) → message_at number s.wire ≡ Some m → slice_get names place ≡ Some m.to → DoesTask place (Takes m) false false ks s a b ls t → Emits b (Normal ∷ []) c → AnswersTogether names (Deliver number) a c ks s ls t
   on_tells number place m a b c ls t there to d emits =
       told (Deliver number) a c ls t (subst (λ ms. AnswersTogether (kept_names ks) (Deliver number) a c ks s ms t) (sym d.put)
       (answers_on number m ks s a b c d.old d.new t place apart_kept d.here d.named there (sym (old_named place m.to d.old to d.here)) d.tells emits))
 
-  pub on_serves : (number place : ℕ) (m : Message) (a b c : Shown) (ls : List Kept) (t : SharedState) → message_at number s.wire ≡ Some m → slice_get names place ≡ Some m.to → DoesTask place (Takes m) false false ks s a b ls t → Emits b (Normal ∷ []) c →
+  pub on_serves : (number place : ℕ) (m : Message) (a b c : Shown) (ls : List NodeState) (t : SharedState) → message_at number s.wire ≡ Some m → slice_get names place ≡ Some m.to → DoesTask place (Takes m) false false ks s a b ls t → Emits b (Normal ∷ []) c →
       (logs : List CallLog) (w : World) → StandsTogether logs ks s w → AllKept w.shared w.nodes → ServesTogether logs w (Deliver number) a c ls t
   on_serves number place m a b c ls t there to d emits logs w h kept =
       subst (λ ms. ServesTogether logs w (Deliver number) a c ms t) (sym d.put)
@@ -204,11 +204,11 @@ module _ (names : List (List ℕ)) (ks : List Kept) (s : SharedState) (same : na
       refused_serves logs ks s w (LinkDown one other) line.BadParameter a b h (link_there w one other n.0 m.0 n.1 m.1 ∙ ap (λ (x : Bool). refused_if x line.BadParameter) eq) emits
 
   -- and one that fails.
-  pub link_tells : (one other : List ℕ) (p q : ℕ) (a x b c : Shown) (ms : List Kept) (u : SharedState) (ls : List Kept) (t : SharedState) → slice_get names p ≡ Some one → slice_get names q ≡ Some other → DoesIfUp p (LosesLink other) ks s a x ms u → DoesIfUp q (LosesLink one) ms u x b ls t → Emits b (Normal ∷ []) c →
+  pub link_tells : (one other : List ℕ) (p q : ℕ) (a x b c : Shown) (ms : List NodeState) (u : SharedState) (ls : List NodeState) (t : SharedState) → slice_get names p ≡ Some one → slice_get names q ≡ Some other → DoesIfUp p (LosesLink other) ks s a x ms u → DoesIfUp q (LosesLink one) ms u x b ls t → Emits b (Normal ∷ []) c →
       AnswersTogether names (LinkDown one other) a c ks s ls t
   link_tells one other p q a x b c ms u ls t np nq d f emits = told (LinkDown one other) a c ls t (answers_link one other p q ks s a x b c ms u ls t apart_kept (there_kept one p np) (there_kept other q nq) d f emits)
 
-  pub link_is_served : StaysWithin → (one other : List ℕ) (p q : ℕ) (a x b c : Shown) (ms : List Kept) (u : SharedState) (ls : List Kept) (t : SharedState) → slice_get names p ≡ Some one → slice_get names q ≡ Some other → bytes_eq one other ≡ false → DoesIfUp p (LosesLink other) ks s a x ms u →
+  pub link_is_served : StaysWithin → (one other : List ℕ) (p q : ℕ) (a x b c : Shown) (ms : List NodeState) (u : SharedState) (ls : List NodeState) (t : SharedState) → slice_get names p ≡ Some one → slice_get names q ≡ Some other → bytes_eq one other ≡ false → DoesIfUp p (LosesLink other) ks s a x ms u →
       DoesIfUp q (LosesLink one) ms u x b ls t → Emits b (Normal ∷ []) c → (logs : List CallLog) (w : World) → StandsTogether logs ks s w → AllKept w.shared w.nodes → ServesTogether logs w (LinkDown one other) a c ls t
   link_is_served stays one other p q a x b c ms u ls t np nq differ d f emits logs w h kept =
       link_serves stays logs ks s w h apart_kept kept one other p q (there_kept one p np) (there_kept other q nq) differ a x b c ms u ls t d f emits

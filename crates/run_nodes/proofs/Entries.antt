@@ -7,14 +7,14 @@ use Rattle.run_model.proofs.NodeLists.{some_is}
 use Rattle.run_shared.specs.Sharing.{SharedState}
 use Rattle.indexmap.specs.IndexMap.{set_value_at}
 use Rattle.dtm_node.specs.Nodes.{IsNode, kept_of}
-use Rattle.node_standing.specs.Standing.{Kept}
+use Rattle.node_standing.specs.Standing.{NodeState}
 use Rattle.dtm_node.specs.declared.node.Node.{Node}
 use Rattle.run_nodes.specs.Held.{AreNodesIn, clocks_of}
 use Rattle.run_nodes.proofs.Counts.{node_more, node_shared}
 use Rattle.run_nodes.specs.Told.{kept_names}
 
 module _ {D U : Type 0} (state : D → DiskState) (units : U → UnitsState) where
-  abbrev pub kept_in : List (List ℕ × Node D U) → List Kept
+  abbrev pub kept_in : List (List ℕ × Node D U) → List NodeState
   kept_in es = map (λ e. kept_of state units e.1) es
 
   abbrev pub names_in : List (List ℕ × Node D U) → List (List ℕ)

@@ -16,7 +16,7 @@ use Rattle.run_model.specs.Statements.{Does, Part, message_at, other_node, refus
 use Rattle.run_model.proofs.NodeLists.{some_is}
 use Rattle.run_shared.specs.Sharing.{SharedState}
 use Rattle.node_standing.specs.Keeping.{IsPromised, Performs, PerformsRequest, PerformsTask}
-use Rattle.node_standing.specs.Standing.{IsDown, IsRunning, Kept, Place, StandsFor, StandsIn, counts_of, disk_in, is_up}
+use Rattle.node_standing.specs.Standing.{IsDown, IsRunning, NodeState, Place, PlaceRepresents, RepresentsNode, counts_of, disk_in, is_up}
 use Rattle.statement_steps.specs.Doing.{AllKept, DoesParts, IsPlain, IsWithin, as_begun, moved}
 use Rattle.statement_steps.specs.TheLaws.{StaysWithin}
 use Rattle.statement_steps.proofs.Keeping.{kept_at, within_begun}
@@ -32,18 +32,18 @@ use Rattle.run_nodes.specs.Told.{kept_names}
 use Rattle.run_nodes.proofs.Places.{StandsAt, disk_found, found, get_map, it, kept_at_place, names_set, together_put, world_apart}
 
 -- a node is up where what is kept of it is
-pub stands_up : (log : CallLog) (k : Kept) (n : Node) → StandsFor log k n → n.up ≡ is_up k.place
+pub stands_up : (log : CallLog) (k : NodeState) (n : Node) → RepresentsNode log k n → n.up ≡ is_up k.place
 stands_up log k n h = by k.place h.place
   where
-    by : (p : Place) → StandsIn k.clock p n → n.up ≡ is_up p
+    by : (p : Place) → PlaceRepresents k.clock p n → n.up ≡ is_up p
     by (IsDown has_parts d) s = s.down
     by (IsRunning r) s = s.stands.up
 
 -- of the disk of one that is up something is known
-pub up_known : (log : CallLog) (k : Kept) (n : Node) → StandsFor log k n → n.up ≡ true → n.durable.volume ≡ Unknown → ⊥
+pub up_known : (log : CallLog) (k : NodeState) (n : Node) → RepresentsNode log k n → n.up ≡ true → n.durable.volume ≡ Unknown → ⊥
 up_known log k n h up = by k.place h.place
   where
-    by : (p : Place) → StandsIn k.clock p n → n.durable.volume ≡ Unknown → ⊥
+    by : (p : Place) → PlaceRepresents k.clock p n → n.durable.volume ≡ Unknown → ⊥
     by (IsDown has_parts d) s unknown = let no : true ≡ false = sym up ∙ s.down in let none : ⊥ = cc in none
     by (IsRunning r) s unknown = let no : Sound ≡ Unknown = sym s.stands.kept.has.home.volume ∙ unknown in let none : ⊥ = cc in none
 
@@ -61,19 +61,19 @@ promised w name Boot n there up never = by n.up refl
 promised w name _ n there up never = tt
 
 -- A statement that is refused at once.
-pub refused_serves : (logs : List CallLog) (ks : List Kept) (s : SharedState) (w : World) (st : Statement) (refusal : Line) (a b : Shown) → StandsTogether logs ks s w → refused_at_once w st ≡ Some refusal → Emits a (refusal ∷ []) b → ServesTogether logs w st a b ks s
+pub refused_serves : (logs : List CallLog) (ks : List NodeState) (s : SharedState) (w : World) (st : Statement) (refusal : Line) (a b : Shown) → StandsTogether logs ks s w → refused_at_once w st ≡ Some refusal → Emits a (refusal ∷ []) b → ServesTogether logs w st a b ks s
 refused_serves logs ks s w st refusal a b h e m = record { lines = refusal ∷ []; world = w; step = told_at_once w st refusal e; emits = m; stands = h }
 
-module _ (logs : List CallLog) (ks : List Kept) (s : SharedState) (w : World) (h : StandsTogether logs ks s w) (apart : AreApart (kept_names ks)) (kept : AllKept w.shared w.nodes) (place : ℕ) (k : Kept) (e : slice_get ks place ≡ Some k) where
+module _ (logs : List CallLog) (ks : List NodeState) (s : SharedState) (w : World) (h : StandsTogether logs ks s w) (apart : AreApart (kept_names ks)) (kept : AllKept w.shared w.nodes) (place : ℕ) (k : NodeState) (e : slice_get ks place ≡ Some k) where
   abbrev node_there : Node
   node_there = (it logs ks s w h apart place k e).node
 
   -- what a task comes to at the node there
-  pub performed : (task : Task) (answers ends : Bool) (a b : Shown) (l : Kept) (t : SharedState) → PerformsTask task answers ends k s a b l t → IsPromised task node_there →
+  pub performed : (task : Task) (answers ends : Bool) (a b : Shown) (l : NodeState) (t : SharedState) → PerformsTask task answers ends k s a b l t → IsPromised task node_there →
       Performs (it logs ks s w h apart place k e).log w.shared node_there (counts_of (disk_in k.place)) task answers ends a b l t
   performed task answers ends a b l t p may = p (it logs ks s w h apart place k e).log node_there w.shared (it logs ks s w h apart place k e).stands h.shared (kept_at w.shared w.nodes place node_there kept (it logs ks s w h apart place k e).at) may
 
-  request_at : (request : Request) (a b : Shown) (l : Kept) (t : SharedState) (ends : Bool) → ((now : ℕ) → request ≡ Clock now → ⊥) → other_node w request ≡ None →
+  request_at : (request : Request) (a b : Shown) (l : NodeState) (t : SharedState) (ends : Bool) → ((now : ℕ) → request ≡ Clock now → ⊥) → other_node w request ≡ None →
       Performs (it logs ks s w h apart place k e).log w.shared node_there (counts_of (disk_in k.place)) (Serves request) true ends a b l t → ServesTogether logs w (At k.name request) a b (slice_set ks place l) t
   request_at request a b l t ends not_clock other p = record {
     lines = p.lines ++ p.answer ∷ [];
@@ -84,7 +84,7 @@ module _ (logs : List CallLog) (ks : List Kept) (s : SharedState) (w : World) (h
   }
 
   -- A request, but for that of a clock.
-  pub request_serves : (request : Request) (a b : Shown) (l : Kept) (t : SharedState) → ((now : ℕ) → request ≡ Clock now → ⊥) → other_node w request ≡ None → (BootsUnknown w (At k.name request) → ⊥) →
+  pub request_serves : (request : Request) (a b : Shown) (l : NodeState) (t : SharedState) → ((now : ℕ) → request ≡ Clock now → ⊥) → other_node w request ≡ None → (BootsUnknown w (At k.name request) → ⊥) →
       PerformsRequest request k s a b l t → ServesTogether logs w (At k.name request) a b (slice_set ks place l) t
   request_serves request a b l t not_clock other never p =
       let x = p (it logs ks s w h apart place k e).log node_there w.shared (it logs ks s w h apart place k e).stands h.shared (kept_at w.shared w.nodes place node_there kept (it logs ks s w h apart place k e).at)
@@ -92,7 +92,7 @@ module _ (logs : List CallLog) (ks : List Kept) (s : SharedState) (w : World) (h
       request_at request a b l t x.0 not_clock other x.1
 
   -- A delivery: the statement ends with it,
-  pub delivery_over : (number : ℕ) (m : Message) (a b : Shown) (l : Kept) (t : SharedState) → message_at number w.shared.wire ≡ Some m → m.to ≡ k.name → PerformsTask (Takes m) true true k s a b l t → ServesTogether logs w (Deliver number) a b (slice_set ks place l) t
+  pub delivery_over : (number : ℕ) (m : Message) (a b : Shown) (l : NodeState) (t : SharedState) → message_at number w.shared.wire ≡ Some m → m.to ≡ k.name → PerformsTask (Takes m) true true k s a b l t → ServesTogether logs w (Deliver number) a b (slice_set ks place l) t
   delivery_over number m a b l t there to task =
       let p = performed (Takes m) true true a b l t task tt in
       record {
@@ -104,7 +104,7 @@ module _ (logs : List CallLog) (ks : List Kept) (s : SharedState) (w : World) (h
       }
 
   -- or goes on and succeeds.
-  pub delivery_on : (number : ℕ) (m : Message) (a b c : Shown) (l : Kept) (t : SharedState) → message_at number w.shared.wire ≡ Some m → m.to ≡ k.name → PerformsTask (Takes m) false false k s a b l t → Emits b (Normal ∷ []) c → ServesTogether logs w (Deliver number) a c (slice_set ks place l) t
+  pub delivery_on : (number : ℕ) (m : Message) (a b c : Shown) (l : NodeState) (t : SharedState) → message_at number w.shared.wire ≡ Some m → m.to ≡ k.name → PerformsTask (Takes m) false false k s a b l t → Emits b (Normal ∷ []) c → ServesTogether logs w (Deliver number) a c (slice_set ks place l) t
   delivery_on number m a b c l t there to task emits =
       let p = performed (Takes m) false false a b l t task tt in
       let normal : p.answer ≡ Normal = step_on w.shared node_there (counts_of (disk_in k.place)) (Takes m) p.lines p.answer false p.node p.shared (counts_of (disk_in l.place)) (λ x y. refl) p.step refl in
@@ -117,7 +117,7 @@ module _ (logs : List CallLog) (ks : List Kept) (s : SharedState) (w : World) (h
       }
 
 -- Parts of a statement that began with these counts: they were done from a world of the kept nodes on, which shows these lines and leads to one again.
-pub record Went (logs : List CallLog) (begun : List DiskCounts) (ps : List Part) (v : World) (a b : Shown) (ls : List Kept) (t : SharedState) : Type 0 where
+pub record Went (logs : List CallLog) (begun : List DiskCounts) (ps : List Part) (v : World) (a b : Shown) (ls : List NodeState) (t : SharedState) : Type 0 where
   pub lines : List Line
   pub world : World
   pub does : DoesParts begun ps v false lines Normal world
@@ -125,11 +125,11 @@ pub record Went (logs : List CallLog) (begun : List DiskCounts) (ps : List Part)
   pub stands : StandsTogether logs ls t world
   pub within : IsWithin begun world
 
-pub went_none : (logs : List CallLog) (begun : List DiskCounts) (v : World) (a : Shown) (ks : List Kept) (s : SharedState) → StandsTogether logs ks s v → IsWithin begun v → Went logs begun [] v a a ks s
+pub went_none : (logs : List CallLog) (begun : List DiskCounts) (v : World) (a : Shown) (ks : List NodeState) (s : SharedState) → StandsTogether logs ks s v → IsWithin begun v → Went logs begun [] v a a ks s
 went_none logs begun v a ks s h within = record { lines = []; world = v; does = does_none begun v; emits = emits_nothing a; stands = h; within = within }
 
 -- One task, whose success is Normal, behind which the statement goes on.
-pub performs_went : StaysWithin → (logs : List CallLog) (begun : List DiskCounts) (v : World) (place : ℕ) (task : Task) (ks : List Kept) (s : SharedState) (a b : Shown) (k l : Kept) (t : SharedState) → StandsTogether logs ks s v → AreApart (kept_names ks) → IsWithin begun v → IsPlain task → powers (task_service task) ≡ false →
+pub performs_went : StaysWithin → (logs : List CallLog) (begun : List DiskCounts) (v : World) (place : ℕ) (task : Task) (ks : List NodeState) (s : SharedState) (a b : Shown) (k l : NodeState) (t : SharedState) → StandsTogether logs ks s v → AreApart (kept_names ks) → IsWithin begun v → IsPlain task → powers (task_service task) ≡ false →
     slice_get ks place ≡ Some k → PerformsTask task false false k s a b l t → ((n : Node) → slice_get v.nodes place ≡ Some n → IsPromised task n) → Went logs begun (Does k.name task ∷ []) v a b (slice_set ks place l) t
 performs_went stays logs begun v place task ks s a b k l t h apart within plain unpowered e performs may =
     let i = it logs ks s v h apart place k e in
@@ -149,14 +149,14 @@ performs_went stays logs begun v place task ks s a b k l t h apart within plain 
       within = stays begun v k.name i.node p.node old new task p.lines p.answer false p.shared within there disk p.step;
     }
 
-pub task_went : StaysWithin → (logs : List CallLog) (begun : List DiskCounts) (v : World) (place : ℕ) (task : Task) (ks : List Kept) (s : SharedState) (a b : Shown) (ls : List Kept) (t : SharedState) → StandsTogether logs ks s v → AreApart (kept_names ks) → IsWithin begun v → IsPlain task → powers (task_service task) ≡ false →
+pub task_went : StaysWithin → (logs : List CallLog) (begun : List DiskCounts) (v : World) (place : ℕ) (task : Task) (ks : List NodeState) (s : SharedState) (a b : Shown) (ls : List NodeState) (t : SharedState) → StandsTogether logs ks s v → AreApart (kept_names ks) → IsWithin begun v → IsPlain task → powers (task_service task) ≡ false →
     (d : DoesTask place task false false ks s a b ls t) → ((n : Node) → slice_get v.nodes place ≡ Some n → IsPromised task n) → Went logs begun (Does d.old.name task ∷ []) v a b ls t
 task_went stays logs begun v place task ks s a b ls t h apart within plain unpowered d may =
     subst (λ ms. Went logs begun (Does d.old.name task ∷ []) v a b ms t) (sym d.put)
     (performs_went stays logs begun v place task ks s a b d.old d.new t h apart within plain unpowered d.here d.performs may)
 
 -- likewise where the node is up
-pub if_up_went : StaysWithin → (logs : List CallLog) (begun : List DiskCounts) (v : World) (place : ℕ) (task : Task) (ks : List Kept) (s : SharedState) (a b : Shown) (ls : List Kept) (t : SharedState) → StandsTogether logs ks s v → AreApart (kept_names ks) → IsWithin begun v → IsPlain task → powers (task_service task) ≡ false →
+pub if_up_went : StaysWithin → (logs : List CallLog) (begun : List DiskCounts) (v : World) (place : ℕ) (task : Task) (ks : List NodeState) (s : SharedState) (a b : Shown) (ls : List NodeState) (t : SharedState) → StandsTogether logs ks s v → AreApart (kept_names ks) → IsWithin begun v → IsPlain task → powers (task_service task) ≡ false →
     ((n : Node) → IsPromised task n) → (d : DoesIfUp place task ks s a b ls t) → Went logs begun (where_up d.kept.name task (as_begun begun v)) v a b ls t
 if_up_went stays logs begun v place task ks s a b ls t h apart within plain unpowered may d = by (is_up d.kept.place) refl
   where
@@ -175,7 +175,7 @@ if_up_went stays logs begun v place task ks s a b ls t h apart within plain unpo
         record {
           lines = g.lines;
           world = g.world;
-          does = subst (λ ps. DoesParts begun ps v false g.lines Normal g.world) (ap (λ (y : Kept). Does y.name task ∷ []) same ∙ sym (up_there (as_begun begun v) d.kept.name task i.node here up)) g.does;
+          does = subst (λ ps. DoesParts begun ps v false g.lines Normal g.world) (ap (λ (y : NodeState). Does y.name task ∷ []) same ∙ sym (up_there (as_begun begun v) d.kept.name task i.node here up)) g.does;
           emits = g.emits;
           stands = g.stands;
           within = g.within;
@@ -193,22 +193,22 @@ if_up_went stays logs begun v place task ks s a b ls t h apart within plain unpo
         }
 
 -- names stay where a node does something
-pub task_names : (place : ℕ) (task : Task) (answers ends : Bool) (ks : List Kept) (s : SharedState) (a b : Shown) (ls : List Kept) (t : SharedState) → DoesTask place task answers ends ks s a b ls t → kept_names ls ≡ kept_names ks
+pub task_names : (place : ℕ) (task : Task) (answers ends : Bool) (ks : List NodeState) (s : SharedState) (a b : Shown) (ls : List NodeState) (t : SharedState) → DoesTask place task answers ends ks s a b ls t → kept_names ls ≡ kept_names ks
 task_names place task answers ends ks s a b ls t d = ap kept_names d.put ∙ names_set ks place d.old d.new d.here d.named
 
-pub if_up_names : (place : ℕ) (task : Task) (ks : List Kept) (s : SharedState) (a b : Shown) (ls : List Kept) (t : SharedState) → DoesIfUp place task ks s a b ls t → kept_names ls ≡ kept_names ks
+pub if_up_names : (place : ℕ) (task : Task) (ks : List NodeState) (s : SharedState) (a b : Shown) (ls : List NodeState) (t : SharedState) → DoesIfUp place task ks s a b ls t → kept_names ls ≡ kept_names ks
 if_up_names place task ks s a b ls t d = by (is_up d.kept.place) refl
   where
     by : (up : Bool) → is_up d.kept.place ≡ up → kept_names ls ≡ kept_names ks
     by true e = task_names place task false false ks s a b ls t (d.up e)
     by false e = ap kept_names (d.down e).0
 
-pub named_so : (ks : List Kept) (place : ℕ) (k : Kept) (name : List ℕ) → slice_get ks place ≡ Some k → slice_get (kept_names ks) place ≡ Some name → k.name ≡ name
-named_so ks place k name e f = some_is k.name name (sym (get_map (λ (x : Kept). x.name) ks place k e) ∙ f)
+pub named_so : (ks : List NodeState) (place : ℕ) (k : NodeState) (name : List ℕ) → slice_get ks place ≡ Some k → slice_get (kept_names ks) place ≡ Some name → k.name ≡ name
+named_so ks place k name e f = some_is k.name name (sym (get_map (λ (x : NodeState). x.name) ks place k e) ∙ f)
 
 -- A link that fails.
-pub link_serves : StaysWithin → (logs : List CallLog) (ks : List Kept) (s : SharedState) (w : World) → StandsTogether logs ks s w → AreApart (kept_names ks) → AllKept w.shared w.nodes → (one other : List ℕ) (p q : ℕ) → slice_get (kept_names ks) p ≡ Some one → slice_get (kept_names ks) q ≡ Some other →
-    bytes_eq one other ≡ false → (a x b c : Shown) (ms : List Kept) (u : SharedState) (ls : List Kept) (t : SharedState) → DoesIfUp p (LosesLink other) ks s a x ms u → DoesIfUp q (LosesLink one) ms u x b ls t → Emits b (Normal ∷ []) c → ServesTogether logs w (LinkDown one other) a c ls t
+pub link_serves : StaysWithin → (logs : List CallLog) (ks : List NodeState) (s : SharedState) (w : World) → StandsTogether logs ks s w → AreApart (kept_names ks) → AllKept w.shared w.nodes → (one other : List ℕ) (p q : ℕ) → slice_get (kept_names ks) p ≡ Some one → slice_get (kept_names ks) q ≡ Some other →
+    bytes_eq one other ≡ false → (a x b c : Shown) (ms : List NodeState) (u : SharedState) (ls : List NodeState) (t : SharedState) → DoesIfUp p (LosesLink other) ks s a x ms u → DoesIfUp q (LosesLink one) ms u x b ls t → Emits b (Normal ∷ []) c → ServesTogether logs w (LinkDown one other) a c ls t
 link_serves stays logs ks s w h apart kept one other p q np nq differ a x b c ms u ls t d f emits =
     let within = within_begun (LinkDown one other) w (world_apart logs ks s w h apart) kept in
     let names = if_up_names p (LosesLink other) ks s a x ms u d in
@@ -231,15 +231,15 @@ link_serves stays logs ks s w h apart kept one other p q np nq differ a x b c ms
     }
 
 -- A clock that is set: the node aborts what is due then, where it is up.
-pub clock_serves : StaysWithin → (logs : List CallLog) (ks : List Kept) (s : SharedState) (w : World) → StandsTogether logs ks s w → AreApart (kept_names ks) → AllKept w.shared w.nodes → (place : ℕ) (k l : Kept) → slice_get ks place ≡ Some k → l.name ≡ k.name → (now : ℕ) (a b c : Shown) →
-    PerformsTask (Serves (Clock now)) false false k s a a l s → (ls : List Kept) (t : SharedState) → DoesIfUp place Ticks (slice_set ks place l) s a b ls t → Emits b (Normal ∷ []) c → ServesTogether logs w (At k.name (Clock now)) a c ls t
+pub clock_serves : StaysWithin → (logs : List CallLog) (ks : List NodeState) (s : SharedState) (w : World) → StandsTogether logs ks s w → AreApart (kept_names ks) → AllKept w.shared w.nodes → (place : ℕ) (k l : NodeState) → slice_get ks place ≡ Some k → l.name ≡ k.name → (now : ℕ) (a b c : Shown) →
+    PerformsTask (Serves (Clock now)) false false k s a a l s → (ls : List NodeState) (t : SharedState) → DoesIfUp place Ticks (slice_set ks place l) s a b ls t → Emits b (Normal ∷ []) c → ServesTogether logs w (At k.name (Clock now)) a c ls t
 clock_serves stays logs ks s w h apart kept place k l e same now a b c performs ls t d emits =
     let within = within_begun (At k.name (Clock now)) w (world_apart logs ks s w h apart) kept in
     let ms = slice_set ks place l in
     let names = names_set ks place k l e same in
     let g = performs_went stays logs w.disks w place (Serves (Clock now)) ks s a a k l s h apart within (λ y z. refl) refl e performs (λ n at. tt) in
     let j = if_up_went stays logs w.disks g.world place Ticks ms s a b ls t g.stands (subst AreApart (sym names) apart) g.within (λ y z. refl) refl (λ n. tt) d in
-    let named : d.kept.name ≡ k.name = named_so ms place d.kept k.name d.there (ap (λ ns. slice_get ns place) names ∙ get_map (λ (x : Kept). x.name) ks place k e) in
+    let named : d.kept.name ≡ k.name = named_so ms place d.kept k.name d.there (ap (λ ns. slice_get ns place) names ∙ get_map (λ (x : NodeState). x.name) ks place k e) in
     record {
       lines = (g.lines ++ j.lines) ++ Normal ∷ [];
       world = j.world;

@@ -11,7 +11,7 @@ use Rattle.run_model.specs.Answers.{Serves, Task, task_service}
 use Rattle.run_shared.specs.Sharing.{SharedState}
 use Rattle.said_steps.specs.Answers.{IsSteady, is_normal}
 use Rattle.said_steps.specs.Own.{alone}
-use Rattle.node_standing.specs.Standing.{Kept}
+use Rattle.node_standing.specs.Standing.{NodeState}
 use Rattle.node_standing.specs.Telling.{TellsTask, may_answer_task, refused_task, said_node, said_shared}
 
 -- whether the first node is up
@@ -41,7 +41,7 @@ pub steady_up : (ls : List Line) (n m : SaidNode) (s t : SaidShared) → IsStead
 steady_up ls n m s t h e up = ap (λ (x : Said). first_up x.nodes) (sym e) ∙ lines_up ls (alone n s) h up
 
 -- A task that went on, whose statement ends where the disk goes down.
-module _ (task : Task) (answers : Bool) (k : Kept) (s : SharedState) (a b : Shown) (l : Kept) (t : SharedState) (d : TellsTask task answers false k s a b l t) where
+module _ (task : Task) (answers : Bool) (k : NodeState) (s : SharedState) (a b : Shown) (l : NodeState) (t : SharedState) (d : TellsTask task answers false k s a b l t) where
   pub went_unrefused : refused_task (said_shared s) (said_node k) task ≡ None
   went_unrefused = by (refused_task (said_shared s) (said_node k) task) refl
     where

@@ -18,8 +18,8 @@ use Rattle.run_model.proofs.NodeLists.{some_is}
 use Rattle.recovery_units.specs.Uses.{IsCounted}
 use Rattle.run_shared.specs.Sharing.{SharedState}
 use Rattle.node_standing.specs.Holding.{HoldsAs}
-use Rattle.node_standing.specs.Standing.{Kept, counts_of, disk_in, is_up}
-use Rattle.node_standing.specs.Telling.{Passes, TellsTask, armed_task, powered_task, said_node, said_shared}
+use Rattle.node_standing.specs.Standing.{NodeState, counts_of, disk_in, is_up}
+use Rattle.node_standing.specs.Telling.{DiskAdvancesOverCalls, TellsTask, armed_task, powered_task, said_node, said_shared}
 use Rattle.dtm_node.proofs.Held.{holds_is, holds_on}
 use Rattle.said_steps.specs.Calls.{is_boot_refusal, is_named}
 use Rattle.said_steps.specs.Own.{alone}
@@ -27,15 +27,15 @@ use Rattle.said_steps.proofs.OwnLines.{own_down, own_lines_say}
 use Rattle.statement_steps.proofs.Counting.{rose_over}
 use Rattle.run_nodes.specs.Names.{AreApart, is_among}
 use Rattle.run_nodes.specs.Together.{said_together}
-use Rattle.run_nodes.specs.Told.{DiskTold, Told, kept_names}
+use Rattle.run_nodes.specs.Told.{DiskFollowsShown, DisksFollowShown, kept_names}
 use Rattle.run_nodes.proofs.Places.{names_set, said_found, said_put}
 
 -- A disk from one state to a later one.
 
-pub passes_same : (d : DiskState) → Passes d d
+pub passes_same : (d : DiskState) → DiskAdvancesOverCalls d d
 passes_same d = record { size = refl; faults = λ c. omega arith; stops = λ c. omega arith; counted = λ c. c; told = refl }
 
-pub passes_on : (x y z : DiskState) → Passes x y → Passes y z → Passes x z
+pub passes_on : (x y z : DiskState) → DiskAdvancesOverCalls x y → DiskAdvancesOverCalls y z → DiskAdvancesOverCalls x z
 passes_on x y z p q = record {
   size = q.size ∙ p.size;
   faults = λ c. (let f = p.faults c in let g = q.faults (p.counted c) in omega arith);
@@ -44,14 +44,14 @@ passes_on x y z p q = record {
   told = q.told ∙ p.told;
 }
 
-pub count_passes : (cause : Cause) (x y : DiskState) → Passes x y → IsCounted x → count_of cause (counts_of x) ≤ count_of cause (counts_of y)
+pub count_passes : (cause : Cause) (x y : DiskState) → DiskAdvancesOverCalls x y → IsCounted x → count_of cause (counts_of x) ≤ count_of cause (counts_of y)
 count_passes line.Failed x y p c = p.faults c
 count_passes line.Stopped x y p c = p.stops c
 
-pub disk_same : (name : List ℕ) (touched : List (List ℕ)) (lines : List Line) (d : DiskState) → ((cause : Cause) → In (line.Down name cause) lines → ⊥) → DiskTold name touched lines d d
+pub disk_same : (name : List ℕ) (touched : List (List ℕ)) (lines : List Line) (d : DiskState) → ((cause : Cause) → In (line.Down name cause) lines → ⊥) → DiskFollowsShown name touched lines d d
 disk_same name touched lines d none = record { calls = refl; failures = λ cause i c. absurd (none cause i); passes = passes_same d; elsewhere = λ e. refl }
 
-pub disk_on : (name : List ℕ) (touched : List (List ℕ)) (front rest : List Line) (x y z : DiskState) → DiskTold name touched front x y → DiskTold name touched rest y z → DiskTold name touched (front ++ rest) x z
+pub disk_on : (name : List ℕ) (touched : List (List ℕ)) (front rest : List Line) (x y z : DiskState) → DiskFollowsShown name touched front x y → DiskFollowsShown name touched rest y z → DiskFollowsShown name touched (front ++ rest) x z
 disk_on name touched front rest x y z h k = record {
   calls = k.calls ∙ h.calls;
   failures = λ cause i c. elim (in_parts (line.Down name cause) front rest i) [
@@ -62,27 +62,27 @@ disk_on name touched front rest x y z h k = record {
   elsewhere = λ e. k.elsewhere e ∙ h.elsewhere e;
 }
 
-pub name_there : (ks : List Kept) (ls : List Kept) (place : ℕ) (k : Kept) → kept_names ls ≡ kept_names ks → slice_get ks place ≡ Some k → (l : Kept) × (slice_get ls place ≡ Some l) × (l.name ≡ k.name)
+pub name_there : (ks : List NodeState) (ls : List NodeState) (place : ℕ) (k : NodeState) → kept_names ls ≡ kept_names ks → slice_get ks place ≡ Some k → (l : NodeState) × (slice_get ls place ≡ Some l) × (l.name ≡ k.name)
 name_there [] ls place k names e = let none : ⊥ = cc in absurd none
 name_there (x ∷ ks) [] place k names e = let none : ⊥ = cc (names) in absurd none
-name_there (x ∷ ks) (y ∷ ls) zero k names e = (y, refl, (let both : y.name ≡ x.name = cc (names) in both ∙ ap (λ (z : Kept). z.name) (some_is x k e)))
+name_there (x ∷ ks) (y ∷ ls) zero k names e = (y, refl, (let both : y.name ≡ x.name = cc (names) in both ∙ ap (λ (z : NodeState). z.name) (some_is x k e)))
 name_there (x ∷ ks) (y ∷ ls) (suc place) k names e = let more : kept_names ls ≡ kept_names ks = cc (names) in name_there ks ls place k more e
 
 -- what was down is as it was
-pub held_same : (k l : Kept) → l ≡ k → is_up k.place ≡ false → (is_up l.place ≡ false) × HoldsAs (disk_in k.place) (disk_in l.place)
-held_same k l e down = (ap (λ (x : Kept). is_up x.place) e ∙ down, holds_is (disk_in k.place) (disk_in l.place) (ap (λ (x : Kept). disk_in x.place) e))
+pub held_same : (k l : NodeState) → l ≡ k → is_up k.place ≡ false → (is_up l.place ≡ false) × HoldsAs (disk_in k.place) (disk_in l.place)
+held_same k l e down = (ap (λ (x : NodeState). is_up x.place) e ∙ down, holds_is (disk_in k.place) (disk_in l.place) (ap (λ (x : NodeState). disk_in x.place) e))
 
-pub told_none : (touched : List (List ℕ)) (ks : List Kept) (s : SharedState) → Told touched [] ks s ks s
+pub told_none : (touched : List (List ℕ)) (ks : List NodeState) (s : SharedState) → DisksFollowShown touched [] ks s ks s
 told_none touched ks s = record {
   says = refl;
   names = refl;
   held = λ place k l e f down. held_same k l (some_is l k (sym f ∙ e)) down;
   each = λ place k l e f.
       let same : k ≡ l = some_is k l (sym e ∙ f) in
-      subst (λ (x : Kept). DiskTold k.name touched [] (disk_in k.place) (disk_in x.place)) same (disk_same k.name touched [] (disk_in k.place) (λ cause i. i));
+      subst (λ (x : NodeState). DiskFollowsShown k.name touched [] (disk_in k.place) (disk_in x.place)) same (disk_same k.name touched [] (disk_in k.place) (λ cause i. i));
 }
 
-pub told_on : (touched : List (List ℕ)) (front rest : List Line) (ks : List Kept) (s : SharedState) (ms : List Kept) (u : SharedState) (ls : List Kept) (t : SharedState) → Told touched front ks s ms u → Told touched rest ms u ls t → Told touched (front ++ rest) ks s ls t
+pub told_on : (touched : List (List ℕ)) (front rest : List Line) (ks : List NodeState) (s : SharedState) (ms : List NodeState) (u : SharedState) (ls : List NodeState) (t : SharedState) → DisksFollowShown touched front ks s ms u → DisksFollowShown touched rest ms u ls t → DisksFollowShown touched (front ++ rest) ks s ls t
 told_on touched front rest ks s ms u ls t h k = record {
   says = said_append front rest (said_together ks s) ∙ ap (lines_said rest) h.says ∙ k.says;
   names = k.names ∙ h.names;
@@ -94,7 +94,7 @@ told_on touched front rest ks s ms u ls t h k = record {
   each = λ place x z e f.
       let y = name_there ks ms place x h.names e in
       disk_on x.name touched front rest (disk_in x.place) (disk_in y.0.place) (disk_in z.place) (h.each place x y.0 e y.1)
-      (subst (λ n. DiskTold n touched rest (disk_in y.0.place) (disk_in z.place)) y.2 (k.each place y.0 z y.1 f));
+      (subst (λ n. DiskFollowsShown n touched rest (disk_in y.0.place) (disk_in z.place)) y.2 (k.each place y.0 z y.1 f));
 }
 
 -- Places.
@@ -102,9 +102,9 @@ told_on touched front rest ks s ms u ls t h k = record {
 its_name : (name : List ℕ) → bytes_eq name name ≡ true
 its_name name = (bytes_eq-Decides name name).1 refl
 
-pub among_there : (name : List ℕ) (ks : List Kept) (place : ℕ) (k : Kept) → slice_get ks place ≡ Some k → k.name ≡ name → is_among name (kept_names ks) ≡ true
+pub among_there : (name : List ℕ) (ks : List NodeState) (place : ℕ) (k : NodeState) → slice_get ks place ≡ Some k → k.name ≡ name → is_among name (kept_names ks) ≡ true
 among_there name [] place k e same = let none : ⊥ = cc in absurd none
-among_there name (x ∷ ks) zero k e same = rw ((bytes_eq-Decides x.name name).1 (ap (λ (y : Kept). y.name) (some_is x k e) ∙ same)) refl
+among_there name (x ∷ ks) zero k e same = rw ((bytes_eq-Decides x.name name).1 (ap (λ (y : NodeState). y.name) (some_is x k e) ∙ same)) refl
 among_there name (x ∷ ks) (suc place) k e same = ap (λ b. bytes_eq x.name name || b) (among_there name ks place k e same) ∙ or_true (bytes_eq x.name name)
   where
     or_true : (b : Bool) → b || true ≡ true
@@ -112,17 +112,17 @@ among_there name (x ∷ ks) (suc place) k e same = ap (λ b. bytes_eq x.name nam
     or_true false = refl
 
 -- What a place has once another was put at one: that, or what it had, under another name.
-pub data WasPut (ks : List Kept) (place : ℕ) (k l : Kept) (other : ℕ) (x y : Kept) : Type 0 where
+pub data WasPut (ks : List NodeState) (place : ℕ) (k l : NodeState) (other : ℕ) (x y : NodeState) : Type 0 where
   Here : x ≡ k → y ≡ l → WasPut ks place k l other x y
   There : y ≡ x → (x.name ≡ k.name → ⊥) → WasPut ks place k l other x y
 
-pub was_put : (ks : List Kept) (place : ℕ) (k l : Kept) → AreApart (kept_names ks) → slice_get ks place ≡ Some k → (other : ℕ) (x y : Kept) → slice_get ks other ≡ Some x → slice_get (slice_set ks place l) other ≡ Some y → WasPut ks place k l other x y
+pub was_put : (ks : List NodeState) (place : ℕ) (k l : NodeState) → AreApart (kept_names ks) → slice_get ks place ≡ Some k → (other : ℕ) (x y : NodeState) → slice_get ks other ≡ Some x → slice_get (slice_set ks place l) other ≡ Some y → WasPut ks place k l other x y
 was_put [] place k l apart e other x y f g = let none : ⊥ = cc in absurd none
 was_put (z ∷ ks) zero k l apart e zero x y f g = Here (some_is x k (sym f ∙ e)) (sym (some_is l y g))
 was_put (z ∷ ks) zero k l apart e (suc other) x y f g =
-    There (some_is y x (sym g ∙ f)) (λ same. (let among : true ≡ false = sym (among_there z.name ks other x f (same ∙ ap (λ (v : Kept). v.name) (sym (some_is z k e)))) ∙ apart.0 in let none : ⊥ = cc in none))
+    There (some_is y x (sym g ∙ f)) (λ same. (let among : true ≡ false = sym (among_there z.name ks other x f (same ∙ ap (λ (v : NodeState). v.name) (sym (some_is z k e)))) ∙ apart.0 in let none : ⊥ = cc in none))
 was_put (z ∷ ks) (suc place) k l apart e zero x y f g =
-    There (some_is y x (sym g ∙ f)) (λ same. (let among : true ≡ false = sym (among_there z.name ks place k e (sym same ∙ ap (λ (v : Kept). v.name) (sym (some_is z x f)))) ∙ apart.0 in let none : ⊥ = cc in none))
+    There (some_is y x (sym g ∙ f)) (λ same. (let among : true ≡ false = sym (among_there z.name ks place k e (sym same ∙ ap (λ (v : NodeState). v.name) (sym (some_is z x f)))) ∙ apart.0 in let none : ⊥ = cc in none))
 was_put (z ∷ ks) (suc place) k l apart e (suc other) x y f g = elim (was_put ks place k l apart.1 e other x y f g) [
   | Here p q ↦ Here p q
   | There p q ↦ There p q
@@ -162,25 +162,25 @@ not_last node cause lines answer quiet i = elim (in_parts (line.Down node cause)
 ]
 
 -- A task of the node at a place that does not make its disk run again, and does not arm it.
-pub task_told : (touched : List (List ℕ)) (place : ℕ) (task : Task) (answers ends : Bool) (ks : List Kept) (s : SharedState) (a b : Shown) (k l : Kept) (t : SharedState) → AreApart (kept_names ks) → slice_get ks place ≡ Some k → l.name ≡ k.name → is_named k.name touched ≡ true →
+pub task_told : (touched : List (List ℕ)) (place : ℕ) (task : Task) (answers ends : Bool) (ks : List NodeState) (s : SharedState) (a b : Shown) (k l : NodeState) (t : SharedState) → AreApart (kept_names ks) → slice_get ks place ≡ Some k → l.name ≡ k.name → is_named k.name touched ≡ true →
     (d : TellsTask task answers ends k s a b l t) → ((ending : Bool) (answer : Line) → powered_task task ending answer ≡ false) → ((calls : CallLog) → armed_task task calls ≡ calls) → lines_said d.lines (alone (said_node k) (said_shared s)) ≡ alone (said_node l) (said_shared t) →
-    Told touched d.lines ks s (slice_set ks place l) t
+    DisksFollowShown touched d.lines ks s (slice_set ks place l) t
 task_told touched place task answers ends ks s a b k l t apart e same named d unpowered unarmed says = record {
   says = own_lines_say k.name (map said_node ks) d.lines (said_node k) (said_node l) (said_shared s) (said_shared t) d.own (said_found ks place k apart e) says ∙ ap (λ ns. record { nodes = ns; shared = said_shared t }) (said_put ks place k l apart e);
   names = names_set ks place k l e same;
   held = λ other x y f g down. elim (was_put ks place k l apart e other x y f g) [
     | Here p q ↦
-        let i = d.held (ap (λ (z : Kept). is_up z.place) (sym p) ∙ down) (ap (λ (u : Bool). u && not (is_boot_refusal d.answer)) (unpowered ends d.answer)) in
-        (ap (λ (z : Kept). is_up z.place) q ∙ i.0, subst (λ (z : Kept). HoldsAs (disk_in z.place) (disk_in y.place)) (sym p) (subst (λ (z : Kept). HoldsAs (disk_in k.place) (disk_in z.place)) (sym q) i.1))
+        let i = d.held (ap (λ (z : NodeState). is_up z.place) (sym p) ∙ down) (ap (λ (u : Bool). u && not (is_boot_refusal d.answer)) (unpowered ends d.answer)) in
+        (ap (λ (z : NodeState). is_up z.place) q ∙ i.0, subst (λ (z : NodeState). HoldsAs (disk_in z.place) (disk_in y.place)) (sym p) (subst (λ (z : NodeState). HoldsAs (disk_in k.place) (disk_in z.place)) (sym q) i.1))
     | There p q ↦ held_same x y p down
   ];
   each = λ other x y f g. elim (was_put ks place k l apart e other x y f g) [
-    | Here p q ↦ subst (λ (z : Kept). DiskTold z.name touched d.lines (disk_in z.place) (disk_in y.place)) (sym p) (subst (λ (z : Kept). DiskTold k.name touched d.lines (disk_in k.place) (disk_in z.place)) (sym q) here)
-    | There p q ↦ subst (λ (z : Kept). DiskTold x.name touched d.lines (disk_in x.place) (disk_in z.place)) (sym p) (disk_same x.name touched d.lines (disk_in x.place) (λ cause i. q (own_down x.name k.name cause d.lines d.own i)))
+    | Here p q ↦ subst (λ (z : NodeState). DiskFollowsShown z.name touched d.lines (disk_in z.place) (disk_in y.place)) (sym p) (subst (λ (z : NodeState). DiskFollowsShown k.name touched d.lines (disk_in k.place) (disk_in z.place)) (sym q) here)
+    | There p q ↦ subst (λ (z : NodeState). DiskFollowsShown x.name touched d.lines (disk_in x.place) (disk_in z.place)) (sym p) (disk_same x.name touched d.lines (disk_in x.place) (λ cause i. q (own_down x.name k.name cause d.lines d.own i)))
   ];
 }
   where
-    here : DiskTold k.name touched d.lines (disk_in k.place) (disk_in l.place)
+    here : DiskFollowsShown k.name touched d.lines (disk_in k.place) (disk_in l.place)
     here = record {
       calls = d.calls ∙ ap (λ (p : Bool). if p then noted (disk_call.Power (disk_in k.place).stops) (disk_in k.place).calls else armed_task task (disk_in k.place).calls) (unpowered ends d.answer) ∙ unarmed (disk_in k.place).calls;
       failures = d.failures;

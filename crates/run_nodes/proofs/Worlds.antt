@@ -13,7 +13,7 @@ use Rattle.run_model.specs.Statements.{Part, begun_with}
 use Rattle.run_shared.specs.Sharing.{SharedState}
 use Rattle.run_agreement.specs.Laws.{NamesApart}
 use Rattle.node_standing.specs.Keeping.{IsPromised}
-use Rattle.node_standing.specs.Standing.{Kept, counts_of, disk_in, is_up}
+use Rattle.node_standing.specs.Standing.{NodeState, counts_of, disk_in, is_up}
 use Rattle.statement_steps.specs.Doing.{AllKept, IsWithin, moved}
 use Rattle.statement_steps.specs.Settling.{AreUp, Through, asks_of, restart_of, run_down_of}
 use Rattle.statement_steps.specs.TheLaws.{StaysWithin}
@@ -25,7 +25,7 @@ use Rattle.statement_steps.proofs.Rising.{up_moved, up_next, up_put}
 use Rattle.statement_steps.proofs.Stepping.{settle_asking, settle_restarting, settle_running_down}
 use Rattle.statement_steps.proofs.Turning.{through_all, through_ended, through_here, through_none}
 use Rattle.run_nodes.specs.Names.{AreApart}
-use Rattle.run_nodes.specs.Phases.{AreTold, Done, Ended, Enters, Goes, GoesUp}
+use Rattle.run_nodes.specs.Phases.{AreTold, Done, Ended, Enters, GoesUp, PartsDone}
 use Rattle.run_nodes.specs.Tasks.{DoesTask}
 use Rattle.run_nodes.specs.Together.{ServesTogether, StandsTogether}
 use Rattle.run_nodes.specs.Told.{kept_names}
@@ -34,7 +34,7 @@ use Rattle.run_nodes.proofs.Places.{StandsAt, disk_found, disk_there, found, it,
 use Rattle.run_nodes.proofs.Serving.{performed, stands_up}
 
 -- A settling begins.
-pub settle_enters : (logs : List CallLog) (w : World) (ks : List Kept) (s : SharedState) → AreApart (kept_names ks) → StandsTogether logs ks s w → AllKept w.shared w.nodes → Enters logs w (begun_with Settle w) ks (record s { in_use = true })
+pub settle_enters : (logs : List CallLog) (w : World) (ks : List NodeState) (s : SharedState) → AreApart (kept_names ks) → StandsTogether logs ks s w → AllKept w.shared w.nodes → Enters logs w (begun_with Settle w) ks (record s { in_use = true })
 settle_enters logs w ks s apart h kept = record {
   stands = record { nodes = h.nodes; disks = h.disks; shared = record { labels = h.shared.labels; in_use = refl; wire = h.shared.wire } };
   within = within_begun Settle w (world_apart logs ks s w h apart) kept;
@@ -44,17 +44,17 @@ pub all_told : (w : World) → (BootsUnknown w Settle → ⊥) → AreTold (begu
 all_told w never node n there untold = never (node, n, there, untold)
 
 -- a phase begins
-abbrev pub goes_none : (parts : Node → List Part) (logs : List CallLog) (w u : World) (a : Shown) (ks : List Kept) (s : SharedState) → Enters logs w u ks s → Goes parts logs w u 0 a a ks s
+abbrev pub goes_none : (parts : Node → List Part) (logs : List CallLog) (w u : World) (a : Shown) (ks : List NodeState) (s : SharedState) → Enters logs w u ks s → PartsDone parts logs w u 0 a a ks s
 goes_none parts logs w u a ks s h = record { lines = []; world = u; through = through_none w.disks parts u; stands = h.stands; within = h.within; emits = emits_nothing a }
 
-pub as_many : (logs : List CallLog) (ks : List Kept) (s : SharedState) (v : World) → StandsTogether logs ks s v → length v.nodes ≡ length (kept_names ks)
+pub as_many : (logs : List CallLog) (ks : List NodeState) (s : SharedState) (v : World) → StandsTogether logs ks s v → length v.nodes ≡ length (kept_names ks)
 as_many logs ks s v h = sym (length-map v.nodes (λ (n : Node). n.name)) ∙ ap length (names_same logs ks v.nodes h.nodes)
 
 -- as many nodes stand behind each part
-pub same_many : (parts : Node → List Part) (logs : List CallLog) (w u : World) (place : ℕ) (a b : Shown) (ks ms : List Kept) (s t : SharedState) → Enters logs w u ms t → kept_names ks ≡ kept_names ms → Goes parts logs w u place a b ks s → length u.nodes ≡ length (kept_names ks)
+pub same_many : (parts : Node → List Part) (logs : List CallLog) (w u : World) (place : ℕ) (a b : Shown) (ks ms : List NodeState) (s t : SharedState) → Enters logs w u ms t → kept_names ks ≡ kept_names ms → PartsDone parts logs w u place a b ks s → length u.nodes ≡ length (kept_names ks)
 same_many parts logs w u place a b ks ms s t h same g = as_many logs ms t u h.stands ∙ ap length (sym same)
 
-module _ (parts : Node → List Part) (logs : List CallLog) (w u : World) (place : ℕ) (a b : Shown) (ks : List Kept) (s : SharedState) (apart : AreApart (kept_names ks)) (g : Goes parts logs w u place a b ks s) (k : Kept) (e : slice_get ks place ≡ Some k) where
+module _ (parts : Node → List Part) (logs : List CallLog) (w u : World) (place : ℕ) (a b : Shown) (ks : List NodeState) (s : SharedState) (apart : AreApart (kept_names ks)) (g : PartsDone parts logs w u place a b ks s) (k : NodeState) (e : slice_get ks place ≡ Some k) where
   abbrev pub here : StandsAt logs g.world.nodes place k
   here = it logs ks s g.world g.stands apart place k e
 
@@ -65,11 +65,11 @@ module _ (parts : Node → List Part) (logs : List CallLog) (w u : World) (place
   counts_there = disk_there logs ks s g.world g.stands apart place k e
 
 -- All nodes did their parts.
-pub done_all : (parts : Node → List Part) (logs : List CallLog) (w u : World) (place : ℕ) (a b : Shown) (ks : List Kept) (s : SharedState) (g : Goes parts logs w u place a b ks s) → length u.nodes ≤ place → AreUp g.world.nodes → Done parts logs w u a b ks s
+pub done_all : (parts : Node → List Part) (logs : List CallLog) (w u : World) (place : ℕ) (a b : Shown) (ks : List NodeState) (s : SharedState) (g : PartsDone parts logs w u place a b ks s) → length u.nodes ≤ place → AreUp g.world.nodes → Done parts logs w u a b ks s
 done_all parts logs w u place a b ks s g over up = record { lines = g.lines; world = g.world; does = through_all w.disks parts u place g.lines g.world g.through over; stands = g.stands; within = g.within; up = up; emits = g.emits }
 
 -- Nodes are booted: one is up,
-pub restart_goes_up : (logs : List CallLog) (w : World) (place : ℕ) (a b : Shown) (ks : List Kept) (s : SharedState) → AreApart (kept_names ks) → (g : GoesUp restart_of logs w (begun_with Settle w) place place a b ks s) → (k : Kept) → slice_get ks place ≡ Some k → is_up k.place ≡ true → GoesUp restart_of logs w (begun_with Settle w) (place + 1) (place + 1) a b ks s
+pub restart_goes_up : (logs : List CallLog) (w : World) (place : ℕ) (a b : Shown) (ks : List NodeState) (s : SharedState) → AreApart (kept_names ks) → (g : GoesUp restart_of logs w (begun_with Settle w) place place a b ks s) → (k : NodeState) → slice_get ks place ≡ Some k → is_up k.place ≡ true → GoesUp restart_of logs w (begun_with Settle w) (place + 1) (place + 1) a b ks s
 restart_goes_up logs w place a b ks s apart x k e up =
     let g = x.goes in
     let i = here restart_of logs w (begun_with Settle w) place a b ks s apart g k e in
@@ -87,7 +87,7 @@ restart_goes_up logs w place a b ks s apart x k e up =
     }
 
 -- a boot is promised of it
-restart_may : (logs : List CallLog) (w : World) (place : ℕ) (a b : Shown) (ks : List Kept) (s : SharedState) (apart : AreApart (kept_names ks)) (g : Goes restart_of logs w (begun_with Settle w) place a b ks s) (k : Kept) (e : slice_get ks place ≡ Some k) → NamesApart w.nodes → AreTold (begun_with Settle w) → is_up k.place ≡ false →
+restart_may : (logs : List CallLog) (w : World) (place : ℕ) (a b : Shown) (ks : List NodeState) (s : SharedState) (apart : AreApart (kept_names ks)) (g : PartsDone restart_of logs w (begun_with Settle w) place a b ks s) (k : NodeState) (e : slice_get ks place ≡ Some k) → NamesApart w.nodes → AreTold (begun_with Settle w) → is_up k.place ≡ false →
     IsPromised Restarts (here restart_of logs w (begun_with Settle w) place a b ks s apart g k e).node
 restart_may logs w place a b ks s apart g k e differ told down unknown =
     let i = here restart_of logs w (begun_with Settle w) place a b ks s apart g k e in
@@ -100,7 +100,7 @@ restart_may logs w place a b ks s apart g k e differ told down unknown =
     by false f never = absurd (never f)
 
 -- one comes up,
-pub restart_goes_on : StaysWithin → (logs : List CallLog) (w : World) (place : ℕ) (a x b : Shown) (ks : List Kept) (s : SharedState) (ls : List Kept) (t : SharedState) → AreApart (kept_names ks) → NamesApart w.nodes → AreTold (begun_with Settle w) → GoesUp restart_of logs w (begun_with Settle w) place place a x ks s →
+pub restart_goes_on : StaysWithin → (logs : List CallLog) (w : World) (place : ℕ) (a x b : Shown) (ks : List NodeState) (s : SharedState) (ls : List NodeState) (t : SharedState) → AreApart (kept_names ks) → NamesApart w.nodes → AreTold (begun_with Settle w) → GoesUp restart_of logs w (begun_with Settle w) place place a x ks s →
     (d : DoesTask place Restarts false false ks s x b ls t) → is_up d.old.place ≡ false → GoesUp restart_of logs w (begun_with Settle w) (place + 1) (place + 1) a b ls t
 restart_goes_on stays logs w place a x b ks s ls t apart differ told y d down =
     let g = y.goes in
@@ -129,7 +129,7 @@ restart_goes_on stays logs w place a x b ks s ls t apart differ told y d down =
     }
 
 -- or does not.
-pub restart_ended : (logs : List CallLog) (w : World) (place : ℕ) (a x b : Shown) (ks : List Kept) (s : SharedState) (ls : List Kept) (t : SharedState) → AreApart (kept_names ks) → NamesApart w.nodes → AreTold (begun_with Settle w) → Goes restart_of logs w (begun_with Settle w) place a x ks s →
+pub restart_ended : (logs : List CallLog) (w : World) (place : ℕ) (a x b : Shown) (ks : List NodeState) (s : SharedState) (ls : List NodeState) (t : SharedState) → AreApart (kept_names ks) → NamesApart w.nodes → AreTold (begun_with Settle w) → PartsDone restart_of logs w (begun_with Settle w) place a x ks s →
     (d : DoesTask place Restarts true true ks s x b ls t) → is_up d.old.place ≡ false → Ended restart_of logs w (begun_with Settle w) a b ls t
 restart_ended logs w place a x b ks s ls t apart differ told g d down =
     let u = begun_with Settle w in
@@ -151,8 +151,8 @@ restart_ended logs w place a x b ks s ls t apart differ told g d down =
     }
 
 -- Each aborts what is not prepared: one does,
-pub run_down_goes_on : StaysWithin → (logs : List CallLog) (w u : World) (place : ℕ) (a x b : Shown) (ks : List Kept) (s : SharedState) (ls : List Kept) (t : SharedState) → AreApart (kept_names ks) → (g : Goes run_down_of logs w u place a x ks s) → AreUp g.world.nodes → DoesTask place RunsDown false false ks s x b ls t →
-    (h : Goes run_down_of logs w u (place + 1) a b ls t) × AreUp h.world.nodes
+pub run_down_goes_on : StaysWithin → (logs : List CallLog) (w u : World) (place : ℕ) (a x b : Shown) (ks : List NodeState) (s : SharedState) (ls : List NodeState) (t : SharedState) → AreApart (kept_names ks) → (g : PartsDone run_down_of logs w u place a x ks s) → AreUp g.world.nodes → DoesTask place RunsDown false false ks s x b ls t →
+    (h : PartsDone run_down_of logs w u (place + 1) a b ls t) × AreUp h.world.nodes
 run_down_goes_on stays logs w u place a x b ks s ls t apart g up d =
     let i = here run_down_of logs w u place a x ks s apart g d.old d.here in
     let p = performed logs ks s g.world g.stands apart g.within.kept place d.old d.here RunsDown false false x b d.new t d.performs tt in
@@ -175,7 +175,7 @@ run_down_goes_on stays logs w u place a x b ks s ls t apart g up d =
     )
 
 -- or the statement ends with it.
-pub run_down_ended : (logs : List CallLog) (w u : World) (place : ℕ) (a x b : Shown) (ks : List Kept) (s : SharedState) (ls : List Kept) (t : SharedState) → AreApart (kept_names ks) → Goes run_down_of logs w u place a x ks s → DoesTask place RunsDown true true ks s x b ls t → Ended run_down_of logs w u a b ls t
+pub run_down_ended : (logs : List CallLog) (w u : World) (place : ℕ) (a x b : Shown) (ks : List NodeState) (s : SharedState) (ls : List NodeState) (t : SharedState) → AreApart (kept_names ks) → PartsDone run_down_of logs w u place a x ks s → DoesTask place RunsDown true true ks s x b ls t → Ended run_down_of logs w u a b ls t
 run_down_ended logs w u place a x b ks s ls t apart g d =
     let i = here run_down_of logs w u place a x ks s apart g d.old d.here in
     let p = performed logs ks s g.world g.stands apart g.within.kept place d.old d.here RunsDown true true x b d.new t d.performs tt in
@@ -194,10 +194,10 @@ run_down_ended logs w u place a x b ks s ls t apart g d =
     }
 
 -- The phases make the step.
-pub ended_restarting : (logs : List CallLog) (w : World) (a b : Shown) (ks : List Kept) (s : SharedState) → Ended restart_of logs w (begun_with Settle w) a b ks s → ServesTogether logs w Settle a b ks s
+pub ended_restarting : (logs : List CallLog) (w : World) (a b : Shown) (ks : List NodeState) (s : SharedState) → Ended restart_of logs w (begun_with Settle w) a b ks s → ServesTogether logs w Settle a b ks s
 ended_restarting logs w a b ks s h = record { lines = h.lines ++ h.answer ∷ []; world = h.world; step = settle_restarting w h.world h.lines h.answer h.does; emits = h.emits; stands = h.stands }
 
-pub ended_running_down : (logs : List CallLog) (w : World) (a x b : Shown) (ms ks : List Kept) (t s : SharedState) → (g : Done restart_of logs w (begun_with Settle w) a x ms t) → Ended run_down_of logs w g.world x b ks s → ServesTogether logs w Settle a b ks s
+pub ended_running_down : (logs : List CallLog) (w : World) (a x b : Shown) (ms ks : List NodeState) (t s : SharedState) → (g : Done restart_of logs w (begun_with Settle w) a x ms t) → Ended run_down_of logs w g.world x b ks s → ServesTogether logs w Settle a b ks s
 ended_running_down logs w a x b ms ks t s g h = record {
   lines = (g.lines ++ h.lines) ++ h.answer ∷ [];
   world = h.world;
@@ -206,7 +206,7 @@ ended_running_down logs w a x b ms ks t s g h = record {
   stands = h.stands;
 }
 
-pub ended_asking : (logs : List CallLog) (w : World) (a x y b : Shown) (ms ns ks : List Kept) (t r s : SharedState) → (g : Done restart_of logs w (begun_with Settle w) a x ms t) → (h : Done run_down_of logs w g.world x y ns r) → Ended asks_of logs w h.world y b ks s → ServesTogether logs w Settle a b ks s
+pub ended_asking : (logs : List CallLog) (w : World) (a x y b : Shown) (ms ns ks : List NodeState) (t r s : SharedState) → (g : Done restart_of logs w (begun_with Settle w) a x ms t) → (h : Done run_down_of logs w g.world x y ns r) → Ended asks_of logs w h.world y b ks s → ServesTogether logs w Settle a b ks s
 ended_asking logs w a x y b ms ns ks t r s g h j = record {
   lines = (g.lines ++ (h.lines ++ j.lines)) ++ j.answer ∷ [];
   world = j.world;
@@ -216,7 +216,7 @@ ended_asking logs w a x y b ms ns ks t r s g h j = record {
   stands = j.stands;
 }
 
-pub done_settling : (logs : List CallLog) (w : World) (a x y z b : Shown) (ms ns ks : List Kept) (t r s : SharedState) → (g : Done restart_of logs w (begun_with Settle w) a x ms t) → (h : Done run_down_of logs w g.world x y ns r) → Done asks_of logs w h.world y z ks s → Emits z (Normal ∷ []) b → ServesTogether logs w Settle a b ks s
+pub done_settling : (logs : List CallLog) (w : World) (a x y z b : Shown) (ms ns ks : List NodeState) (t r s : SharedState) → (g : Done restart_of logs w (begun_with Settle w) a x ms t) → (h : Done run_down_of logs w g.world x y ns r) → Done asks_of logs w h.world y z ks s → Emits z (Normal ∷ []) b → ServesTogether logs w Settle a b ks s
 done_settling logs w a x y z b ms ns ks t r s g h j emits = record {
   lines = (g.lines ++ (h.lines ++ j.lines)) ++ Normal ∷ [];
   world = j.world;

@@ -14,32 +14,32 @@ use Rattle.recovery_units.specs.Uses.{IsCounted}
 use Rattle.said_steps.specs.Answers.{FallsTold, answers_so, goes_on, is_answer}
 use Rattle.said_steps.specs.Calls.{calls_after, has_used, is_named, spoken_to, was_down}
 use Rattle.node_standing.specs.Holding.{HoldsAs}
-use Rattle.node_standing.specs.Telling.{Passes}
+use Rattle.node_standing.specs.Telling.{DiskAdvancesOverCalls}
 use Rattle.node_standing.specs.Standing.{counts_of}
 
 -- What the lines of a statement tell of the disk of the node of this name: which calls armed or powered it; that each failure of it that they show raised its
 -- count; that it is as it was where the statement does not speak to the node, or where what was said before refuses it; and that nothing on it is lost where its node
 -- was down, unless it was used for a new volume or to bring the node up: not where what it has, or a quota, refused the boot.
-pub record TellsAt (name : List ℕ) (said : Said) (s : Statement) (lines : List Line) (old new : DiskState) : Type 0 where
+pub record DiskFollowsStatement (name : List ℕ) (said : Said) (s : Statement) (lines : List Line) (old new : DiskState) : Type 0 where
   pub calls : new.calls ≡ calls_after name said s lines old.stops old.calls
   pub failures : (cause : Cause) → In (line.Down name cause) lines → IsCounted old → Rose (count_of cause (counts_of old)) (count_of cause (counts_of new))
-  pub passes : Passes old new
+  pub passes : DiskAdvancesOverCalls old new
   pub elsewhere : is_named name (spoken_to said s) ≡ false → new ≡ old
   pub refused : (refusal : Line) → refused_by_said said s ≡ Some refusal → new ≡ old
   pub held : was_down name said ≡ true → has_used name said s lines ≡ false → HoldsAs old new
 
 -- One line and the disk of the node of this name: a skipped line shows nothing and leaves the disk; a statement tells of it; a line outside the grammar is
 -- no entry.
-abbrev pub LineTells : List ℕ → Said → Reading → List Line → DiskState → DiskState → Type 0
-LineTells name said Blank lines old new = (lines ≡ []) × (new ≡ old)
-LineTells name said (Says s) lines old new = TellsAt name said s lines old new
-LineTells name said (Bad column) lines old new = ⊥
+abbrev pub DiskFollowsLine : List ℕ → Said → Reading → List Line → DiskState → DiskState → Type 0
+DiskFollowsLine name said Blank lines old new = (lines ≡ []) × (new ≡ old)
+DiskFollowsLine name said (Says s) lines old new = DiskFollowsStatement name said s lines old new
+DiskFollowsLine name said (Bad column) lines old new = ⊥
 
 -- so of each node of a rack and its disk
-abbrev pub LineTellsAll : List (List ℕ) → Said → Reading → List Line → List DiskState → List DiskState → Type 0
-LineTellsAll [] said r lines [] [] = Unit {0}
-LineTellsAll (name ∷ names) said r lines (old ∷ olds) (new ∷ news) = LineTells name said r lines old new × LineTellsAll names said r lines olds news
-LineTellsAll names said r lines olds news = ⊥
+abbrev pub DisksFollowLine : List (List ℕ) → Said → Reading → List Line → List DiskState → List DiskState → Type 0
+DisksFollowLine [] said r lines [] [] = Unit {0}
+DisksFollowLine (name ∷ names) said r lines (old ∷ olds) (new ∷ news) = DiskFollowsLine name said r lines old new × DisksFollowLine names said r lines olds news
+DisksFollowLine names said r lines olds news = ⊥
 
 -- The last line of a statement is its answer, and an answer that the statement may have, by what was said before and by the lines before it. FAULT and STOPPED have
 -- their cause in the line before them, of a node that the statement speaks to; and behind such a line of any node stands that answer, unless the statement goes on

@@ -5,13 +5,13 @@ use Rattle.script_model.specs.Statements.{Clock, Request}
 use Rattle.run_model.specs.Answers.{Serves, Task}
 use Rattle.run_shared.specs.Sharing.{SharedState}
 use Rattle.node_standing.specs.Keeping.{PerformsRequest, PerformsTask}
-use Rattle.node_standing.specs.Standing.{Kept, is_up}
+use Rattle.node_standing.specs.Standing.{NodeState, is_up}
 use Rattle.node_standing.specs.Telling.{TellsTask}
 
 -- A task was done by the node at this place, which keeps its name; the others are as they were.
-pub record DoesTask (place : ℕ) (task : Task) (answers ends : Bool) (ks : List Kept) (s : SharedState) (a b : Shown) (ls : List Kept) (t : SharedState) : Type 0 where
-  pub old : Kept
-  pub new : Kept
+pub record DoesTask (place : ℕ) (task : Task) (answers ends : Bool) (ks : List NodeState) (s : SharedState) (a b : Shown) (ls : List NodeState) (t : SharedState) : Type 0 where
+  pub old : NodeState
+  pub new : NodeState
   pub here : slice_get ks place ≡ Some old
   pub put : ls ≡ slice_set ks place new
   pub named : new.name ≡ old.name
@@ -19,16 +19,16 @@ pub record DoesTask (place : ℕ) (task : Task) (answers ends : Bool) (ks : List
   pub performs : PerformsTask task answers ends old s a b new t
 
 -- likewise where it is up; else nothing was done
-pub record DoesIfUp (place : ℕ) (task : Task) (ks : List Kept) (s : SharedState) (a b : Shown) (ls : List Kept) (t : SharedState) : Type 0 where
-  pub kept : Kept
+pub record DoesIfUp (place : ℕ) (task : Task) (ks : List NodeState) (s : SharedState) (a b : Shown) (ls : List NodeState) (t : SharedState) : Type 0 where
+  pub kept : NodeState
   pub there : slice_get ks place ≡ Some kept
   pub up : is_up kept.place ≡ true → DoesTask place task false false ks s a b ls t
   pub down : is_up kept.place ≡ false → (ls ≡ ks) × (t ≡ s) × (b ≡ a)
 
 -- A request was served by the node at this place.
-pub record DoesRequest (place : ℕ) (request : Request) (ks : List Kept) (s : SharedState) (a b : Shown) (ls : List Kept) (t : SharedState) : Type 0 where
-  pub old : Kept
-  pub new : Kept
+pub record DoesRequest (place : ℕ) (request : Request) (ks : List NodeState) (s : SharedState) (a b : Shown) (ls : List NodeState) (t : SharedState) : Type 0 where
+  pub old : NodeState
+  pub new : NodeState
   pub here : slice_get ks place ≡ Some old
   pub put : ls ≡ slice_set ks place new
   pub named : new.name ≡ old.name
@@ -37,8 +37,8 @@ pub record DoesRequest (place : ℕ) (request : Request) (ks : List Kept) (s : S
   pub performs : PerformsRequest request old s a b new t
 
 -- The clock of the node at this place was set, a step of it.
-pub record IsClocked (place now : ℕ) (ks : List Kept) (s : SharedState) (ls : List Kept) : Type 0 where
-  pub kept : Kept
+pub record IsClocked (place now : ℕ) (ks : List NodeState) (s : SharedState) (ls : List NodeState) : Type 0 where
+  pub kept : NodeState
   pub here : slice_get ks place ≡ Some kept
   pub put : ls ≡ slice_set ks place (record kept { clock = now })
   pub performs : (a : Shown) → PerformsTask (Serves (Clock now)) false false kept s a a (record kept { clock = now }) s

@@ -8,32 +8,32 @@ use Rattle.run_said.specs.Said.{Said, said_here}
 use Rattle.run_model.specs.Statements.{Step}
 use Rattle.run_model.specs.World.{Node, World}
 use Rattle.run_shared.specs.Sharing.{IsShared, SharedState}
-use Rattle.node_standing.specs.Standing.{Kept, StandsFor, counts_of, disk_in}
+use Rattle.node_standing.specs.Standing.{NodeState, RepresentsNode, counts_of, disk_in}
 use Rattle.node_standing.specs.Telling.{said_node, said_shared}
-use Rattle.run_nodes.specs.Calls.{LineFollows, LineTellsAll}
+use Rattle.run_nodes.specs.Calls.{DisksFollowLine, LineFollows}
 
 -- the disks of nodes, by what is kept of each
-abbrev pub disks_of : List Kept → List DiskState
-disks_of ks = map (λ (k : Kept). disk_in k.place) ks
+abbrev pub disks_of : List NodeState → List DiskState
+disks_of ks = map (λ (k : NodeState). disk_in k.place) ks
 
 -- what the lines so far said of them
-abbrev pub said_together : List Kept → SharedState → Said
+abbrev pub said_together : List NodeState → SharedState → Said
 said_together ks s = record { nodes = map said_node ks; shared = said_shared s }
 
 -- what is kept of each stands for the node of the world at its place, whose disk noted these calls before the run
-abbrev pub StandAll : List CallLog → List Kept → List Node → Type 0
+abbrev pub StandAll : List CallLog → List NodeState → List Node → Type 0
 StandAll [] [] [] = Unit {0}
-StandAll (log ∷ logs) (k ∷ ks) (n ∷ ns) = StandsFor log k n × StandAll logs ks ns
+StandAll (log ∷ logs) (k ∷ ks) (n ∷ ns) = RepresentsNode log k n × StandAll logs ks ns
 StandAll logs ks ns = ⊥
 
 -- The nodes of the world are those that are kept, and the world has their disks' counts and what they share.
-pub record StandsTogether (before : List CallLog) (ks : List Kept) (s : SharedState) (w : World) : Type 0 where
+pub record StandsTogether (before : List CallLog) (ks : List NodeState) (s : SharedState) (w : World) : Type 0 where
   pub nodes : StandAll before ks w.nodes
   pub disks : w.disks ≡ map counts_of (disks_of ks)
   pub shared : IsShared s w.shared
 
 -- a statement was served: these lines were shown, by a step to a world that is again that of the kept nodes
-pub record ServesTogether (before : List CallLog) (w : World) (s : Statement) (a b : Shown) (ks : List Kept) (after : SharedState) : Type 0 where
+pub record ServesTogether (before : List CallLog) (w : World) (s : Statement) (a b : Shown) (ks : List NodeState) (after : SharedState) : Type 0 where
   pub lines : List Line
   pub world : World
   pub step : Step w s lines world
@@ -41,9 +41,9 @@ pub record ServesTogether (before : List CallLog) (w : World) (s : Statement) (a
   pub stands : StandsTogether before ks after world
 
 -- A statement was served, whatever the disks have: lines were shown that tell this of each disk and follow what was said before, and they say what is kept then.
-pub record AnswersTogether (names : List (List ℕ)) (s : Statement) (a b : Shown) (ks : List Kept) (old : SharedState) (ls : List Kept) (new : SharedState) : Type 0 where
+pub record AnswersTogether (names : List (List ℕ)) (s : Statement) (a b : Shown) (ks : List NodeState) (old : SharedState) (ls : List NodeState) (new : SharedState) : Type 0 where
   pub lines : List Line
   pub emits : Emits a lines b
-  pub tells : LineTellsAll names (said_together ks old) (Says s) lines (disks_of ks) (disks_of ls)
+  pub tells : DisksFollowLine names (said_together ks old) (Says s) lines (disks_of ks) (disks_of ls)
   pub follows : LineFollows (said_together ks old) (Says s) lines
   pub says : said_together ls new ≡ said_here (Says s) lines (said_together ks old)

@@ -1,5 +1,6 @@
 -- Nodes of whose disks nothing is known.
 use Rattle.std.specs.Prelude.{◌≡◌, ◌≤◌, ℕ, List, false, Some}
+use Rattle.vms_model.specs.Limits.{moment_limit}
 use Rattle.script_model.specs.Statements.{At, Boot, Clock, Recover, Settle, Statement}
 use Rattle.run_model.specs.World.{Node, Unknown, World, find_node}
 use Rattle.node_standing.specs.Moments.{CanBeTold}
@@ -18,6 +19,6 @@ BootsUnknown w s = ⊥
 
 -- a clock is set to a moment that a script may name, and the moment up to which a file is recovered can be shown
 abbrev pub IsTimely : Statement → Type 0
-IsTimely (At node (Clock now)) = now ≤ 24000000000000
+IsTimely (At node (Clock now)) = now ≤ moment_limit
 IsTimely (At node (Recover file way)) = CanBeTold (Recover file way)
 IsTimely s = Unit {0}

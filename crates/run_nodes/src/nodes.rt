@@ -2,6 +2,7 @@
 ghost use Rattle.std.specs.Prelude.{◌≡◌, ◌<◌, ◌≤◌, ◌+◌, ℕ, List, [], ◌∷◌, ◌++◌, Option, Some, None, true, false, IfOk, IfSome, IfNone, IsSome, IsTrue, ◌↔◌, length, option_to_list, slice_get, slice_set};
 ghost use Rattle.std.specs.Option.{option_map};
 ghost use Rattle.indexmap.specs.IndexMap.{spare};
+ghost use Rattle.vms_model.specs.Limits.{moment_limit};
 ghost use Rattle.commit_protocol.specs.Messages.{Inquire};
 ghost use Rattle.emitter_model.specs.Emitting.{Since, Shown};
 ghost use Rattle.net_wire.specs.Messages.{message_of};
@@ -14,8 +15,8 @@ ghost use Rattle.dtm_node.specs.Asking.{answer_in_place, in_doubt_in, is_over, q
 ghost use Rattle.node_standing.specs.Keeping.{PerformsTask};
 ghost use Rattle.node_standing.specs.Moments.{CanBeTold};
 ghost use Rattle.dtm_node.specs.Nodes.{kept_of};
-ghost use Rattle.node_standing.specs.Standing.{Kept, is_up as is_up_in};
-ghost use Rattle.run_nodes.specs.Held.{AreNodes, clocks_of, kept_all, names_of};
+ghost use Rattle.node_standing.specs.Standing.{NodeState, is_up as is_up_in};
+ghost use Rattle.run_nodes.specs.Held.{AreNodes, AreNodesInScript, clocks_of, kept_all, names_of};
 ghost use Rattle.run_nodes.specs.Names.{is_among, is_one};
 ghost use Rattle.run_nodes.specs.Tasks.{DoesRequest, DoesTask, IsClocked};
 
@@ -106,7 +107,7 @@ impl<D: Disk + Drop, U: RecoveryUnits> Nodes<D, U> {
 
     /// Whether the node at a place is up.
     pub(crate) fn is_up(&self, place: usize) -> bool
-        ensures { (k : Kept) → slice_get (kept_all D.state U.state self.now) place ≡ Some k → result ≡ is_up_in k.place }
+        ensures { (k : NodeState) → slice_get (kept_all D.state U.state self.now) place ≡ Some k → result ≡ is_up_in k.place }
     {
         match self.nodes.get_index(place) {
             Some((_, node)) => node.is_up(),
@@ -116,7 +117,7 @@ impl<D: Disk + Drop, U: RecoveryUnits> Nodes<D, U> {
 
     /// The serial of the prepared branch of the node at a place that stands at this number of the order in which they were prepared.
     pub(crate) fn in_doubt(&self, place: usize, number: usize) -> Option<Serial>
-        ensures { (k : Kept) → slice_get (kept_all D.state U.state self.now) place ≡ Some k → option_map serial_of result ≡ slice_get (in_doubt_in k.place) number }
+        ensures { (k : NodeState) → slice_get (kept_all D.state U.state self.now) place ≡ Some k → option_map serial_of result ≡ slice_get (in_doubt_in k.place) number }
     {
         let (_, node) = self.nodes.get_index(place)?;
         node.in_doubt(number)
@@ -124,7 +125,7 @@ impl<D: Disk + Drop, U: RecoveryUnits> Nodes<D, U> {
 
     /// Whether the branch of this serial stands at this number of that order.
     pub(crate) fn is_in_doubt(&self, place: usize, number: usize, serial: &Serial) -> bool
-        ensures { (k : Kept) → slice_get (kept_all D.state U.state self.now) place ≡ Some k → IsTrue result ↔ (slice_get (in_doubt_in k.place) number ≡ Some (serial_of serial.now)) }
+        ensures { (k : NodeState) → slice_get (kept_all D.state U.state self.now) place ≡ Some k → IsTrue result ↔ (slice_get (in_doubt_in k.place) number ≡ Some (serial_of serial.now)) }
     {
         match self.in_doubt(place, number) {
             Some(other) => is_same(&other, serial),
@@ -134,7 +135,7 @@ impl<D: Disk + Drop, U: RecoveryUnits> Nodes<D, U> {
 
     /// How many prepared branches the node at a place has.
     pub(crate) fn doubts(&self, place: usize) -> usize
-        ensures { (k : Kept) → slice_get (kept_all D.state U.state self.now) place ≡ Some k → result ≡ length (in_doubt_in k.place) }
+        ensures { (k : NodeState) → slice_get (kept_all D.state U.state self.now) place ≡ Some k → result ≡ length (in_doubt_in k.place) }
     {
         match self.nodes.get_index(place) {
             Some((_, node)) => node.doubts(),
@@ -144,7 +145,7 @@ impl<D: Disk + Drop, U: RecoveryUnits> Nodes<D, U> {
 
     /// The question of a prepared branch of the node at a place.
     pub(crate) fn question(&self, place: usize, serial: &Serial) -> Option<Message>
-        ensures { (k : Kept) → slice_get (kept_all D.state U.state self.now) place ≡ Some k → option_map message_of result ≡ question_in (serial_of serial.now) k.place }
+        ensures { (k : NodeState) → slice_get (kept_all D.state U.state self.now) place ≡ Some k → option_map message_of result ≡ question_in (serial_of serial.now) k.place }
     {
         let (_, node) = self.nodes.get_index(place)?;
         node.question(*serial)
@@ -156,7 +157,7 @@ impl<D: Disk + Drop, U: RecoveryUnits> Nodes<D, U> {
         ensures names { names_of self.new ≡ names_of self.old }
         ensures kept { kept_all D.state U.state self.new ≡ kept_all D.state U.state self.old }
         ensures nodes { (count : ℕ) (s : SharedState) → AreNodes D.state U.state count s self.old → AreNodes D.state U.state count s self.new }
-        ensures answer { (k : Kept) → slice_get (kept_all D.state U.state self.old) place ≡ Some k → option_map message_of result ≡ answer_in_place (message_of question.now) k.place }
+        ensures answer { (k : NodeState) → slice_get (kept_all D.state U.state self.old) place ≡ Some k → option_map message_of result ≡ answer_in_place (message_of question.now) k.place }
     {
         match self.nodes.get_index_mut(place) {
             Some(node) => node.answer(question),
@@ -177,7 +178,7 @@ impl<D: Disk + Drop, U: RecoveryUnits> Nodes<D, U> {
         requires there { place < length (names_of self.old) }
         requires answered { (now : ℕ) → request_of literals.now request.now ≡ said.Clock now → ⊥ }
         requires times { CanBeTold (request_of literals.now request.now) }
-        requires nodes { (count : ℕ) × (count < 1000002) × AreNodes D.state U.state count shared.old self.old }
+        requires nodes { AreNodesInScript D.state U.state shared.old self.old }
         ensures nodes { (count : ℕ) → AreNodes D.state U.state count shared.old self.old → AreNodes D.state U.state (count + 1) shared.new self.new }
         ensures names { names_of self.new ≡ names_of self.old }
         ensures place { E.place out.new ≡ E.place out.old }
@@ -193,7 +194,7 @@ impl<D: Disk + Drop, U: RecoveryUnits> Nodes<D, U> {
     /// Sets the clock of the node at a place.
     pub(crate) fn set_clock(&mut self, place: usize, now: Moment)
         requires there { place < length (names_of self.old) }
-        requires limit { now.0 ≤ 24000000000000 }
+        requires limit { now.0 ≤ moment_limit }
         ensures nodes { (count : ℕ) (s : SharedState) → AreNodes D.state U.state count s self.old → AreNodes D.state U.state count s self.new }
         ensures names { names_of self.new ≡ names_of self.old }
         ensures clocked { (s : SharedState) → IsClocked place now.0 (kept_all D.state U.state self.old) s (kept_all D.state U.state self.new) }
@@ -206,8 +207,8 @@ impl<D: Disk + Drop, U: RecoveryUnits> Nodes<D, U> {
     /// Aborts what is due by the clock of the node at a place, which is up.
     pub(crate) fn tick<E: Emit>(&mut self, place: usize, shared: &mut Shared, out: &mut E)
         requires there { place < length (names_of self.old) }
-        requires up { (k : Kept) → slice_get (kept_all D.state U.state self.old) place ≡ Some k → is_up_in k.place ≡ true }
-        requires nodes { (count : ℕ) × (count < 1000002) × AreNodes D.state U.state count shared.old self.old }
+        requires up { (k : NodeState) → slice_get (kept_all D.state U.state self.old) place ≡ Some k → is_up_in k.place ≡ true }
+        requires nodes { AreNodesInScript D.state U.state shared.old self.old }
         ensures nodes { (count : ℕ) → AreNodes D.state U.state count shared.old self.old → AreNodes D.state U.state count shared.new self.new }
         ensures names { names_of self.new ≡ names_of self.old }
         ensures in_use { shared.old.in_use ≡ true → shared.new.in_use ≡ true }
@@ -229,8 +230,8 @@ impl<D: Disk + Drop, U: RecoveryUnits> Nodes<D, U> {
         out: &mut E,
     )
         requires there { place < length (names_of self.old) }
-        requires up { (k : Kept) → slice_get (kept_all D.state U.state self.old) place ≡ Some k → is_up_in k.place ≡ true }
-        requires nodes { (count : ℕ) × (count < 1000002) × AreNodes D.state U.state count shared.old self.old }
+        requires up { (k : NodeState) → slice_get (kept_all D.state U.state self.old) place ≡ Some k → is_up_in k.place ≡ true }
+        requires nodes { AreNodesInScript D.state U.state shared.old self.old }
         ensures nodes { (count : ℕ) → AreNodes D.state U.state count shared.old self.old → AreNodes D.state U.state count shared.new self.new }
         ensures names { names_of self.new ≡ names_of self.old }
         ensures in_use { shared.old.in_use ≡ true → shared.new.in_use ≡ true }
@@ -252,7 +253,7 @@ impl<D: Disk + Drop, U: RecoveryUnits> Nodes<D, U> {
         out: &mut E,
     ) -> Flow
         requires there { place < length (names_of self.old) }
-        requires nodes { (count : ℕ) × (count < 1000002) × AreNodes D.state U.state count shared.old self.old }
+        requires nodes { AreNodesInScript D.state U.state shared.old self.old }
         ensures nodes { (count : ℕ) → AreNodes D.state U.state count shared.old self.old → AreNodes D.state U.state count shared.new self.new }
         ensures names { names_of self.new ≡ names_of self.old }
         ensures in_use { shared.old.in_use ≡ true → shared.new.in_use ≡ true }
@@ -275,7 +276,7 @@ impl<D: Disk + Drop, U: RecoveryUnits> Nodes<D, U> {
         out: &mut E,
     ) -> Flow
         requires there { place < length (names_of self.old) }
-        requires nodes { (count : ℕ) × (count < 1000002) × AreNodes D.state U.state count shared.old self.old }
+        requires nodes { AreNodesInScript D.state U.state shared.old self.old }
         ensures nodes { (count : ℕ) → AreNodes D.state U.state count shared.old self.old → AreNodes D.state U.state count shared.new self.new }
         ensures names { names_of self.new ≡ names_of self.old }
         ensures in_use { shared.old.in_use ≡ true → shared.new.in_use ≡ true }
@@ -297,7 +298,7 @@ impl<D: Disk + Drop, U: RecoveryUnits> Nodes<D, U> {
         out: &mut E,
     ) -> Flow
         requires there { place < length (names_of self.old) }
-        requires nodes { (count : ℕ) × (count < 1000002) × AreNodes D.state U.state count shared.old self.old }
+        requires nodes { AreNodesInScript D.state U.state shared.old self.old }
         ensures nodes { (count : ℕ) → AreNodes D.state U.state count shared.old self.old → AreNodes D.state U.state count shared.new self.new }
         ensures names { names_of self.new ≡ names_of self.old }
         ensures in_use { shared.old.in_use ≡ true → shared.new.in_use ≡ true }
@@ -320,9 +321,9 @@ impl<D: Disk + Drop, U: RecoveryUnits> Nodes<D, U> {
         out: &mut E,
     ) -> Flow
         requires there { place < length (names_of self.old) }
-        requires down { (k : Kept) → slice_get (kept_all D.state U.state self.old) place ≡ Some k → is_up_in k.place ≡ false }
+        requires down { (k : NodeState) → slice_get (kept_all D.state U.state self.old) place ≡ Some k → is_up_in k.place ≡ false }
         requires used { shared.old.in_use ≡ true }
-        requires nodes { (count : ℕ) × (count < 1000002) × AreNodes D.state U.state count shared.old self.old }
+        requires nodes { AreNodesInScript D.state U.state shared.old self.old }
         ensures nodes { (count : ℕ) → AreNodes D.state U.state count shared.old self.old → AreNodes D.state U.state count shared.new self.new }
         ensures names { names_of self.new ≡ names_of self.old }
         ensures in_use { shared.old.in_use ≡ true → shared.new.in_use ≡ true }

@@ -12,9 +12,9 @@ ghost use Rattle.dtm_node.specs.Asking.{is_over};
 ghost use Rattle.script_model.specs.Statements as said;
 ghost use Rattle.statement_steps.specs.Doing.{AllKept};
 ghost use Rattle.statement_steps.specs.Settling.{AreUp, asks_of, doubts_of, restart_of, run_down_of};
-ghost use Rattle.run_nodes.specs.Held.{AreNodes, kept_all, names_of};
+ghost use Rattle.run_nodes.specs.Held.{AreNodes, AreNodesInScript, kept_all, names_of};
 ghost use Rattle.run_nodes.specs.Names.{AreApart};
-ghost use Rattle.run_nodes.specs.Phases.{AreTold, AskedOne, AskingAt, Done, Ended, EndedAsking, Enters, Goes};
+ghost use Rattle.run_nodes.specs.Phases.{AreTold, AskedOne, AskingAt, Done, Ended, EndedAsking, Enters, PartsDone};
 ghost use Rattle.run_nodes.specs.Together.{AnswersTogether, ServesTogether, StandsTogether};
 ghost use Rattle.run_nodes.specs.Told.{RestartsTold, TurnOver, TurnTold};
 ghost use Rattle.run_nodes.specs.Untold.{BootsUnknown};
@@ -36,7 +36,7 @@ pub(crate) fn settle<E: Emit, D: Disk + Drop, U: RecoveryUnits>(
     out: &mut E,
 )
     requires apart { AreApart (names_of nodes.old) }
-    requires nodes { (count : ℕ) × (count < 1000002) × AreNodes D.state U.state count shared.old nodes.old }
+    requires nodes { AreNodesInScript D.state U.state shared.old nodes.old }
     ensures nodes { (count : ℕ) → AreNodes D.state U.state count shared.old nodes.old → AreNodes D.state U.state count shared.new nodes.new }
     ensures names { names_of nodes.new ≡ names_of nodes.old }
     ensures place { E.place out.new ≡ E.place out.old }
@@ -66,7 +66,7 @@ fn restart_all<E: Emit, D: Disk + Drop, U: RecoveryUnits>(
     out: &mut E,
 ) -> Flow
     requires apart { AreApart (names_of nodes.old) }
-    requires nodes { (count : ℕ) × (count < 1000002) × AreNodes D.state U.state count shared.old nodes.old }
+    requires nodes { AreNodesInScript D.state U.state shared.old nodes.old }
     requires used { shared.old.in_use ≡ true }
     ensures nodes { (count : ℕ) → AreNodes D.state U.state count shared.old nodes.old → AreNodes D.state U.state count shared.new nodes.new }
     ensures names { names_of nodes.new ≡ names_of nodes.old }
@@ -98,7 +98,7 @@ fn run_down_all<E: Emit, D: Disk + Drop, U: RecoveryUnits>(
     out: &mut E,
 ) -> Flow
     requires apart { AreApart (names_of nodes.old) }
-    requires nodes { (count : ℕ) × (count < 1000002) × AreNodes D.state U.state count shared.old nodes.old }
+    requires nodes { AreNodesInScript D.state U.state shared.old nodes.old }
     ensures nodes { (count : ℕ) → AreNodes D.state U.state count shared.old nodes.old → AreNodes D.state U.state count shared.new nodes.new }
     ensures names { names_of nodes.new ≡ names_of nodes.old }
     ensures in_use { shared.old.in_use ≡ true → shared.new.in_use ≡ true }
@@ -126,7 +126,7 @@ fn ask_all<E: Emit, D: Disk + Drop, U: RecoveryUnits>(
     out: &mut E,
 ) -> Flow
     requires apart { AreApart (names_of nodes.old) }
-    requires nodes { (count : ℕ) × (count < 1000002) × AreNodes D.state U.state count shared.old nodes.old }
+    requires nodes { AreNodesInScript D.state U.state shared.old nodes.old }
     ensures nodes { (count : ℕ) → AreNodes D.state U.state count shared.old nodes.old → AreNodes D.state U.state count shared.new nodes.new }
     ensures names { names_of nodes.new ≡ names_of nodes.old }
     ensures in_use { shared.old.in_use ≡ true → shared.new.in_use ≡ true }
@@ -155,7 +155,7 @@ fn ask_at<E: Emit, D: Disk + Drop, U: RecoveryUnits>(
 ) -> Flow
     requires there { place < length (names_of nodes.old) }
     requires apart { AreApart (names_of nodes.old) }
-    requires nodes { (count : ℕ) × (count < 1000002) × AreNodes D.state U.state count shared.old nodes.old }
+    requires nodes { AreNodesInScript D.state U.state shared.old nodes.old }
     ensures nodes { (count : ℕ) → AreNodes D.state U.state count shared.old nodes.old → AreNodes D.state U.state count shared.new nodes.new }
     ensures names { names_of nodes.new ≡ names_of nodes.old }
     ensures in_use { shared.old.in_use ≡ true → shared.new.in_use ≡ true }
@@ -163,9 +163,9 @@ fn ask_at<E: Emit, D: Disk + Drop, U: RecoveryUnits>(
     ensures since { Since (E.shows out.old) (E.shows out.new) }
     ensures told { is_over result ≡ false → TurnTold (names_of nodes.old) (kept_all D.state U.state nodes.old) shared.old (E.shows out.old) (E.shows out.new) (kept_all D.state U.state nodes.new) shared.new }
     ensures answered { is_over result ≡ true → TurnOver (names_of nodes.old) (kept_all D.state U.state nodes.old) shared.old (E.shows out.old) (E.shows out.new) (kept_all D.state U.state nodes.new) shared.new }
-    ensures done { is_over result ≡ false → (logs : List CallLog) (w u : World) (a : Shown) → (g : Goes asks_of logs w u place a (E.shows out.old) (kept_all D.state U.state nodes.old) shared.old) → AreUp g.world.nodes →
-        (h : Goes asks_of logs w u (place + 1) a (E.shows out.new) (kept_all D.state U.state nodes.new) shared.new) × AreUp h.world.nodes }
-    ensures ended { is_over result ≡ true → (logs : List CallLog) (w u : World) (a : Shown) → (g : Goes asks_of logs w u place a (E.shows out.old) (kept_all D.state U.state nodes.old) shared.old) → AreUp g.world.nodes → Ended asks_of logs w u a (E.shows out.new) (kept_all D.state U.state nodes.new) shared.new }
+    ensures done { is_over result ≡ false → (logs : List CallLog) (w u : World) (a : Shown) → (g : PartsDone asks_of logs w u place a (E.shows out.old) (kept_all D.state U.state nodes.old) shared.old) → AreUp g.world.nodes →
+        (h : PartsDone asks_of logs w u (place + 1) a (E.shows out.new) (kept_all D.state U.state nodes.new) shared.new) × AreUp h.world.nodes }
+    ensures ended { is_over result ≡ true → (logs : List CallLog) (w u : World) (a : Shown) → (g : PartsDone asks_of logs w u place a (E.shows out.old) (kept_all D.state U.state nodes.old) shared.old) → AreUp g.world.nodes → Ended asks_of logs w u a (E.shows out.new) (kept_all D.state U.state nodes.new) shared.new }
 {
     let mut unanswered = 0;
     for number in 0..nodes.doubts(place) {
@@ -193,7 +193,7 @@ fn ask<E: Emit, D: Disk + Drop, U: RecoveryUnits>(
 ) -> Flow
     requires there { place < length (names_of nodes.old) }
     requires apart { AreApart (names_of nodes.old) }
-    requires nodes { (count : ℕ) × (count < 1000002) × AreNodes D.state U.state count shared.old nodes.old }
+    requires nodes { AreNodesInScript D.state U.state shared.old nodes.old }
     ensures nodes { (count : ℕ) → AreNodes D.state U.state count shared.old nodes.old → AreNodes D.state U.state count shared.new nodes.new }
     ensures names { names_of nodes.new ≡ names_of nodes.old }
     ensures in_use { shared.old.in_use ≡ true → shared.new.in_use ≡ true }

@@ -8,7 +8,7 @@ ghost use Rattle.run_model.specs.World.{World};
 ghost use Rattle.script_lang.specs.Statements.{request_of, statement_of};
 ghost use Rattle.script_model.specs.Statements as said;
 ghost use Rattle.statement_steps.specs.Doing.{AllKept};
-ghost use Rattle.run_nodes.specs.Held.{AreNodes, clocks_of, kept_all, names_of};
+ghost use Rattle.run_nodes.specs.Held.{AreNodes, AreNodesInScript, clocks_of, kept_all, names_of};
 ghost use Rattle.run_nodes.specs.Names.{AreApart, IsOtherMissing, IsOtherThere};
 ghost use Rattle.run_nodes.specs.Tasks.{DoesIfUp};
 ghost use Rattle.run_nodes.specs.Together.{AnswersTogether, ServesTogether, StandsTogether};
@@ -35,7 +35,7 @@ pub fn serve_statement<E: Emit, D: Disk + Drop, U: RecoveryUnits>(
     out: &mut E,
 )
     requires apart { AreApart (names_of nodes.old) }
-    requires nodes { (count : ℕ) × (count < 1000002) × AreNodes D.state U.state count shared.old nodes.old }
+    requires nodes { AreNodesInScript D.state U.state shared.old nodes.old }
     requires timely { IsTimely (statement_of literals.now statement.now) }
     ensures nodes { (count : ℕ) → AreNodes D.state U.state count shared.old nodes.old → AreNodes D.state U.state (count + 1) shared.new nodes.new }
     ensures names { names_of nodes.new ≡ names_of nodes.old }
@@ -81,7 +81,7 @@ fn serve_request<E: Emit, D: Disk + Drop, U: RecoveryUnits>(
     out: &mut E,
 )
     requires apart { AreApart (names_of nodes.old) }
-    requires nodes { (count : ℕ) × (count < 1000002) × AreNodes D.state U.state count shared.old nodes.old }
+    requires nodes { AreNodesInScript D.state U.state shared.old nodes.old }
     requires timely { IsTimely (said.At name.now (request_of literals.now request.now)) }
     ensures nodes { (count : ℕ) → AreNodes D.state U.state count shared.old nodes.old → AreNodes D.state U.state (count + 1) shared.new nodes.new }
     ensures names { names_of nodes.new ≡ names_of nodes.old }
@@ -119,7 +119,7 @@ fn tick<E: Emit, D: Disk + Drop, U: RecoveryUnits>(
     out: &mut E,
 )
     requires there { place < length (names_of nodes.old) }
-    requires nodes { (count : ℕ) × (count < 1000002) × AreNodes D.state U.state count shared.old nodes.old }
+    requires nodes { AreNodesInScript D.state U.state shared.old nodes.old }
     ensures nodes { (count : ℕ) → AreNodes D.state U.state count shared.old nodes.old → AreNodes D.state U.state count shared.new nodes.new }
     ensures names { names_of nodes.new ≡ names_of nodes.old }
     ensures place { E.place out.new ≡ E.place out.old }
@@ -139,7 +139,7 @@ fn deliver<E: Emit, D: Disk + Drop, U: RecoveryUnits>(
     out: &mut E,
 )
     requires apart { AreApart (names_of nodes.old) }
-    requires nodes { (count : ℕ) × (count < 1000002) × AreNodes D.state U.state count shared.old nodes.old }
+    requires nodes { AreNodesInScript D.state U.state shared.old nodes.old }
     ensures nodes { (count : ℕ) → AreNodes D.state U.state count shared.old nodes.old → AreNodes D.state U.state (count) shared.new nodes.new }
     ensures names { names_of nodes.new ≡ names_of nodes.old }
     ensures place { E.place out.new ≡ E.place out.old }
@@ -171,7 +171,7 @@ fn lose_link<E: Emit, D: Disk + Drop, U: RecoveryUnits>(
     out: &mut E,
 )
     requires apart { AreApart (names_of nodes.old) }
-    requires nodes { (count : ℕ) × (count < 1000002) × AreNodes D.state U.state count shared.old nodes.old }
+    requires nodes { AreNodesInScript D.state U.state shared.old nodes.old }
     ensures nodes { (count : ℕ) → AreNodes D.state U.state count shared.old nodes.old → AreNodes D.state U.state (count) shared.new nodes.new }
     ensures names { names_of nodes.new ≡ names_of nodes.old }
     ensures place { E.place out.new ≡ E.place out.old }
@@ -207,7 +207,7 @@ fn lose_one<E: Emit, D: Disk + Drop, U: RecoveryUnits>(
     out: &mut E,
 )
     requires there { place < length (names_of nodes.old) }
-    requires nodes { (count : ℕ) × (count < 1000002) × AreNodes D.state U.state count shared.old nodes.old }
+    requires nodes { AreNodesInScript D.state U.state shared.old nodes.old }
     ensures nodes { (count : ℕ) → AreNodes D.state U.state count shared.old nodes.old → AreNodes D.state U.state count shared.new nodes.new }
     ensures names { names_of nodes.new ≡ names_of nodes.old }
     ensures place { E.place out.new ≡ E.place out.old }

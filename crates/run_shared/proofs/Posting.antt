@@ -2,12 +2,13 @@
 use Rattle.std.proofs.Common.{◌≡◌, ℕ, zero, suc, ◌+◌, ◌<◌, Bool, true, false, List, [], ◌∷◌, ◌++◌, Some, None, map, length, slice_get, nat_lt, if◌then◌else◌, refl, sym, ap, ◌∙◌}
 use Rattle.std.specs.Option.{option_map}
 use Rattle.std.proofs.lemmas.Bool.{lt-ltb}
+use Rattle.vms_model.specs.Limits.{message_limit}
 use Rattle.commit_protocol.specs.Messages as model
 use Rattle.net_wire.specs.declared.wire.Message.{Message}
 use Rattle.net_wire.specs.Messages.{message_of}
 use Rattle.net_wire.specs.Network.{numbered}
 use Rattle.run_model.specs.Statements.{message_at}
-use Rattle.run_model.specs.World.{message_limit, posted}
+use Rattle.run_model.specs.World.{posted}
 
 slice_get-map : (ms : List Message) (k : ℕ) → option_map message_of (slice_get ms k) ≡ slice_get (map message_of ms) k
 slice_get-map [] k = refl

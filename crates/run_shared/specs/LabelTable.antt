@@ -3,7 +3,7 @@ use Rattle.std.specs.Prelude.{◌≡◌, ℕ, ◌+◌, ◌≤◌, List, [], ◌�
 use Rattle.std.specs.Option.{option_map}
 use Rattle.std.specs.Str.{bytes_eq}
 use Rattle.indexmap.specs.IndexMap.{IndexMap, get, spare}
-use Rattle.run_model.specs.Answers.{label_limit}
+use Rattle.vms_model.specs.Limits.{label_limit}
 use Rattle.run_model.specs.World.{Label, find_label}
 use Rattle.vms_base.specs.Ids.{bid_of, serial_of, tid_of}
 use Rattle.run_shared.specs.declared.labels.LabelEntry.{LabelEntry}

@@ -1,6 +1,6 @@
 //! The labels of a run, in a table.
 ghost use Rattle.std.specs.Prelude.{◌≡◌, ◌<◌, [], ◌∷◌, None, length, IfOk, IsSome, option_map, nat_le};
-ghost use Rattle.run_model.specs.Answers.{label_limit};
+ghost use Rattle.vms_model.specs.Limits.{label_limit};
 ghost use Rattle.run_model.specs.World.{find_label, with_serial};
 ghost use Rattle.vms_base.specs.Ids.{serial_of};
 ghost use Rattle.run_shared.specs.LabelTable.{label_of};

@@ -1,10 +1,10 @@
 //! What the nodes of a rack share.
 ghost use Rattle.std.specs.Prelude.{◌≡◌, ◌<◌, ◌+◌, [], ◌∷◌, false, true, Some, None, IfOk, IsSome, length, option_copied, if◌then◌else◌, nat_le, nat_lt};
 ghost use Rattle.std.specs.Option.{option_map};
+ghost use Rattle.vms_model.specs.Limits.{label_limit, message_limit};
 ghost use Rattle.net_wire.specs.Messages.{message_of};
-ghost use Rattle.run_model.specs.Answers.{label_limit};
 ghost use Rattle.run_model.specs.Statements.{message_at};
-ghost use Rattle.run_model.specs.World.{find_label, message_limit, posted, with_serial};
+ghost use Rattle.run_model.specs.World.{find_label, posted, with_serial};
 ghost use Rattle.vms_base.specs.Ids.{serial_of};
 ghost use Rattle.run_shared.specs.LabelTable.{label_of};
 
@@ -31,7 +31,7 @@ impl Model for Shared {
 
     ghost use Rattle.std.specs.Prelude.{◌≡◌, ◌≤◌, map, length};
     ghost use Rattle.net_wire.specs.Messages.{message_of};
-    ghost use Rattle.run_model.specs.World.{message_limit};
+    ghost use Rattle.vms_model.specs.Limits.{message_limit};
 
     ghost view = { λ s. record { labels = s.labels; in_use = s.in_use; wire = map message_of s.wire.messages } };
 

@@ -1,6 +1,7 @@
 -- A file's save, and the head by which it is read.
 use Rattle.std.specs.Prelude.{◌≡◌, ℕ, ◌<◌, ◌+◌, ◌-◌, ◌*◌, List}
 use Rattle.block_disk.specs.Blocks.{block_at}
+use Rattle.block_disk.specs.Sizes.{content_start}
 use Rattle.file_base.specs.declared.head.FileHead.{FileHead}
 use Rattle.file_base.specs.declared.head.Save.{Save}
 
@@ -10,7 +11,7 @@ kept_as h own = record own { organization = h.organization; bucket = h.bucket; m
 
 -- the blocks of a file's buckets stand in another content from a block on
 abbrev pub StandAt : FileHead → (to : ℕ) → (old new : List (List ℕ)) → Type 0
-StandAt h to old new = (i : ℕ) → i < h.alloc * h.bucket → block_at new (to - 518 + i) ≡ block_at old (h.start - 518 + i)
+StandAt h to old new = (i : ℕ) → i < h.alloc * h.bucket → block_at new (to - content_start + i) ≡ block_at old (h.start - content_start + i)
 
 -- the head by which a file's save is read: the file's, with the place and the numbers of the save
 abbrev pub save_head : FileHead → FileHead

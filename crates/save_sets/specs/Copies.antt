@@ -2,13 +2,14 @@
 use Rattle.std.specs.Prelude.{◌≡◌, ℕ, ◌<◌, ◌≤◌, ◌+◌, ◌&&◌, ◌⊎◌, Bool, List, Option, None, MatchOption, IsSomeAnd, nat_le, nat_lt}
 use Rattle.block_disk.specs.Blocks.{block_at}
 use Rattle.block_disk.specs.Disk.{DiskState}
+use Rattle.block_disk.specs.Sizes.{content_start, greatest_disk_size}
 use Rattle.careful_write.specs.Steps.{AgreesOff}
 
 -- so many blocks of the content from this one on, of a disk as large as a volume's may be
 pub record AreBlocks (first count : ℕ) (disk : DiskState) : Type 0 where
-  pub from : 518 ≤ first
+  pub from : content_start ≤ first
   pub to : first + count ≤ disk.size
-  pub fits : disk.size ≤ 65536
+  pub fits : disk.size ≤ greatest_disk_size
 
 -- two runs of so many blocks lie apart
 abbrev pub AreApart : (from to count : ℕ) → Type 0

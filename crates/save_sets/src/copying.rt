@@ -1,8 +1,10 @@
 // Blocks copied to another place of the same disk.
 ghost use Rattle.std.specs.Prelude.{◌≡◌, ◌≤◌, ◌<◌, ◌+◌, ◌-◌, ◌⊎◌, [], OnOk, OnErr, IfSome, length, option_map, slice_set};
 ghost use Rattle.block_disk.specs.Blocks.{block_at};
+ghost use Rattle.block_disk.specs.Sizes.{content_start};
 ghost use Rattle.careful_write.specs.Down.{answered, Counts};
 ghost use Rattle.careful_write.specs.State.{InHome, IsIdle, IsReady};
+ghost use Rattle.careful_write.specs.Sizes.{group_limit};
 ghost use Rattle.change_set.specs.Files.{LeavesOut};
 ghost use Rattle.save_sets.specs.Copies.{AreBlocks, AreApart, CopiesTo, is_within};
 
@@ -16,13 +18,13 @@ const MOST: u32 = 512;
 fn copy_block<D: Disk>(store: &mut Store<D>, from: u32, to: u32) -> Result<(), Down>
     requires source { InHome store.old.disk from }
     requires target { InHome store.old.disk to }
-    requires room { length store.old.touched < 512 }
-    ensures current { OnOk result (store.new.current ≡ option_map (λ c. slice_set c (to - 518) (block_at c (from - 518))) store.old.current) }
+    requires room { length store.old.touched < group_limit }
+    ensures current { OnOk result (store.new.current ≡ option_map (λ c. slice_set c (to - content_start) (block_at c (from - content_start))) store.old.current) }
     ensures touched { OnOk result (length store.new.touched ≤ length store.old.touched + 1) }
     ensures disk { store.new.disk ≡ answered result store.old.disk }
     ensures pool { store.new.pool ≡ store.old.pool }
     ensures fits { store.new.fits ≡ store.old.fits }
-    ensures whole { IfSome store.old.current (λ c. length c + 518 ≡ store.old.disk.size) }
+    ensures whole { IfSome store.old.current (λ c. length c + content_start ≡ store.old.disk.size) }
 {
     let mut block = [0; 512];
     store.read(from, &mut block)?;
@@ -36,8 +38,8 @@ fn stage_copies<D: Disk>(store: &mut Store<D>, from: u32, to: u32, count: u32) -
     requires target { AreBlocks to count store.old.disk }
     requires apart { AreApart from to count }
     requires unstaged { store.old.touched ≡ [] }
-    requires few { count ≤ 512 }
-    ensures copies { OnOk result (CopiesTo (from - 518) (to - 518) count store.old.current store.new.current) }
+    requires few { count ≤ group_limit }
+    ensures copies { OnOk result (CopiesTo (from - content_start) (to - content_start) count store.old.current store.new.current) }
     ensures disk { store.new.disk ≡ answered result store.old.disk }
     ensures pool { store.new.pool ≡ store.old.pool }
     ensures fits { store.new.fits ≡ store.old.fits }
@@ -54,10 +56,10 @@ fn copy_group<D: Disk>(store: &mut Store<D>, from: u32, to: u32, count: u32) -> 
     requires target { AreBlocks to count store.old.disk }
     requires apart { AreApart from to count }
     requires idle { IsIdle store.old }
-    requires few { count ≤ 512 }
-    ensures copies { OnOk result (CopiesTo (from - 518) (to - 518) count store.old.current store.new.current) }
+    requires few { count ≤ group_limit }
+    ensures copies { OnOk result (CopiesTo (from - content_start) (to - content_start) count store.old.current store.new.current) }
     ensures idle { OnOk result (IsIdle store.new) }
-    ensures down { OnErr result (LeavesOut (is_within (to - 518) count) store.old.current store.new.disk) }
+    ensures down { OnErr result (LeavesOut (is_within (to - content_start) count) store.old.current store.new.disk) }
     ensures counts { Counts result store.old.disk store.new.disk }
     ensures pool { store.new.pool ≡ store.old.pool }
 {
@@ -72,9 +74,9 @@ fn copy_groups<D: Disk>(store: &mut Store<D>, from: u32, to: u32, blocks: u32) -
     requires target { AreBlocks to blocks store.old.disk }
     requires apart { AreApart from to blocks }
     requires idle { IsIdle store.old }
-    ensures copies { OnOk result (CopiesTo (from - 518) (to - 518) blocks store.old.current store.new.current) }
+    ensures copies { OnOk result (CopiesTo (from - content_start) (to - content_start) blocks store.old.current store.new.current) }
     ensures idle { OnOk result (IsIdle store.new) }
-    ensures down { OnErr result (LeavesOut (is_within (to - 518) blocks) store.old.current store.new.disk) }
+    ensures down { OnErr result (LeavesOut (is_within (to - content_start) blocks) store.old.current store.new.disk) }
     ensures counts { Counts result store.old.disk store.new.disk }
     ensures pool { store.new.pool ≡ store.old.pool }
 {
@@ -94,9 +96,9 @@ pub fn copy<D: Disk>(store: &mut Store<D>, from: u32, to: u32, blocks: u32) -> R
     requires target { AreBlocks to blocks store.old.disk }
     requires apart { AreApart from to blocks }
     requires idle { IsIdle store.old }
-    ensures copies { OnOk result (CopiesTo (from - 518) (to - 518) blocks store.old.current store.new.current) }
+    ensures copies { OnOk result (CopiesTo (from - content_start) (to - content_start) blocks store.old.current store.new.current) }
     ensures idle { OnOk result (IsIdle store.new) }
-    ensures down { OnErr result (LeavesOut (is_within (to - 518) blocks) store.old.current store.new.disk) }
+    ensures down { OnErr result (LeavesOut (is_within (to - content_start) blocks) store.old.current store.new.disk) }
     ensures unstaged { store.new.touched ≡ [] }
     ensures counts { Counts result store.old.disk store.new.disk }
     ensures pool { store.new.pool ≡ store.old.pool }

@@ -1,5 +1,6 @@
 // The statement of a line.
 ghost use Rattle.std.specs.Prelude.{◌≡◌, ◌≤◌, length};
+ghost use Rattle.vms_model.specs.Limits.{line_size_limit};
 ghost use Rattle.script_model.specs.Grammar.{Ends, line_shape, behind_first as behind_first_of, operands as operands_of, form_operands as form_operands_of, reading, Verb as TheVerb, ToNode as ToTheNode};
 ghost use Rattle.script_model.specs.Statements.{At as AtNode, Create as CreateOf};
 ghost use Rattle.script_lang.specs.Reads.{Reads};
@@ -201,7 +202,7 @@ fn statement(words: &mut Words<'_>, lit: &mut Literals) -> Result<Statement, Lin
 ///
 /// An error tells the column, counted from 1, of the first word that cannot stand where it does, or that behind the line where a word is missing.
 pub fn read_statement(line: &[u8], lit: &mut Literals) -> Result<Option<Statement>, LineErr>
-    requires { length line.now ≤ 20000 }
+    requires { length line.now ≤ line_size_limit }
     ensures { reading_of lit.new result ≡ reading line.now }
 {
     let mut words = Words::new(line);

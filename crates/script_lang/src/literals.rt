@@ -2,6 +2,7 @@
 ghost use Rattle.std.specs.Prelude.{◌≡◌, ℕ, ◌+◌, ◌<◌, ◌≤◌, List, [], ◌∷◌, ◌++◌, take, length, IfOk, IfSome, Option, Some, None, if◌then◌else◌};
 ghost use Rattle.std.specs.Option.{option_map};
 ghost use Rattle.vms_model.specs.Texts.{is_plain as is_plain_byte};
+ghost use Rattle.vms_model.specs.Limits.{line_size_limit};
 ghost use Rattle.script_model.specs.Operands.{to_quote, hex_value as hex_value_of, hex_pairs, hex_said, bytes_said};
 
 use std::alloc::{AllocError, Global};
@@ -21,7 +22,7 @@ impl Model for Literal {
 
     ghost view = { λ l. take l.used l.place.items };
 
-    ghost invariant = { λ l. (length l.place.items ≡ 20000) × (l.used ≤ 20000) };
+    ghost invariant = { λ l. (length l.place.items ≡ line_size_limit) × (l.used ≤ line_size_limit) };
 }
 
 // Writes these bytes over the first ones.
@@ -45,7 +46,7 @@ impl Literal {
     /// The operand's bytes.
     pub fn bytes(&self) -> &[u8]
         ensures value { result.now ≡ self.now }
-        ensures few { length self.now ≤ 20000 }
+        ensures few { length self.now ≤ line_size_limit }
     {
         &self.place[..self.used]
     }
@@ -57,7 +58,7 @@ impl Literal {
     }
 
     fn push(&mut self, b: u8)
-        requires { length self.old < 20000 }
+        requires { length self.old < line_size_limit }
         ensures { self.new ≡ self.old ++ b ∷ [] }
     {
         self.place[self.used] = b;
@@ -65,7 +66,7 @@ impl Literal {
     }
 
     fn set(&mut self, bytes: &[u8])
-        requires { length bytes.now ≤ 20000 }
+        requires { length bytes.now ≤ line_size_limit }
         ensures { self.new ≡ bytes.now }
     {
         put_first(&mut self.place, bytes);
@@ -74,7 +75,7 @@ impl Literal {
 
     // Takes plain bytes up to a quote that ends the word.
     fn take_quoted(&mut self, text: &[u8]) -> bool
-        requires { length text.now ≤ 20000 }
+        requires { length text.now ≤ line_size_limit }
         ensures { to_quote text.now ≡ (if result then Some self.new else None) }
     {
         match quoted(text) {
@@ -88,7 +89,7 @@ impl Literal {
 
     // Takes the bytes that pairs of hexadecimal digits give.
     fn take_hex(&mut self, text: &[u8]) -> bool
-        requires { length text.now ≤ 20000 }
+        requires { length text.now ≤ line_size_limit }
         ensures { hex_pairs text.now ≡ (if result then Some self.new else None) }
     {
         self.clear();
@@ -110,7 +111,7 @@ impl Literal {
 
     // Takes the bytes that a word says, and tells whether it says any.
     pub(crate) fn take_bytes(&mut self, text: &[u8]) -> bool
-        requires { length text.now ≤ 20000 }
+        requires { length text.now ≤ line_size_limit }
         ensures { bytes_said text.now ≡ (if result then Some self.new else None) }
     {
         match text {

@@ -1,5 +1,6 @@
 // The words of a line.
 ghost use Rattle.std.specs.Prelude.{◌≡◌, ℕ, ◌+◌, ◌<◌, ◌≤◌, ◌≢◌, List, [], ◌∷◌, take, drop, length, MatchResult, IfOk};
+ghost use Rattle.vms_model.specs.Limits.{line_size_limit};
 ghost use Rattle.script_model.specs.LineWords.{Ahead, Word as WordRead, Between, words_from, words_of};
 ghost use Rattle.script_model.specs.LineWords.{is_empty};
 ghost use Rattle.script_model.specs.Grammar.{is_skipped as is_skipped_line};
@@ -88,7 +89,7 @@ fn word_len(bytes: &[u8]) -> usize
 impl<'a> Words<'a> {
     /// The words of a line of at most 20,000 bytes.
     pub fn new(line: &'a [u8]) -> Words<'a>
-        requires { length line.now ≤ 20000 }
+        requires { length line.now ≤ line_size_limit }
         ensures { result ≡ words_of line.now }
     {
         let before = spaces(line);
@@ -118,7 +119,7 @@ impl<'a> Words<'a> {
     /// The next word, in whose place this is wanted, or the column where it is missing.
     pub fn word(&mut self, wanted: Wanted) -> Result<Word<'a>, LineErr>
         ensures end { self.new.end ≡ self.old.end }
-        ensures few { IfOk result (λ w. length w.text.now ≤ 20000) }
+        ensures few { IfOk result (λ w. length w.text.now ≤ line_size_limit) }
         ensures words { MatchResult result
             (λ w. self.old.words ≡ record { column = w.column; text = w.text.now } ∷ self.new.words)
             (λ e. (self.old.words ≡ []) × (e.column ≡ self.old.end)) }

@@ -1,5 +1,6 @@
 -- A bucket of a file in a frame, and what the file becomes once it is written.
 use Rattle.std.specs.Prelude.{◌≡◌, ◌⊎◌, ◌≤◌, ◌<◌, ℕ, ◌+◌, ◌*◌, ◌++◌, List, [], ◌∷◌, length, slice_set, None, option_map, IfSome, IsSomeAnd}
+use Rattle.block_disk.specs.Sizes.{content_start}
 use Rattle.careful_write.specs.Reads.{SameButReads}
 use Rattle.careful_write.specs.State.{StoreState}
 use Rattle.file_base.specs.declared.head.FileHead.{FileHead}
@@ -89,6 +90,6 @@ pub record Changes (h h' : FileHead) (given : List (List ℕ) → Type 0) (after
 pub record Written (h : FileHead) (w : Rewrite) (f : ℕ) (old new : StoreState) : Type 0 where
   pub is : new ≡ record old {
     current = option_map (λ b. with_bucket (frame_of old.pool f) b (bucket_first h w.bucket) h.bucket) old.current;
-    touched = with_numbers (518 + bucket_first h w.bucket) h.bucket old.touched;
+    touched = with_numbers (content_start + bucket_first h w.bucket) h.bucket old.touched;
     pool = slice_set old.pool f None;
   }

@@ -1,6 +1,7 @@
 -- How a sequential file lies on the disk, and the map that it means.
 use Rattle.std.specs.Prelude.{◌≡◌, ◌≢◌, ◌≤◌, ◌<◌, ◌⊎◌, ℕ, suc, ◌+◌, ◌-◌, ◌*◌, ◌++◌, List, [], ◌∷◌, length, take, drop, map, Option, Some, None, IfSome, IsSomeAnd, if◌then◌else◌, ◌&&◌, nat_le, nat_lt, nat_eq}
 use Rattle.std.specs.List.{All}
+use Rattle.block_disk.specs.Sizes.{content_start}
 use Rattle.file_base.specs.declared.head.FileHead.{FileHead}
 use Rattle.file_base.specs.declared.head.Organization.TheVariants.{Sequential}
 use Rattle.vms_model.specs.Keys.{Key, Number, Text, End}
@@ -14,7 +15,7 @@ use Rattle.seq_file.specs.Records.{record_at, map_of_list, list_set, slot_sizes}
 
 -- the first block of the i-th bucket, in the content
 abbrev pub bucket_first : FileHead → ℕ → ℕ
-bucket_first h i = h.start - 518 + i * h.bucket
+bucket_first h i = h.start - content_start + i * h.bucket
 
 -- the bytes of the i-th bucket
 abbrev pub bucket_at : FileHead → List (List ℕ) → ℕ → List ℕ

@@ -1,5 +1,6 @@
 //! One bucket of a sequential file, in a frame of a store.
 ghost use Rattle.std.specs.Prelude.{◌↔◌, ◌≡◌, ◌≢◌, ◌≤◌, ◌<◌, ◌+◌, ◌-◌, ◌*◌, ◌++◌, ℕ, List, true, false, [], ◌∷◌, length, take, OnOk, OnErr, IfOk, IfSome, IfNone, slice_set};
+ghost use Rattle.vms_model.specs.Limits.{record_limit};
 ghost use Rattle.careful_write.specs.Down.{answered};
 ghost use Rattle.frame_pool.specs.Pool.{IsOut};
 ghost use Rattle.change_set.specs.Files.{IsPlaced};
@@ -109,7 +110,7 @@ fn read_slot(bucket: &[u8], i: u16, mrs: u16, out: &mut Record) -> bool
     requires bucket { IsBucket Seq (length bucket.now) bucket.now }
     requires there { i < length (slots_of Seq bucket.now) }
     requires small { length bucket.now ≤ 8192 }
-    requires most { mrs ≤ 8160 }
+    requires most { mrs ≤ record_limit }
     ensures found { (result ≡ true) ↔ IsRecord mrs (record_of (slot_at (slots_of Seq bucket.now) i)) }
     ensures read { result ≡ true → out.new ≡ record_of (slot_at (slots_of Seq bucket.now) i) }
 {
@@ -133,7 +134,7 @@ pub fn read_record<D: Disk>(
     out: &mut Record,
 ) -> bool
     requires blocks { head.now.bucket ≤ 16 }
-    requires most { head.now.mrs ≤ 8160 }
+    requires most { head.now.mrs ≤ record_limit }
     requires out { IsOut store.old.pool frame.now }
     requires bucket { IsBucket Seq (512 * head.now.bucket) (page_in head.now store.old frame.now) }
     requires there { i < length (slots_of Seq (page_in head.now store.old frame.now)) }
@@ -149,7 +150,7 @@ pub fn read_record<D: Disk>(
 // Writes the slot of a record.
 fn write_slot(slot: &mut [u8], value: &[u8])
     requires within { length value.now + 2 ≤ length slot.old }
-    requires most { length value.now ≤ 8160 }
+    requires most { length value.now ≤ record_limit }
     ensures { take (length value.now + 2) slot.new ≡ slot_of value.now }
 {
     LittleEndian::write_u16(slot, value.len() as u16);
@@ -169,7 +170,7 @@ pub fn push_slot<D: Disk>(
     requires out { IsOut store.old.pool frame.now }
     requires bucket { IsBucket Seq (512 * head.now.bucket) (page_in head.now store.old frame.now) }
     requires number { count ≡ length (slots_of Seq (page_in head.now store.old frame.now)) }
-    requires most { length value.now ≤ 8160 }
+    requires most { length value.now ≤ record_limit }
     ensures page { result ≡ true → HasSlots head.now (page_in head.now store.new frame.now) (slots_of Seq (page_in head.now store.old frame.now) ++ slot_of value.now ∷ []) }
     ensures same { result ≡ false → store.new ≡ store.old }
     ensures full { (result ≡ false) ↔ (512 * head.now.bucket < 16 + length (joined (slots_of Seq (page_in head.now store.old frame.now))) + (length value.now + 2)) }
@@ -244,7 +245,7 @@ pub fn replace_slot<D: Disk>(
     requires out { IsOut store.old.pool frame.now }
     requires bucket { IsBucket Seq (512 * head.now.bucket) (page_in head.now store.old frame.now) }
     requires there { i < length (slots_of Seq (page_in head.now store.old frame.now)) }
-    requires most { length value.now ≤ 8160 }
+    requires most { length value.now ≤ record_limit }
     ensures page { result ≡ true → HasSlots head.now (page_in head.now store.new frame.now) (slice_set (slots_of Seq (page_in head.now store.old frame.now)) i (slot_of value.now)) }
     ensures fits { result ≡ true → length value.now + 2 ≡ length (slot_at (slots_of Seq (page_in head.now store.old frame.now)) i) }
     ensures same { result ≡ false → store.new ≡ store.old }

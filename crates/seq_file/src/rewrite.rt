@@ -1,6 +1,8 @@
 //! Which bucket a change of a file's records writes. The bucket is left in a frame.
 ghost use Rattle.std.specs.Prelude.{◌≡◌, ◌≢◌, ◌≤◌, ◌<◌, ◌⊎◌, ◌+◌, ◌-◌, ◌*◌, ◌++◌, ℕ, List, true, false, Some, None, [], ◌∷◌, length, take, OnOk, OnErr, IfOk, IfSome, IfNone};
 ghost use Rattle.std.specs.Option.{option_copied};
+ghost use Rattle.block_disk.specs.Sizes.{greatest_disk_size};
+ghost use Rattle.vms_model.specs.Limits.{record_limit};
 ghost use Rattle.careful_write.specs.Down.{answered};
 ghost use Rattle.frame_pool.specs.Pool.{IsOut};
 ghost use Rattle.vms_model.specs.Keys.{Number};
@@ -35,7 +37,7 @@ fn place_behind<D: Disk>(
     requires one { 1 ≤ head.now.bucket }
     requires blocks { head.now.bucket ≤ 16 }
     requires records { head.now.mrs + 32 ≤ 512 * head.now.bucket }
-    requires greatest { head.now.mrs ≤ 8160 }
+    requires greatest { head.now.mrs ≤ record_limit }
     requires out { IsOut store.old.pool frame.now }
     requires bucket { IsBucket Seq (512 * head.now.bucket) (page_in head.now store.old frame.now) }
     requires number { slots ≡ length (slots_of Seq (page_in head.now store.old frame.now)) }
@@ -130,7 +132,7 @@ fn write_over<D: Disk>(
     requires out { IsOut store.old.pool frame.now }
     requires bucket { IsBucket Seq (512 * head.now.bucket) (page_in head.now store.old frame.now) }
     requires there { spot.slot < length (slots_of Seq (page_in head.now store.old frame.now)) }
-    requires most { length value.now ≤ 8160 }
+    requires most { length value.now ≤ record_limit }
     ensures put { IfSome result (λ w. PutOver head.now spot.slot (slots_of Seq (page_in head.now store.old frame.now)) value.now (page_in head.now store.new frame.now)) }
     ensures rewrites { IfSome result (λ w. (w.bucket ≡ spot.bucket) × (w.used ≡ head.now.used) × (w.count ≡ head.now.count)) }
     ensures none { IfNone result (length value.now + 2 ≢ length (slot_at (slots_of Seq (page_in head.now store.old frame.now)) spot.slot)) }
@@ -149,7 +151,7 @@ fn write_over<D: Disk>(
 
 // How many buckets are used once the slots from this one on are gone.
 fn used_before(spot: Spot) -> u32
-    requires { spot.bucket < 65536 }
+    requires { spot.bucket < greatest_disk_size }
     ensures { result ≡ used_left spot.slot spot.bucket }
 {
     if spot.slot == 0 && spot.bucket > 0 {

@@ -3,6 +3,7 @@ ghost use Rattle.std.specs.Prelude.{◌≡◌, ◌≤◌, ◌<◌, ◌+◌, ◌-
 ghost use Rattle.std.specs.Option.{option_copied};
 ghost use Rattle.vms_base.specs.Keys.{key_of};
 ghost use Rattle.careful_write.specs.Reads.{SameButReads};
+ghost use Rattle.careful_write.specs.Sizes.{staged_limit};
 ghost use Rattle.change_set.specs.Files.{IsPlaced, free_frames, fell, StagesIn, SameFile};
 ghost use Rattle.change_set.specs.Maps.{set_key};
 ghost use Rattle.seq_file.specs.Records.{cut_from};
@@ -197,7 +198,7 @@ impl SeqFile {
         requires form { IsSequential head.old }
         requires placed { IsPlaced head.old store.old.disk }
         requires frames { 32 ≤ free_frames store.old.pool }
-        requires staged { length store.old.touched ≤ 64 }
+        requires staged { length store.old.touched ≤ staged_limit }
         requires first { 1 ≤ from }
         requires last { from ≤ head.old.count }
         ensures map { OnOk result (IfSome store.old.current (λ before. IsLaidOut head.old before → option_map (map_of head.new) store.new.current ≡ Some (cut_from from (map_of head.old before)))) }
@@ -222,7 +223,7 @@ impl SeqFile {
         requires form { IsSequential head.old }
         requires placed { IsPlaced head.old store.old.disk }
         requires frames { 32 ≤ free_frames store.old.pool }
-        requires staged { length store.old.touched ≤ 64 }
+        requires staged { length store.old.touched ≤ staged_limit }
         requires first { 1 ≤ from }
         requires last { from ≤ head.old.count }
         requires begins { IfSome store.old.current (λ b. IsLaidOut head.old b → CountsBefore head.old b place) }

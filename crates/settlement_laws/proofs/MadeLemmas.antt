@@ -31,7 +31,7 @@ use Rattle.volume_format.specs.declared.home.Ending.{Ending}
 use Rattle.volume_format.proofs.Homes.{home_wide, home_written}
 use Rattle.volume_format.proofs.Splices.{laid_again, laid_stand, length-laid}
 use Rattle.volume_files.proofs.Places.{fit_of}
-use Rattle.directory_model.specs.Files.{Fit, StandsIn, head_at}
+use Rattle.directory_model.specs.Files.{AgreesOnFile, Fit, head_at}
 use Rattle.directory_model.proofs.Apart.{writes_apart}
 use Rattle.volume_model.specs.Entries.{entry_for}
 use Rattle.volume_model.specs.Homes.{HasHome}
@@ -260,7 +260,7 @@ module _ (b c : Content) (n : Node) (s : Settlement) (tid : Tid) (serial : Seria
   fit : Fit (data_area (sizes_of v.catalog.home)) v.catalog.heads
   fit = let is = fit_of node size v.catalog heads_long sound in record { heads_long = is.heads_long; behind = is.behind; each = is.each }
 
-  files_stay : (f : ℕ) (h : FileHead) → head_at v.catalog.heads f ≡ Some h → StandsIn h b c
+  files_stay : (f : ℕ) (h : FileHead) → head_at v.catalog.heads f ≡ Some h → AgreesOnFile h b c
   files_stay = writes_apart.before (data_area (sizes_of v.catalog.home)) v.catalog.heads b c fit (ap length content_is ∙ ring_same.size ∙ (put_others ru b j.entries j.is far e).size) (subst EachWhole (sym content_is) after_whole) (λ k inside.
       let start = sound.ru_start in
       let blocks = sound.ru_blocks in

@@ -1,5 +1,6 @@
 -- What the settlement of a branch makes of a volume, and of its node.
 use Rattle.std.specs.Prelude.{◌≡◌, ℕ, ◌+◌, ◌-◌, ◌≤◌, ◌^◌, List, ◌++◌, true, Option, Some, length}
+use Rattle.vms_model.specs.Limits.{file_limit}
 use Rattle.file_base.specs.declared.head.FileHead.{FileHead}
 use Rattle.lmcp_log.specs.Keeping.{SameSlots}
 use Rattle.vms_model.specs.Ids.{IsId}
@@ -15,7 +16,7 @@ use Rattle.volume.specs.declared.catalog.Catalog.{Catalog}
 use Rattle.volume.specs.Catalogs.{IsSound, TellsCatalog}
 use Rattle.volume.specs.State.{VolumeState}
 use Rattle.volume_format.specs.declared.home.Ending.{Ending}
-use Rattle.directory_model.specs.Files.{StandsIn, head_at}
+use Rattle.directory_model.specs.Files.{AgreesOnFile, head_at}
 use Rattle.volume_model.specs.Homes.{HasHome, settlement_of}
 use Rattle.volume_model.specs.Volumes.{HasJournal}
 use Rattle.volume_laws.specs.Journals.{settled_entries}
@@ -36,7 +37,7 @@ noted s n = record n { durable = with_settlement (Some s) n.durable }
 pub record IsSettled (n : Node) (s : Settlement) (es : List Entry) (b c : List (List ℕ)) (v w : Catalog) : Type 0 where
   pub heads : w.heads ≡ v.heads
   pub log : SameSlots (length n.durable.log) b c
-  pub files : (f : ℕ) (h : FileHead) → head_at v.heads f ≡ Some h → StandsIn h b c
+  pub files : (f : ℕ) (h : FileHead) → head_at v.heads f ≡ Some h → AgreesOnFile h b c
   pub home : HasHome w.home (noted s n)
   pub entered : IsJournal c (record w.ru { first = v.ru.first }) (es ++ settled_entries s n.durable.units)
   pub first : w.ru.first ≡ (with_settled s.tid s.serial s.outcome s.moment n.durable.units).first
@@ -59,5 +60,5 @@ pub record Makes (n : Node) (s : Settlement) (tid : Tid) (serial : Serial) (endi
 -- Then it is made of the volume's content; that tells the volume, which is sound.
 abbrev pub SettlementsAreMade : Type 0
 SettlementsAreMade = (b c : List (List ℕ)) (n : Node) (s : Settlement) (tid : Tid) (serial : Serial) (ending : Ending) (left : List (Option OpenUnit)) (v made : VolumeState) (node : List ℕ) (size : ℕ) → v.store.current ≡ Some b → made.store.current ≡ Some c →
-    TellsCatalog v.catalog b → IsSound node size v.catalog → length v.catalog.heads ≡ 64 → HasHome v.catalog.home n → (j : HasJournal b v.catalog n) → Makes n s tid serial ending left v made →
+    TellsCatalog v.catalog b → IsSound node size v.catalog → length v.catalog.heads ≡ file_limit → HasHome v.catalog.home n → (j : HasJournal b v.catalog n) → Makes n s tid serial ending left v made →
     IsSettled n s j.entries b c v.catalog made.catalog × TellsCatalog made.catalog c × IsSound node size made.catalog

@@ -5,7 +5,7 @@ use Rattle.transcript_model.specs.Outside.{Rose}
 use Rattle.transcript_model.specs.Lines.{Cause, Failed, Stopped}
 use Rattle.run_model.specs.World.{DiskCounts, Node, Outturn, Shared, World, disk_of, find_node, powered}
 use Rattle.run_model.specs.Answers.{Hears, Service, Task, powers, refused_before_reading, spoils, task_service}
-use Rattle.run_model.specs.Steps.{Choice, Cut, TaskAllowed, Unpowered, Whole, WithoutMemory, count_of, cut, dead, ready_node, rows_to_cut, spoilt, task_effect, whole}
+use Rattle.run_model.specs.Steps.{Choice, Cut, TaskAllowed, Unpowered, Whole, WithoutMemory, count_of, cut, ready_node, rows_to_cut, task_effect, whole, with_unknown_volume, without_power}
 use Rattle.run_model.specs.Statements.{Allowed, AllowedAt, AllowedOf, Asks, Does, Doubtful, Heard, NoneFalls, Part, Question, RoseAt, Unanswered, question, stops_at}
 use Rattle.run_model.proofs.NodeLists.{none_falls_at}
 use Rattle.run_model.proofs.PartLemmas.{allowed_here, here_allowed}
@@ -69,8 +69,8 @@ rose_later w node after later falls cause h = by (disk_of node w.nodes w.disks) 
 same_ready : (outturn : Outturn) (one other : ℕ) (e : Service) (n : Node) → (powers e ≡ true → one ≡ other) → ready_node outturn one e n ≡ ready_node outturn other e n
 same_ready outturn one other e n same = go (powers e) same
   where
-    go : (b : Bool) → (b ≡ true → one ≡ other) → ◌≡◌ {A = Node} (if b then spoilt (spoils e) (powered outturn one n) else n) (if b then spoilt (spoils e) (powered outturn other n) else n)
-    go true f = ap (λ stops. spoilt (spoils e) (powered outturn stops n)) (f refl)
+    go : (b : Bool) → (b ≡ true → one ≡ other) → ◌≡◌ {A = Node} (if b then with_unknown_volume (spoils e) (powered outturn one n) else n) (if b then with_unknown_volume (spoils e) (powered outturn other n) else n)
+    go true f = ap (λ stops. with_unknown_volume (spoils e) (powered outturn stops n)) (f refl)
     go false f = refl
 
 -- What is allowed where these causes rise is allowed where those do that rise with them, and comes to the same.
@@ -84,7 +84,7 @@ allowed_as s one other n t P Q gives same (Cut outturn done begun cause) h =
 pub same_effect : (s : Shared) (one other : ℕ) (n : Node) (t : Task) (P : Cause → Type 0) → (powers (task_service t) ≡ true → one ≡ other) → (c : Choice) → TaskAllowed s one n t P c → task_effect s one n t c ≡ task_effect s other n t c
 same_effect s one other n t P same (Whole outturn) h = ap (λ m. whole s n m (task_service t) (refused_before_reading s n (task_service t))) (same_ready outturn one other (task_service t) n same)
 same_effect s one other n t P same WithoutMemory h = refl
-same_effect s one other n t P same Unpowered h = ap (λ stops. dead s stops n (task_service t)) (same h.1)
+same_effect s one other n t P same Unpowered h = ap (λ stops. without_power s stops n (task_service t)) (same h.1)
 same_effect s one other n t P same (Cut outturn done begun cause) h = ap (λ m. cut s m (task_service t) (rows_to_cut s m (task_service t)) done begun cause) (same_ready outturn one other (task_service t) n same)
 
 -- So what they allowed is allowed by later ones.

@@ -16,12 +16,23 @@ pub fn repeated(alloc: Global, byte: u8, times: usize) -> Result<Vec<u8>, Fail> 
     Ok(vec![in alloc; byte; times]?)
 }
 
-/// These texts, each with so many x behind it. It is an error where memory is missing.
-pub fn filled(alloc: Global, parts: &[(&[u8], usize)]) -> Result<Vec<u8>, Fail> {
+/// This text, with so many x where it has a number in braces: 240 of them for {240}. It is an error where memory is missing.
+pub fn filled(alloc: Global, text: &[u8]) -> Result<Vec<u8>, Fail> {
     let mut all = Vec::new(alloc);
-    for (text, count) in parts {
-        all.extend_from_slice(text)?;
-        all.extend_from_slice(&repeated(alloc, b'x', *count)?)?;
+    let mut number: Option<usize> = None;
+    for byte in text {
+        match (number, *byte) {
+            (None, b'{') => number = Some(0),
+            (None, other) => all.push(other)?,
+            (Some(times), b'}') => {
+                all.extend_from_slice(&repeated(alloc, b'x', times)?)?;
+                number = None;
+            }
+            (Some(front), digit) => {
+                let last = usize::from(digit.saturating_sub(b'0'));
+                number = Some(front.saturating_mul(10).saturating_add(last));
+            }
+        }
     }
     Ok(all)
 }

@@ -1,6 +1,7 @@
 -- What holds of a node's table between any two acts.
 use Rattle.std.specs.Prelude.{ℕ, ◌≡◌, ◌+◌, ◌≤◌, List, [], ◌∷◌, length, None, remove, slice_set, if◌then◌else◌}
 use Rattle.vms_model.specs.Ids.{Id}
+use Rattle.vms_model.specs.Limits.{branch_limit, slot_limit}
 use Rattle.commit_protocol.specs.Messages.{LogRecord}
 use Rattle.commit_protocol.specs.Table.{Branch, Child, find, nothing_left}
 use Rattle.commit_protocol.specs.Rows.{has_bid}
@@ -24,8 +25,8 @@ Unique [] = Unit {0}
 Unique (b ∷ bs) = (find b.key bs ≡ None) × Unique bs
 
 pub record Keeps (table : List Branch) (records : List LogRecord) : Type 0 where
-  pub few : length table ≤ 64
-  pub slots : length table + length records ≤ 512
+  pub few : length table ≤ branch_limit
+  pub slots : length table + length records ≤ slot_limit
   pub unique : Unique table
   pub fit : AllFit table
 

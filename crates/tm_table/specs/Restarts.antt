@@ -2,6 +2,7 @@
 use Rattle.std.specs.Prelude.{◌≡◌, ◌+◌, ◌≤◌, Bool, true, false, List, [], ◌∷◌, ◌++◌, length, Option, Some, None, map, if◌then◌else◌}
 use Rattle.std.specs.List.{list_any, list_all}
 use Rattle.vms_model.specs.Ids.{Id}
+use Rattle.vms_model.specs.Limits.{branch_limit, slot_limit}
 use Rattle.commit_protocol.specs.Messages.{LogRecord, RecordKind, PreparedRecord, CommittedRecord, same_id}
 
 abbrev pub is_prepared : RecordKind → Bool
@@ -24,8 +25,8 @@ pub record MayRestart (prepared committed : List LogRecord) : Type 0 where
   pub prepared_kinds : list_all (λ r. is_prepared r.kind) prepared ≡ true
   pub committed_kinds : list_all (λ r. is_committed r.kind) committed ≡ true
   pub distinct : Distinct (serials_of (prepared ++ committed))
-  pub few : length prepared ≤ 64
-  pub slots : length prepared + length committed ≤ 512
+  pub few : length prepared ≤ branch_limit
+  pub slots : length prepared + length committed ≤ slot_limit
 
 -- the committed record of a serial
 abbrev pub record_of : Id → List LogRecord → Option LogRecord

@@ -1,6 +1,7 @@
 // The acts of which rows are made.
 ghost use Rattle.std.specs.Prelude.{◌≡◌, ◌+◌, ◌<◌, ◌≤◌, ◌++◌, ◌∷◌, [], map, length, Bool, if◌then◌else◌, Some, None};
 ghost use Rattle.std.specs.Option.{option_map};
+ghost use Rattle.vms_model.specs.Limits.{bid_limit, branch_limit, slot_limit};
 ghost use Rattle.commit_protocol.specs.Table.{cut, Notes, Accepts, Prepares, Settles, Leaves, Sends, Prints, Started, Ended, Told};
 ghost use Rattle.commit_protocol.specs.Rows.{sends_all, to_each, tells, ended, down, up};
 ghost use Rattle.vms_base.specs.Ids.{tid_of, serial_of};
@@ -31,8 +32,8 @@ impl Table {
 
     /// Notes a branch that begins. The table has room for it.
     pub fn begin(&mut self, b: BranchState)
-        requires few { length self.old.tm.table < 64 }
-        requires slots { length self.old.tm.table + length self.old.tm.records < 512 }
+        requires few { length self.old.tm.table < branch_limit }
+        requires slots { length self.old.tm.table + length self.old.tm.records < slot_limit }
         requires fits { Fits (branch_of b) }
         ensures done { self.new ≡ did (Notes (branch_of b)) self.old }
         ensures room { self.new.effects ≡ self.old.effects }
@@ -43,7 +44,7 @@ impl Table {
     /// Accepts the serial: the branch has it last among its accepted ones, and the Joined effect tells it.
     pub fn accept(&mut self, b: &mut BranchState, child: Child)
         requires there { IsThere (branch_of b.old).key self.old.tm.table }
-        requires few { length b.old.accepted < 15 }
+        requires few { length b.old.accepted < bid_limit }
         requires fits { Fits (record (branch_of b.old) { accepted = (branch_of b.old).accepted ++ child_of child ∷ [] }) }
         requires room { HasRoom 1 self.old }
         ensures done { self.new ≡ did (Accepts (branch_of b.old) (child_of child)) self.old }

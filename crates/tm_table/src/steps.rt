@@ -1,5 +1,6 @@
 // What is done at an event.
 ghost use Rattle.std.specs.Prelude.{◌≡◌, ◌≤◌, [], length, true};
+ghost use Rattle.vms_model.specs.Limits.{branch_limit};
 ghost use Rattle.commit_protocol.specs.Allowed.{allowed};
 ghost use Rattle.commit_protocol.specs.Rows.{got, row};
 ghost use Rattle.net_wire.specs.Messages.{message_of};
@@ -35,7 +36,7 @@ impl Table {
     pub fn take_row(&mut self, event: &Event)
         requires allowed { allowed self.old.tm (event_of event.now) ≡ true }
         requires empty { self.old.effects ≡ [] }
-        requires few { length self.old.tm.table ≤ 64 }
+        requires few { length self.old.tm.table ≤ branch_limit }
         ensures { self.new ≡ does (row self.old.tm (event_of event.now)) self.old }
     {
         match event {

@@ -2,6 +2,7 @@
 ghost use Rattle.std.specs.Prelude.{◌≡◌, ◌+◌, ◌<◌, ◌≤◌, map, length, [], ◌∷◌, ◌++◌, IfOk, IfSome, IfNone, slice_index_or, slice_get, option_copied};
 ghost use Rattle.std.specs.Option.{option_map};
 ghost use Rattle.std.specs.List.{list_any};
+ghost use Rattle.vms_model.specs.Limits.{branch_limit, slot_limit};
 ghost use Rattle.commit_protocol.specs.Messages.{same_id as same_id_of};
 ghost use Rattle.commit_protocol.specs.Table.{Notes, Leaves, after_act, holds, restarted, add_record, first, find, find_serial};
 ghost use Rattle.commit_protocol.specs.Allowed.{has_room};
@@ -43,6 +44,7 @@ pub struct Table {
 
 impl Model for Table {
     ghost use Rattle.std.specs.Prelude.{◌≤◌, map, vec_capacity};
+    ghost use Rattle.vms_model.specs.Limits.{branch_limit, slot_limit};
     ghost use Rattle.tm_types.specs.Parts.{log_record_of};
     ghost use Rattle.tm_types.specs.Branches.{branch_of};
     ghost use Rattle.tm_types.specs.Effects.{effect_of};
@@ -56,7 +58,7 @@ impl Model for Table {
       effects = map effect_of t.effects;
     } };
 
-    ghost invariant = { λ t. (64 ≤ vec_capacity t.branches) × (512 ≤ vec_capacity t.records) × Keeps (map branch_of t.branches.items) (map log_record_of t.records.items) };
+    ghost invariant = { λ t. (branch_limit ≤ vec_capacity t.branches) × (slot_limit ≤ vec_capacity t.records) × Keeps (map branch_of t.branches.items) (map log_record_of t.records.items) };
 }
 
 impl Table {
@@ -105,7 +107,7 @@ impl Table {
     /// How many branches are unsettled: at most 64.
     pub fn branch_count(&self) -> usize
         ensures count { result ≡ length self.now.tm.table }
-        ensures few { result ≤ 64 }
+        ensures few { result ≤ branch_limit }
     {
         self.branches.len()
     }
@@ -113,7 +115,7 @@ impl Table {
     /// How many committed records there are: at most 512.
     pub fn record_count(&self) -> usize
         ensures count { result ≡ length self.now.tm.records }
-        ensures few { result ≤ 512 }
+        ensures few { result ≤ slot_limit }
     {
         self.records.len()
     }
@@ -174,7 +176,7 @@ impl Table {
         ensures none { IfNone result (length self.now.tm.table ≤ i) }
         ensures there { IfSome result (λ b. IsThere (branch_of b).key self.now.tm.table) }
         ensures unique { Unique self.now.tm.table }
-        ensures few { length self.now.tm.table ≤ 64 }
+        ensures few { length self.now.tm.table ≤ branch_limit }
     {
         if i < self.branches.len() {
             Some(self.branches[i].copy())
@@ -187,7 +189,7 @@ impl Table {
     pub fn clear(&mut self)
         ensures tm { self.new.tm ≡ self.old.tm }
         ensures effects { self.new.effects ≡ [] }
-        ensures few { length self.new.tm.table ≤ 64 }
+        ensures few { length self.new.tm.table ≤ branch_limit }
     {
         self.effects.clear();
     }
@@ -233,8 +235,8 @@ impl Table {
 
     /// Puts the branch in the place of the one with its key, or last where none has it.
     pub fn add(&mut self, b: BranchState)
-        requires few { length self.old.tm.table < 64 }
-        requires slots { length self.old.tm.table + length self.old.tm.records < 512 }
+        requires few { length self.old.tm.table < branch_limit }
+        requires slots { length self.old.tm.table + length self.old.tm.records < slot_limit }
         requires fits { Fits (branch_of b) }
         ensures tm { self.new.tm ≡ after_act (Notes (branch_of b)) self.old.tm }
         ensures effects { self.new.effects ≡ self.old.effects }
@@ -247,7 +249,7 @@ impl Table {
         requires there { IsThere (key_at tid.now serial.now) self.old.tm.table }
         ensures tm { self.new.tm ≡ after_act (Leaves (key_at tid.now serial.now)) self.old.tm }
         ensures effects { self.new.effects ≡ self.old.effects }
-        ensures slots { length self.new.tm.table + length self.new.tm.records < 512 }
+        ensures slots { length self.new.tm.table + length self.new.tm.records < slot_limit }
         ensures fewer { length self.new.tm.table + 1 ≤ length self.old.tm.table }
     {
         cut_branch(&mut self.branches, tid, serial);
@@ -255,7 +257,7 @@ impl Table {
 
     /// Adds the committed record last. Nothing changes where there is none.
     pub fn add_record(&mut self, rec: &Option<LogRec>)
-        requires slots { length self.old.tm.table + length self.old.tm.records < 512 }
+        requires slots { length self.old.tm.table + length self.old.tm.records < slot_limit }
         ensures tm { self.new.tm ≡ record self.old.tm { records = add_record (option_map log_record_of rec.now) self.old.tm.records } }
         ensures effects { self.new.effects ≡ self.old.effects }
     {

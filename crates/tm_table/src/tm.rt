@@ -1,6 +1,7 @@
 // The table of one node.
 ghost use Rattle.std.specs.Prelude.{◌≡◌, ◌≤◌, [], map, length, true, IfOk, option_copied, slice_get};
 ghost use Rattle.std.specs.Option.{option_map};
+ghost use Rattle.vms_model.specs.Limits.{branch_limit, slot_limit};
 ghost use Rattle.commit_protocol.specs.Allowed.{allowed};
 ghost use Rattle.commit_protocol.specs.Effects.{effects_of};
 ghost use Rattle.commit_protocol.specs.Rows.{row};
@@ -67,7 +68,7 @@ impl Tm {
     /// How many branches are unsettled.
     pub fn branch_count(&self) -> usize
         ensures count { result ≡ length self.now.table }
-        ensures few { result ≤ 64 }
+        ensures few { result ≤ branch_limit }
     {
         self.table.branch_count()
     }
@@ -75,7 +76,7 @@ impl Tm {
     /// How many committed records there are.
     pub fn record_count(&self) -> usize
         ensures count { result ≡ length self.now.records }
-        ensures few { result ≤ 512 }
+        ensures few { result ≤ slot_limit }
     {
         self.table.record_count()
     }

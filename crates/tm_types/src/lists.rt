@@ -1,6 +1,7 @@
 // The accepted serials and the managers of a branch.
 ghost use Rattle.std.specs.Prelude.{◌≡◌, ◌<◌, ◌≤◌, ◌&&◌, [], ◌∷◌, ◌++◌, length, map, not};
 ghost use Rattle.std.specs.List.{list_any};
+ghost use Rattle.vms_model.specs.Limits.{bid_limit};
 ghost use Rattle.commit_protocol.specs.Rows.{has_bid, has_serial, is_yes, is_noted, joined_as, all_taken, all_voted, serials, yes_of, others, told_abort, to_each, lacks_vote, note_vote, asks, joined, interested, all_replied, note_reply};
 ghost use Rattle.std.specs.Option.{option_map};
 ghost use Rattle.commit_protocol.specs.Allowed.{answers, answers_waiting};
@@ -54,13 +55,14 @@ pub struct BidList {
 
 impl Model for BidList {
     ghost use Rattle.std.specs.Prelude.{◌≡◌, ◌≤◌, List, take, length};
+    ghost use Rattle.vms_model.specs.Limits.{bid_limit};
     ghost use Rattle.vms_base.specs.declared.ids.Bid.{Bid};
 
     ghost Value = { List Bid };
 
     ghost view = { λ l. take l.used l.places };
 
-    ghost invariant = { λ l. (l.used ≤ 15) × (length l.places ≡ 15) };
+    ghost invariant = { λ l. (l.used ≤ bid_limit) × (length l.places ≡ bid_limit) };
 }
 
 impl BidList {
@@ -77,14 +79,14 @@ impl BidList {
     /// The identifiers in order.
     pub fn items(&self) -> &[Bid]
         ensures value { result.now ≡ self.now }
-        ensures few { length self.now ≤ 15 }
+        ensures few { length self.now ≤ bid_limit }
     {
         &self.places[..self.used]
     }
 
     /// Adds an identifier at the end.
     pub fn push(&mut self, bid: Bid)
-        requires { length self.old < 15 }
+        requires { length self.old < bid_limit }
         ensures { self.new ≡ self.old ++ bid ∷ [] }
     {
         self.places[self.used] = bid;
@@ -104,7 +106,7 @@ impl BidList {
 
     /// Whether the identifier is in the list.
     pub fn contains(&self, bid: &Bid) -> bool
-        ensures few { length self.now ≤ 15 }
+        ensures few { length self.now ≤ bid_limit }
         ensures found { result ≡ list_any (λ x. same_id_of x (bid_of bid.now)) (map bid_of self.now) }
     {
         for b in self.items() {
@@ -137,13 +139,14 @@ pub struct ChildList {
 
 impl Model for ChildList {
     ghost use Rattle.std.specs.Prelude.{◌≡◌, ◌≤◌, List, take, length};
+    ghost use Rattle.vms_model.specs.Limits.{bid_limit};
     ghost use Rattle.tm_types.specs.declared.lists.Child.{Child};
 
     ghost Value = { List Child };
 
     ghost view = { λ l. take l.used l.places };
 
-    ghost invariant = { λ l. (l.used ≤ 15) × (length l.places ≡ 15) };
+    ghost invariant = { λ l. (l.used ≤ bid_limit) × (length l.places ≡ bid_limit) };
 }
 
 fn lacks_its_vote(child: &Child, serial: &Serial) -> bool
@@ -191,14 +194,14 @@ impl ChildList {
     /// The accepted serials in order of acceptance.
     pub fn items(&self) -> &[Child]
         ensures value { result.now ≡ self.now }
-        ensures few { length self.now ≤ 15 }
+        ensures few { length self.now ≤ bid_limit }
     {
         &self.places[..self.used]
     }
 
     /// Adds a serial at the end.
     pub fn push(&mut self, child: Child)
-        requires { length self.old < 15 }
+        requires { length self.old < bid_limit }
         ensures { self.new ≡ self.old ++ child ∷ [] }
     {
         self.places[self.used] = child;

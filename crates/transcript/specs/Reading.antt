@@ -1,6 +1,7 @@
 -- What a line reader holds, and what is ahead of it.
 use Rattle.std.specs.Prelude.{◌≡◌, ◌≢◌, ℕ, ◌+◌, ◌<◌, ◌≤◌, ◌⊎◌, List, [], ◌∷◌, ◌++◌, Option, take, length, slice_range, IfSome}
 use Rattle.std.specs.Option.{option_map}
+use Rattle.vms_model.specs.Limits.{line_size_limit, script_size_limit}
 use Rattle.transcript_model.specs.Outside.{ahead, Rose}
 use Rattle.transcript_model.specs.Script.{ScriptLine, lines_of, size_of, HasNoFeed, BeginsTooLong, IsWithinLimits}
 use Rattle.transcript.specs.declared.lines.LineReader.{LineReader}
@@ -31,27 +32,27 @@ lines_ahead r left = option_map lines_of (ahead (begun_line r ++ pending r) left
 
 -- the sizes of its parts, and that a line feed ends a line
 pub record IsSound (r : LineReader) : Type 0 where
-  pub line : length r.line.items ≡ 20000
-  pub used : r.used ≤ 20000
-  pub whole : r.length ≤ 20000
+  pub line : length r.line.items ≡ line_size_limit
+  pub used : r.used ≤ line_size_limit
+  pub whole : r.length ≤ line_size_limit
   pub buffer : length r.buffer.items ≡ 65536
   pub start : r.start ≤ r.end
   pub end : r.end ≤ 65536
-  pub script : r.taken + r.used ≤ 67108864
+  pub script : r.taken + r.used ≤ script_size_limit
   pub no_feed : HasNoFeed (begun_line r)
 
 -- bytes went from those pending onto the line that is begun
 abbrev pub Takes : LineReader → Taken → LineReader → Type 0
-Takes old taken.Feed new = (begun_line old ++ pending old ≡ begun_line new ++ (10 ∷ pending new)) × (new.taken + new.used < 67108864)
+Takes old taken.Feed new = (begun_line old ++ pending old ≡ begun_line new ++ (10 ∷ pending new)) × (new.taken + new.used < script_size_limit)
 Takes old taken.All new = (begun_line old ++ pending old ≡ begun_line new) × (pending new ≡ []) × (new.used ≡ old.used + length (pending old)) × (new.end ≤ new.start)
-Takes old taken.Full new = (y : ℕ) × (ys : List ℕ) × (begun_line old ++ pending old ≡ begun_line new ++ pending new) × (pending new ≡ y ∷ ys) × (((y ≢ 10) × (length (begun_line new) ≡ 20000)) ⊎ (new.taken + length (begun_line new) ≡ 67108864))
+Takes old taken.Full new = (y : ℕ) × (ys : List ℕ) × (begun_line old ++ pending old ≡ begun_line new ++ pending new) × (pending new ≡ y ∷ ys) × (((y ≢ 10) × (length (begun_line new) ≡ line_size_limit)) ⊎ (new.taken + length (begun_line new) ≡ script_size_limit))
 
 -- what a call of next tells of the lines ahead, after so many bytes of the script
-abbrev pub Tells : ℕ → Option (List ScriptLine) → Next → LineReader → Option (List ScriptLine) → ℕ → ℕ → Type 0
-Tells before old next.Line r new faults faults' = old ≡ option_map (λ more. script_line r ∷ more) new
-Tells before old next.End r new faults faults' = IfSome old (λ lines. lines ≡ [])
-Tells before old next.TooLong r new faults faults' = IfSome old (BeginsTooLong before)
-Tells before old next.Failed r new faults faults' = Rose faults faults'
+abbrev pub ReadsNext : ℕ → Option (List ScriptLine) → Next → LineReader → Option (List ScriptLine) → ℕ → ℕ → Type 0
+ReadsNext before old next.Line r new faults faults' = old ≡ option_map (λ more. script_line r ∷ more) new
+ReadsNext before old next.End r new faults faults' = IfSome old (λ lines. lines ≡ [])
+ReadsNext before old next.TooLong r new faults faults' = IfSome old (BeginsTooLong before)
+ReadsNext before old next.Failed r new faults faults' = Rose faults faults'
 
 -- A line that is given is within the limits, and its bytes are counted.
 abbrev pub Counts : ℕ → Next → LineReader → Type 0

@@ -669,7 +669,7 @@ impl<'a, K: Sink> SinkEmit<'a, K> {
             Form::NoSuchManager => self.put(b"SS$_NOSUCHRM"),
             Form::WrongState => self.put(b"SS$_WRONGSTATE"),
             Form::InDoubt(serial, node) => self.put_in_doubt(serial, node),
-            Form::NotMarked => self.put(b"NOTRU"),
+            Form::NotForUnits => self.put(b"NOTRU"),
             Form::NeedsUnit => self.put(b"RMS$_NRU"),
             Form::NoJournal => self.put(b"NOTMARKED"),
             Form::NoSave => self.put(b"NOSAVE"),

@@ -135,7 +135,7 @@ pub enum Form<'a> {
     WrongState,
     /// A prepared branch whose coordinator's node is not in the rack.
     InDoubt(Serial, NodeName),
-    NotMarked,
+    NotForUnits,
     /// A change without a branch is asked for, of a file that is marked for recovery units.
     NeedsUnit,
     /// The file has no such journal of images.

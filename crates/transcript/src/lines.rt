@@ -1,8 +1,9 @@
 //! The lines of a script, in whatever pieces the source gives it.
 ghost use Rattle.std.specs.Prelude.{◌≡◌, ◌≢◌, ◌+◌, ◌<◌, ◌≤◌, if◌then◌else◌, List, [], ℕ, Option, IfOk};
 ghost use Rattle.std.specs.Option.{option_map};
+ghost use Rattle.vms_model.specs.Limits.{script_size_limit};
 ghost use Rattle.transcript_model.specs.Script.{lines_of, size_of, IsWithinLimits};
-ghost use Rattle.transcript.specs.Reading.{IsSound, Takes, Tells, Counts, begun_line, pending, script_line, lines_ahead, taken_bytes};
+ghost use Rattle.transcript.specs.Reading.{IsSound, Takes, ReadsNext, Counts, begun_line, pending, script_line, lines_ahead, taken_bytes};
 
 use crate::outside::Source;
 use std::alloc::{AllocError, Global};
@@ -82,7 +83,7 @@ impl LineReader {
         requires sound { IsSound self.old }
         ensures sound { IsSound self.new }
         ensures count { S.faults source.old ≤ S.faults source.new }
-        ensures tells { Tells (taken_bytes self.old) (lines_ahead self.old (S.left source.old)) result self.new (lines_ahead self.new (S.left source.new)) (S.faults source.old) (S.faults source.new) }
+        ensures tells { ReadsNext (taken_bytes self.old) (lines_ahead self.old (S.left source.old)) result self.new (lines_ahead self.new (S.left source.new)) (S.faults source.old) (S.faults source.new) }
         ensures taken { Counts (taken_bytes self.old) result self.new }
         ensures stays { result ≢ Next.Line → lines_ahead self.new (S.left source.new) ≡ lines_ahead self.old (S.left source.old) }
     {
@@ -115,7 +116,7 @@ impl LineReader {
     // The line that is begun is whole.
     fn finish(&mut self, ended: bool)
         requires sound { IsSound self.old }
-        requires room { self.old.taken + self.old.used + (if ended then 1 else 0) ≤ 67108864 }
+        requires room { self.old.taken + self.old.used + (if ended then 1 else 0) ≤ script_size_limit }
         ensures sound { IsSound self.new }
         ensures line { script_line self.new ≡ record { text = begun_line self.old; ended = ended } }
         ensures begun { begun_line self.new ≡ [] }

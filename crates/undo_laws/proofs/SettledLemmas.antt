@@ -32,7 +32,7 @@ use Rattle.image_appends.specs.Settling.{content_from, heads_from}
 use Rattle.image_groups.specs.Groups.{AllDressed, Enters, EntersLeft, outcome_of}
 use Rattle.image_groups.proofs.Left.{enters_outcome_left}
 use Rattle.image_groups.proofs.Outcomes.{enters_outcome}
-use Rattle.directory_model.specs.Files.{AreFiles, StandsIn, file_at, head_at}
+use Rattle.directory_model.specs.Files.{AgreesOnFile, AreFiles, file_at, head_at}
 use Rattle.directory_model.specs.Laws.{carrying, settled_buckets, spelled_entry}
 use Rattle.directory_model.specs.Restoring.{AreLeft, AreRestorable, CanRestore, IsPlaceLeft, IsPlacePrepared, IsPlaceRestorable, StandPrepared}
 use Rattle.directory_model.proofs.Acts.{keeps_files, settled_directory}

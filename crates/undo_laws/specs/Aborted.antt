@@ -1,5 +1,7 @@
 -- A branch of a node is aborted on its volume.
 use Rattle.std.specs.Prelude.{◌≡◌, ℕ, ◌+◌, Bool, List, Option, Some, length, option_map}
+use Rattle.block_disk.specs.Sizes.{content_start}
+use Rattle.vms_model.specs.Limits.{file_limit}
 use Rattle.careful_write.specs.State.{IsEither, Leaves, content}
 use Rattle.vms_base.specs.declared.ids.Serial.{Serial}
 use Rattle.vms_base.specs.declared.ids.Tid.{Tid}
@@ -28,8 +30,8 @@ pub record MayAbort (n : Node) (act : table.Act) (moment : ℕ) (s : Settlement)
   pub told : v.store.current ≡ Some a
   pub holds : Holds v
   pub sound : IsSound n.name n.blocks v.catalog
-  pub long : length v.catalog.heads ≡ 64
-  pub size : length a + 518 ≡ n.blocks
+  pub long : length v.catalog.heads ≡ file_limit
+  pub size : length a + content_start ≡ n.blocks
   pub disk : v.store.disk.size ≡ n.blocks
   pub is : IsAbort n act moment s
   pub log : (acted (Tables act moment) n).durable.log ≡ n.durable.log
@@ -68,5 +70,5 @@ pub record AbortsFail : Type 0 where
 
 -- A content on the way of the undo of an abort, whose branch may be prepared, is one of those that the node leaves that falls in it.
 abbrev pub AbortsLeave : Type 0
-AbortsLeave = (a : List (List ℕ)) (k : Catalog) (n : Node) (key : Key) (reason : Reason) (r : Option LogRecord) (moment : ℕ) → HasVolume a k n → IsSound n.name n.blocks k → length a + 518 ≡ n.blocks → (c : List (List ℕ)) →
+AbortsLeave = (a : List (List ℕ)) (k : Catalog) (n : Node) (key : Key) (reason : Reason) (r : Option LogRecord) (moment : ℕ) → HasVolume a k n → IsSound n.name n.blocks k → length a + content_start ≡ n.blocks → (c : List (List ℕ)) →
     IsOnTheWay key.serial a k.heads n.durable.directory k c → IsEitherOf (fallen (Some (Tables (Settles key Abort reason r) moment)) n) c

@@ -2,6 +2,9 @@
 use Rattle.std.specs.Prelude.{◌≡◌, ℕ, ◌+◌, ◌<◌, ◌≤◌, Bool, List, Option, Some, length}
 use Rattle.block_disk.specs.Blocks.{block_at}
 use Rattle.block_disk.specs.Disk.{DiskState}
+use Rattle.block_disk.specs.Sizes.{content_start}
+use Rattle.vms_model.specs.Limits.{file_limit}
+use Rattle.vms_model.specs.Blocks.{log_start}
 use Rattle.careful_write.specs.State.{EachWhole, Leaves}
 use Rattle.vms_model.specs.Ids.{Id}
 use Rattle.vms_model.specs.Transactions.{Abort}
@@ -12,7 +15,7 @@ use Rattle.volume.specs.Catalogs.{IsSound, TellsCatalog}
 use Rattle.volume.specs.State.{VolumeState}
 use Rattle.directory_model.specs.Restoring.{StandPrepared}
 use Rattle.file_base.specs.declared.head.FileHead.{FileHead}
-use Rattle.directory_model.specs.Files.{Fit, StandsIn, head_at}
+use Rattle.directory_model.specs.Files.{AgreesOnFile, Fit, head_at}
 use Rattle.directory_model.specs.Laws.{spelled_entry}
 use Rattle.image_appends.specs.Settling.{content_from, heads_from}
 use Rattle.image_groups.specs.Groups.{AreToldBy, HaveRoom, outcome_of}
@@ -33,21 +36,21 @@ WaysKeepOthers = (serial : Id) (a : List (List ℕ)) (k : Catalog) (n : Node) �
 
 -- a content on the way of an undo is one that the node leaves: so, where the disk goes down, is that of each image
 abbrev pub UndosLeave : Type 0
-UndosLeave = (serial : Id) (a : List (List ℕ)) (k : Catalog) (n : Node) → LeavesVolume a k n → WaysKeepPrepared serial a k n → IsSound n.name n.blocks k → length a + 518 ≡ n.blocks → (d : DiskState) → Leaves (IsOnTheWay serial a k.heads n.durable.directory k) d → Leaves (λ c. IsLeftBy c n) d
+UndosLeave = (serial : Id) (a : List (List ℕ)) (k : Catalog) (n : Node) → LeavesVolume a k n → WaysKeepPrepared serial a k n → IsSound n.name n.blocks k → length a + content_start ≡ n.blocks → (d : DiskState) → Leaves (IsOnTheWay serial a k.heads n.durable.directory k) d → Leaves (λ c. IsLeftBy c n) d
 
 -- so its disk has what the node leaves that falls meanwhile
 abbrev pub UndosFail : Type 0
-UndosFail = (serial : Id) (a : List (List ℕ)) (k : Catalog) (n : Node) (act : Option Act) → LeavesVolume a k n → WaysKeepPrepared serial a k n → IsSound n.name n.blocks k → length a + 518 ≡ n.blocks → (d : DiskState) → Leaves (IsOnTheWay serial a k.heads n.durable.directory k) d →
+UndosFail = (serial : Id) (a : List (List ℕ)) (k : Catalog) (n : Node) (act : Option Act) → LeavesVolume a k n → WaysKeepPrepared serial a k n → IsSound n.name n.blocks k → length a + content_start ≡ n.blocks → (d : DiskState) → Leaves (IsOnTheWay serial a k.heads n.durable.directory k) d →
     HasDisk (fallen act n) d
 
 -- the journal of a volume in which a branch is undone is that of the node, with the same entries
 abbrev pub UndosKeepJournal : Type 0
-UndosKeepJournal = (a : List (List ℕ)) (k : Catalog) (n : Node) (serial : Id) (v : VolumeState) (left : LeavesVolume a k n) → 584 ≤ k.ru.start → v.catalog ≡ record k { heads = v.catalog.heads } → (u : IsUndone serial a k.heads n.durable.directory v) →
+UndosKeepJournal = (a : List (List ℕ)) (k : Catalog) (n : Node) (serial : Id) (v : VolumeState) (left : LeavesVolume a k n) → log_start ≤ k.ru.start → v.catalog ≡ record k { heads = v.catalog.heads } → (u : IsUndone serial a k.heads n.durable.directory v) →
     (j : HasJournal u.way.now v.catalog n) × (j.entries ≡ left.journal.entries)
 
 -- all that the files of a volume have in one content stands in another
 abbrev pub AgreeOnFiles : Catalog → List (List ℕ) → List (List ℕ) → Type 0
-AgreeOnFiles v b c = (f : ℕ) (h : FileHead) → head_at v.heads f ≡ Some h → StandsIn h b c
+AgreeOnFiles v b c = (f : ℕ) (h : FileHead) → head_at v.heads f ≡ Some h → AgreesOnFile h b c
 
 -- The outcome of a branch is put into the journals of images of each file of a directory that the branch changed: one content of whole blocks and its catalog become
 -- others.
@@ -67,8 +70,8 @@ pub record IsTold (n : Node) (b e : List (List ℕ)) (k t : Catalog) (j : HasJou
   pub same : journal.entries ≡ j.entries
   pub size : length e ≡ length b
   pub names : KeepsNames k.heads t.heads
-  pub long : length t.heads ≡ 64
-  pub front : (i : ℕ) → 65 ≤ i → i + 518 < k.ru.start + k.ru.blocks → block_at e i ≡ block_at b i
+  pub long : length t.heads ≡ file_limit
+  pub front : (i : ℕ) → 65 ≤ i → i + content_start < k.ru.start + k.ru.blocks → block_at e i ≡ block_at b i
   pub tells : TellsCatalog k b → TellsCatalog t e
   pub sound : (node : List ℕ) (size : ℕ) → IsSound node size k → IsSound node size t
 

@@ -1,5 +1,6 @@
 -- What an abort makes of a volume, and what it leaves of one whose disk went down meanwhile.
 use Rattle.std.specs.Prelude.{◌≡◌, ◌⊎◌, ◌≤◌, ◌+◌, ◌-◌, ℕ, Bool, true, false, List, [], ◌∷◌, Option}
+use Rattle.block_disk.specs.Sizes.{greatest_disk_size, least_disk_size}
 use Rattle.careful_write.specs.State.{IsIdle}
 use Rattle.change_set.specs.Files.{free_frames}
 use Rattle.journal_model.specs.Entries.{Entry}
@@ -33,8 +34,8 @@ pub record MayAbort (v : VolumeState) : Type 0 where
   pub holds : Holds v
   pub node : List ℕ
   pub sound : IsSound node v.store.disk.size v.catalog
-  pub least : 4096 ≤ v.store.disk.size
-  pub most : v.store.disk.size ≤ 65536
+  pub least : least_disk_size ≤ v.store.disk.size
+  pub most : v.store.disk.size ≤ greatest_disk_size
   pub frames : 32 ≤ free_frames v.store.pool
   pub ring : IsRing v.catalog.ru v.store.disk
 

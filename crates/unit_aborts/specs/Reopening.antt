@@ -1,6 +1,8 @@
 -- What a restart makes of a volume that a fall left: its units are aborted, one after another.
 use Rattle.std.specs.Prelude.{◌≡◌, ◌≤◌, ◌<◌, ◌^◌, ◌*◌, ◌+◌, ◌-◌, ◌==◌, ◌&&◌, ◌||◌, ◌⊎◌, nat_lt, ℕ, zero, suc, true, Bool, List, [], ◌∷◌, ◌++◌, Option, Some, None, IfSome, length, map, if◌then◌else◌}
 use Rattle.std.specs.List.{All, AllByRecursion}
+use Rattle.vms_model.specs.Limits.{branch_limit, entry_limit, file_limit, moment_ceiling}
+use Rattle.block_disk.specs.Sizes.{greatest_disk_size, least_disk_size}
 use Rattle.careful_write.specs.State.{IsIdle}
 use Rattle.change_set.specs.Files.{free_frames}
 use Rattle.journal_model.specs.Entries.{Entry}
@@ -119,16 +121,16 @@ pub record MayTake (start : ℕ) (us : List OpenUnit) (clock : ℕ) (v : VolumeS
   pub holds : Holds v
   pub node : List ℕ
   pub sound : IsSound node v.store.disk.size v.catalog
-  pub least : 4096 ≤ v.store.disk.size
-  pub most : v.store.disk.size ≤ 65536
+  pub least : least_disk_size ≤ v.store.disk.size
+  pub most : v.store.disk.size ≤ greatest_disk_size
   pub frames : 32 ≤ free_frames v.store.pool
-  pub long : length v.catalog.heads ≡ 64
+  pub long : length v.catalog.heads ≡ file_limit
   pub behind : start ≤ v.catalog.ru.first
   pub ascends : v.catalog.ru.first ≤ v.catalog.ru.end
   pub room : v.catalog.ru.end + 48 * length us ≤ start + ring_size v.catalog.ru
   pub low : v.catalog.ru.end + 48 * length us ≤ 2 ^ 62
-  pub moment : v.catalog.home.greatest_moment.0 + length us ≤ 24000001000066
-  pub clock_bound : clock + length us ≤ 24000001000066
+  pub moment : v.catalog.home.greatest_moment.0 + length us ≤ moment_ceiling
+  pub clock_bound : clock + length us ≤ moment_ceiling
   pub within : AllByRecursion (λ (u : OpenUnit). All (λ p. (start ≤ p) × (p ≤ v.catalog.ru.end)) u.positions) us
   pub positions : AscendWithin v.catalog.ru.first v.catalog.ru.end us
   pub images : AllSettlementsFit (map Some us) v.catalog.heads
@@ -138,8 +140,8 @@ pub record MayTake (start : ℕ) (us : List OpenUnit) (clock : ℕ) (v : VolumeS
 pub record MayReopen (clock : ℕ) (v : VolumeState) : Type 0 where
   pub may : MayAbort v
   pub low : v.catalog.ru.end + 3072 ≤ 2 ^ 62
-  pub moment : v.catalog.home.greatest_moment.0 + 64 ≤ 24000001000066
-  pub clock_bound : clock + 64 ≤ 24000001000066
+  pub moment : v.catalog.home.greatest_moment.0 + branch_limit ≤ moment_ceiling
+  pub clock_bound : clock + branch_limit ≤ moment_ceiling
   pub early : ImagesAreLow 3072 v.catalog.heads
   pub images : AllSettlementsFit [] v.catalog.heads
 
@@ -149,7 +151,7 @@ AreUnits us v = IfSome v.store.current (λ c. (es : List Entry) → IsJournal c 
 
 -- The journal is not in order.
 abbrev pub IsOutOfOrder : VolumeState → Type 0
-IsOutOfOrder v = IfSome v.store.current (λ c. (es : List Entry) → IsJournal c v.catalog.ru es → length es ≤ 87381 → AreInOrder nothing_told (placed v.catalog.ru.first es) → ⊥)
+IsOutOfOrder v = IfSome v.store.current (λ c. (es : List Entry) → IsJournal c v.catalog.ru es → length es ≤ entry_limit → AreInOrder nothing_told (placed v.catalog.ru.first es) → ⊥)
 
 -- nor has it the room that its units will take
 abbrev pub IsTooFull : List UnitTold → VolumeState → Type 0

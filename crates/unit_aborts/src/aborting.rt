@@ -1,6 +1,7 @@
 // A unit that is aborted.
 ghost use Rattle.std.specs.Prelude.{◌≡◌, ◌≤◌, ◌<◌, ◌+◌, ◌*◌, ◌^◌, ℕ, List, Option, Some, OnOk, OnErr, IsSome, IfSome, length};
 ghost use Rattle.std.specs.List.{All};
+ghost use Rattle.vms_model.specs.Limits.{branch_limit, file_limit};
 ghost use Rattle.careful_write.specs.Down.{Counts};
 ghost use Rattle.careful_write.specs.State.{IsIdle};
 ghost use Rattle.unit_journal.specs.Groups.{Grows, GrowsOnce};
@@ -22,7 +23,7 @@ use volume_format::Ending;
 /// How many keys of an undo may be staged beside a settlement in the journals of so many files, with a slot of the log. A key takes up to 17 blocks, an
 /// entry in a file's journals up to 6, and a group has room for 450 beside what settles a branch.
 pub fn keys_beside(files: usize) -> u32
-    requires { files ≤ 64 }
+    requires { files ≤ file_limit }
     ensures few { 17 * result + 6 * files + 1 ≤ 450 }
     ensures most { result ≤ 26 }
 {
@@ -42,7 +43,7 @@ pub fn abort_unit<D: Disk>(
     image: &mut Record,
     entry: &mut EntryBuf,
 ) -> Result<(), Down>
-    requires place { place < 64 }
+    requires place { place < branch_limit }
     requires unit { IsSome (unit_at units.old.places place) }
     requires may { MayAbort volume.old }
     requires low { IfSome (unit_at units.old.places place) (λ u. All (λ p. p ≤ 2 ^ 62) u.positions) }

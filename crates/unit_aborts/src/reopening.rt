@@ -1,5 +1,6 @@
 // Units that a fall left are aborted.
 ghost use Rattle.std.specs.Prelude.{◌≡◌, ◌≤◌, ◌<◌, ◌+◌, ◌-◌, ◌*◌, ◌++◌, ◌∷◌, [], true, false, ℕ, Some, None, OnOk, OnErr, IfOk, IfSome, length, map, vec_capacity};
+ghost use Rattle.vms_model.specs.Limits.{branch_limit};
 ghost use Rattle.careful_write.specs.Down.{Counts};
 ghost use Rattle.careful_write.specs.State.{IsReady};
 ghost use Rattle.journal_store.specs.Rings.{IsRing};
@@ -46,7 +47,7 @@ fn abort_next<D: Disk>(
     entry: &mut EntryBuf,
     out: &mut Vec<AbortedUnit>,
 ) -> Result<(), Down>
-    requires place { place < 64 }
+    requires place { place < branch_limit }
     requires next { IsFirst is_active units.old place }
     requires may { (start : ℕ) × MayTake start (begun units.old) clock.0 volume.old }
     requires places { length out.old.items < vec_capacity out.old }
@@ -131,7 +132,7 @@ fn read_units<D: Disk>(
 // Whether the journal has room for the settlements of so many units.
 fn has_room<D: Disk>(volume: &Volume<D>, count: usize) -> bool
     requires ring { IsRing volume.now.catalog.ru volume.now.store.disk }
-    requires few { count ≤ 64 }
+    requires few { count ≤ branch_limit }
     ensures yes { result ≡ true → volume.now.catalog.ru.end - volume.now.catalog.ru.first + 48 * count ≤ ring_size volume.now.catalog.ru }
     ensures no { result ≡ false → ring_size volume.now.catalog.ru < volume.now.catalog.ru.end - volume.now.catalog.ru.first + 48 * count }
 {
@@ -156,7 +157,7 @@ pub fn reopen_units<D: Disk>(
     out: &mut Vec<AbortedUnit>,
 ) -> Result<(), Down>
     requires may { MayReopen clock.0 volume.old }
-    requires places { 64 ≤ vec_capacity out.old }
+    requires places { branch_limit ≤ vec_capacity out.old }
     requires voted { length voted.old.items + length rest.old.items ≤ vec_capacity voted.old }
     ensures reopens { OnOk result (Reopens clock.0 volume.old volume.new out.new.items (begun units.new)) }
     ensures may { OnOk result (MayAbort volume.new) }
@@ -164,11 +165,11 @@ pub fn reopen_units<D: Disk>(
     ensures images { OnOk result (AllSettlementsFit (map Some (begun units.new)) volume.new.catalog.heads) }
     ensures ascends { OnOk result (AscendWithin volume.new.catalog.ru.first volume.new.catalog.ru.end (begun units.new)) }
     ensures fails { OnErr result (ReopensNot clock.0 volume.old volume.new out.new.items) }
-    ensures grows { GrowsBy 64 clock.0 volume.old volume.new }
+    ensures grows { GrowsBy branch_limit clock.0 volume.old volume.new }
     ensures told { AreTold volume.new out.new.items }
     ensures heads { OnOk result (length volume.new.catalog.heads ≡ length volume.old.catalog.heads) }
-    ensures places { 64 ≤ vec_capacity out.new }
-    ensures few { length out.new.items ≤ 64 }
+    ensures places { branch_limit ≤ vec_capacity out.new }
+    ensures few { length out.new.items ≤ branch_limit }
     ensures voted { OnOk result (IsVoted volume.old.store.current volume.old.catalog.ru (map log_record_of rest.old.items) (map log_record_of rest.new.items) (map log_record_of voted.old.items) (map log_record_of voted.new.items)) }
     ensures count { length voted.new.items + length rest.new.items ≡ length voted.old.items + length rest.old.items }
     ensures voted_room { vec_capacity voted.old ≤ vec_capacity voted.new }

@@ -2,6 +2,7 @@
 use Rattle.std.specs.Prelude.{◌≡◌, ◌≤◌, ◌<◌, ◌⊎◌, ℕ, zero, suc, ◌+◌, ◌-◌, ◌&&◌, ◌++◌, Bool, true, false, List, [], ◌∷◌, Option, Some, None, MatchOption, IsSomeAnd, length, option_map, slice_set, nat_le, if◌then◌else◌}
 use Rattle.std.specs.List.{AllByRecursion, flat_map}
 use Rattle.block_disk.specs.Disk.{DiskState}
+use Rattle.block_disk.specs.Sizes.{content_start}
 use Rattle.careful_write.specs.Reads.{SameButReads}
 use Rattle.careful_write.specs.State.{IsReady, Leaves, content}
 use Rattle.careful_write.specs.Steps.{Quiet}
@@ -90,7 +91,7 @@ begins_at p (e ∷ es) = p ∷ begins_at (p + length (spelling e)) es
 
 -- the blocks of a file lie beside a ring
 abbrev pub LiesBeside : FileHead → Span → Type 0
-LiesBeside h s = (n : ℕ) → in_extent h n ≡ true → (n < s.start - 518) ⊎ (s.start - 518 + s.blocks ≤ n)
+LiesBeside h s = (n : ℕ) → in_extent h n ≡ true → (n < s.start - content_start) ⊎ (s.start - content_start + s.blocks ≤ n)
 
 -- A content has other bytes behind a journal's end, and nothing else is other: no block but those of its ring, and the journal is the same list of entries.
 pub record IsBehind (s : Span) (old new : List (List ℕ)) : Type 0 where

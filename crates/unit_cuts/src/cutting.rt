@@ -1,8 +1,11 @@
 // Truncations for units, and for none.
 ghost use Rattle.std.specs.Prelude.{◌≡◌, ◌⊎◌, ◌≤◌, ◌+◌, ◌^◌, true, false, Some, IfErr, IfOk, IfSome, OnOk, OnErr, length};
+ghost use Rattle.vms_model.specs.Limits.{change_limit, file_limit};
+ghost use Rattle.block_disk.specs.Sizes.{greatest_disk_size, least_disk_size};
 ghost use Rattle.careful_write.specs.Down.{Counts};
 ghost use Rattle.careful_write.specs.Reads.{SameButReads};
 ghost use Rattle.careful_write.specs.State.{IsIdle, IsReady, Leaves, content};
+ghost use Rattle.careful_write.specs.Sizes.{staged_limit};
 ghost use Rattle.change_set.specs.Files.{IsPlaced, free_frames};
 ghost use Rattle.change_set.specs.Maps.{empty_map};
 ghost use Rattle.file_base.specs.declared.head.Organization.TheVariants as organization;
@@ -55,7 +58,7 @@ fn enter_befores<D: Disk>(
     requires beside { cut.now.head.marks.bi ≡ true → LiesBeside cut.now.head cut.now.head.bi }
     requires frames { 32 ≤ free_frames volume.old.store.pool }
     requires sequential { cut.now.head.organization ≡ organization.Sequential }
-    requires many { removed_from cut.now.head.count cut.now.from ≤ 1024 }
+    requires many { removed_from cut.now.head.count cut.now.from ≤ change_limit }
     requires places { AreBegun cut.now.head volume.old room.old.places }
     requires idle { IsIdle volume.old.store }
     requires fit { cut.now.head.marks.bi ≡ true → Fits size cut.now.head.bi volume.old.store.disk }
@@ -95,7 +98,7 @@ fn enter_afters<D: Disk>(
     requires beside { cut.now.head.marks.ai ≡ true → LiesBeside cut.now.head cut.now.head.ai }
     requires frames { 32 ≤ free_frames volume.old.store.pool }
     requires sequential { cut.now.head.organization ≡ organization.Sequential }
-    requires many { removed_from cut.now.head.count cut.now.from ≤ 1024 }
+    requires many { removed_from cut.now.head.count cut.now.from ≤ change_limit }
     requires places { AreBegun cut.now.head volume.old room.old.places }
     requires idle { IsIdle volume.old.store }
     requires fit { cut.now.head.marks.ai ≡ true → Fits (entry_sizes empty_map (keys_cut cut.now.head cut.now.from)) cut.now.head.ai volume.old.store.disk }
@@ -137,7 +140,7 @@ fn enter_images<D: Disk>(
     requires beside { ImagesLieBeside cut.now.head }
     requires frames { 32 ≤ free_frames volume.old.store.pool }
     requires sequential { cut.now.head.organization ≡ organization.Sequential }
-    requires many { removed_from cut.now.head.count cut.now.from ≤ 1024 }
+    requires many { removed_from cut.now.head.count cut.now.from ≤ change_limit }
     requires places { AreBegun cut.now.head volume.old room.old.places }
     requires idle { IsIdle volume.old.store }
     requires fit { ImagesFit cut.now.head (entry_sizes empty_map (keys_cut cut.now.head cut.now.from)) size volume.old.store.disk }
@@ -169,12 +172,12 @@ fn cut_file<D: Disk>(
     place: Place,
 ) -> Result<(), Down>
     requires there { head_at volume.old.catalog.heads cut.now.file ≡ Some cut.now.head }
-    requires whole { length volume.old.catalog.heads ≡ 64 }
+    requires whole { length volume.old.catalog.heads ≡ file_limit }
     requires sound { IsSound volume.old.catalog.home.node volume.old.store.disk.size volume.old.catalog }
-    requires least { 4096 ≤ volume.old.store.disk.size }
-    requires most { volume.old.store.disk.size ≤ 65536 }
+    requires least { least_disk_size ≤ volume.old.store.disk.size }
+    requires most { volume.old.store.disk.size ≤ greatest_disk_size }
     requires frames { 32 ≤ free_frames volume.old.store.pool }
-    requires staged { length volume.old.store.touched ≤ 64 }
+    requires staged { length volume.old.store.touched ≤ staged_limit }
     requires sequential { cut.now.head.organization ≡ organization.Sequential }
     requires some { 1 ≤ removed_from cut.now.head.count cut.now.from }
     requires begins { IfSome volume.old.store.current (λ a. IsFile cut.now.head → IsLaidOut cut.now.head a → Begins cut.now.head a (Some (Number cut.now.from)) place) }
@@ -207,10 +210,10 @@ fn cut_behind<D: Disk>(
     place: Place,
 ) -> Result<(), Down>
     requires there { head_at volume.old.catalog.heads cut.now.file ≡ Some cut.now.head }
-    requires whole { length volume.old.catalog.heads ≡ 64 }
+    requires whole { length volume.old.catalog.heads ≡ file_limit }
     requires sound { IsSound volume.old.catalog.home.node volume.old.store.disk.size volume.old.catalog }
-    requires least { 4096 ≤ volume.old.store.disk.size }
-    requires most { volume.old.store.disk.size ≤ 65536 }
+    requires least { least_disk_size ≤ volume.old.store.disk.size }
+    requires most { volume.old.store.disk.size ≤ greatest_disk_size }
     requires frames { 32 ≤ free_frames volume.old.store.pool }
     requires idle { IsIdle volume.old.store }
     requires holds { Holds volume.old }
@@ -250,15 +253,15 @@ pub fn cut_records<D: Disk>(
     room: &mut CutRoom,
 ) -> Result<(), Down>
     requires there { head_at volume.old.catalog.heads cut.now.file ≡ Some cut.now.head }
-    requires whole { length volume.old.catalog.heads ≡ 64 }
+    requires whole { length volume.old.catalog.heads ≡ file_limit }
     requires sound { IsSound volume.old.catalog.home.node volume.old.store.disk.size volume.old.catalog }
-    requires least { 4096 ≤ volume.old.store.disk.size }
-    requires most { volume.old.store.disk.size ≤ 65536 }
+    requires least { least_disk_size ≤ volume.old.store.disk.size }
+    requires most { volume.old.store.disk.size ≤ greatest_disk_size }
     requires frames { 32 ≤ free_frames volume.old.store.pool }
     requires idle { IsIdle volume.old.store }
     requires holds { Holds volume.old }
     requires sequential { cut.now.head.organization ≡ organization.Sequential }
-    requires many { removed_from cut.now.head.count cut.now.from ≤ 1024 }
+    requires many { removed_from cut.now.head.count cut.now.from ≤ change_limit }
     requires some { 1 ≤ removed_from cut.now.head.count cut.now.from }
     requires size { OfRecords cut.now.head volume.old (λ m. size ≡ entry_sizes m (keys_cut cut.now.head cut.now.from)) }
     requires fits { HasRoom size volume.old.catalog.ru volume.old.store.disk }
@@ -304,10 +307,10 @@ fn commit_behind<D: Disk>(
     entry: &mut EntryBuf,
 ) -> Result<(), Down>
     requires there { head_at volume.old.catalog.heads cut.now.file ≡ Some cut.now.head }
-    requires whole { length volume.old.catalog.heads ≡ 64 }
+    requires whole { length volume.old.catalog.heads ≡ file_limit }
     requires sound { IsSound volume.old.catalog.home.node volume.old.store.disk.size volume.old.catalog }
-    requires least { 4096 ≤ volume.old.store.disk.size }
-    requires most { volume.old.store.disk.size ≤ 65536 }
+    requires least { least_disk_size ≤ volume.old.store.disk.size }
+    requires most { volume.old.store.disk.size ≤ greatest_disk_size }
     requires frames { 32 ≤ free_frames volume.old.store.pool }
     requires idle { IsIdle volume.old.store }
     requires holds { Holds volume.old }
@@ -359,15 +362,15 @@ pub fn commit_cut<D: Disk>(
     room: &mut CutRoom,
 ) -> Result<(), Down>
     requires there { head_at volume.old.catalog.heads cut.now.file ≡ Some cut.now.head }
-    requires whole { length volume.old.catalog.heads ≡ 64 }
+    requires whole { length volume.old.catalog.heads ≡ file_limit }
     requires sound { IsSound volume.old.catalog.home.node volume.old.store.disk.size volume.old.catalog }
-    requires least { 4096 ≤ volume.old.store.disk.size }
-    requires most { volume.old.store.disk.size ≤ 65536 }
+    requires least { least_disk_size ≤ volume.old.store.disk.size }
+    requires most { volume.old.store.disk.size ≤ greatest_disk_size }
     requires frames { 32 ≤ free_frames volume.old.store.pool }
     requires idle { IsIdle volume.old.store }
     requires holds { Holds volume.old }
     requires sequential { cut.now.head.organization ≡ organization.Sequential }
-    requires many { removed_from cut.now.head.count cut.now.from ≤ 1024 }
+    requires many { removed_from cut.now.head.count cut.now.from ≤ change_limit }
     requires some { 1 ≤ removed_from cut.now.head.count cut.now.from }
     requires size { OfRecords cut.now.head volume.old (λ m. size ≡ entry_sizes m (keys_cut cut.now.head cut.now.from)) }
     requires images { ImagesFit cut.now.head (entry_sizes empty_map (keys_cut cut.now.head cut.now.from) + 48) (size + 48) volume.old.store.disk }

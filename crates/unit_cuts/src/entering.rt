@@ -1,5 +1,6 @@
 // The entries of the records that a truncation takes, behind the end of one journal.
 ghost use Rattle.std.specs.Prelude.{◌≡◌, ◌⊎◌, ◌≤◌, ◌<◌, ◌+◌, ◌-◌, ◌*◌, ◌%◌, ◌^◌, [], List, Option, None, Some, true, IfOk, IfErr, OnOk, OnErr, length, if◌then◌else◌};
+ghost use Rattle.vms_model.specs.Limits.{change_limit};
 ghost use Rattle.careful_write.specs.Down.{Counts};
 ghost use Rattle.careful_write.specs.State.{IsEither, IsIdle, IsReady, Leaves, content};
 ghost use Rattle.change_set.specs.Files.{IsPlaced, free_frames};
@@ -45,7 +46,7 @@ fn append_within<D: Disk>(
     requires order { span.old.end ≤ limit }
     requires within { limit - span.old.first ≤ ring_size span.old }
     requires staged { length volume.old.store.touched ≤ 480 }
-    requires few { length room.old.positions < 1024 }
+    requires few { length room.old.positions < change_limit }
     ensures enters { OnOk result (EntersIfFits entry.now limit span.old span.new room.old.positions room.new.positions volume.old volume.new) }
     ensures places { room.new.places ≡ room.old.places }
     ensures down { IfErr result (λ down. FellIn down volume.old volume.new) }
@@ -109,7 +110,7 @@ fn enter_record<D: Disk>(
     requires order { span.old.end ≤ limit }
     requires within { limit - span.old.first ≤ ring_size span.old }
     requires staged { length volume.old.store.touched ≤ 480 }
-    requires few { length room.old.positions < 1024 }
+    requires few { length room.old.positions < change_limit }
     ensures enters { OnOk result ((e : Entry) × IsEntry e × OfRecords cut.now.head volume.old (λ m. e ≡ change_entry (tid_of branch.now.tid) (serial_of branch.now.serial) cut.now.file (Number (cut.now.head.count - behind)) (told_map has_image m (Number (cut.now.head.count - behind))))
         × EntersIfFits (spelling e) limit span.old span.new room.old.positions room.new.positions volume.old volume.new) }
     ensures places { room.new.places ≡ room.old.places }
@@ -165,7 +166,7 @@ fn enter_records<D: Disk>(
     requires beside { LiesBeside cut.now.head base.now }
     requires frames { 32 ≤ free_frames volume.old.store.pool }
     requires sequential { cut.now.head.organization ≡ organization.Sequential }
-    requires many { removed_from cut.now.head.count cut.now.from ≤ 1024 }
+    requires many { removed_from cut.now.head.count cut.now.from ≤ change_limit }
     requires places { AreBegun cut.now.head volume.old room.old.places }
     requires idle { IsIdle volume.old.store }
     requires ring { IsRing base.now volume.old.store.disk }
@@ -220,7 +221,7 @@ pub(crate) fn enter_behind<D: Disk>(
     requires beside { kept ≡ true → LiesBeside cut.now.head base.now }
     requires frames { 32 ≤ free_frames volume.old.store.pool }
     requires sequential { cut.now.head.organization ≡ organization.Sequential }
-    requires many { removed_from cut.now.head.count cut.now.from ≤ 1024 }
+    requires many { removed_from cut.now.head.count cut.now.from ≤ change_limit }
     requires places { AreBegun cut.now.head volume.old room.old.places }
     requires idle { IsIdle volume.old.store }
     requires room { kept ≡ true → HasRoom size base.now volume.old.store.disk }

@@ -1,6 +1,7 @@
 // How many bytes the entries of a truncation take, and where walks to its records begin.
 ghost use Rattle.std.specs.List.{AllByRecursion};
 ghost use Rattle.std.specs.Prelude.{◌≡◌, ◌⊎◌, ◌≤◌, ◌<◌, ◌+◌, ◌*◌, ◌++◌, ◌∷◌, [], ℕ, List, Option, None, Some, IfOk, IfErr, IfSome, OnOk, length};
+ghost use Rattle.vms_model.specs.Limits.{change_limit};
 ghost use Rattle.change_set.specs.Files.{IsPlaced, first_place, free_frames};
 ghost use Rattle.change_set.specs.declared.walk.Place.{Place as PlaceSaid};
 ghost use Rattle.change_set.specs.Maps.{empty_map};
@@ -37,13 +38,14 @@ pub struct CutRoom {
 
 impl Model for CutRoom {
     ghost use Rattle.std.specs.Prelude.{◌≡◌, ◌≤◌, vec_capacity};
+    ghost use Rattle.vms_model.specs.Limits.{change_limit};
     ghost use Rattle.unit_cuts.specs.Truncating.{CutRoomState};
 
     ghost Value = { CutRoomState };
 
     ghost view = { λ r. record { positions = r.positions.items; places = r.places.items } };
 
-    ghost invariant = { λ r. (1024 ≤ vec_capacity r.positions) × (1024 ≤ vec_capacity r.places) };
+    ghost invariant = { λ r. (change_limit ≤ vec_capacity r.positions) × (change_limit ≤ vec_capacity r.places) };
 }
 
 impl CutRoom {
@@ -106,7 +108,7 @@ impl CutRoom {
 
     // Keeps a place for a walk that begins later.
     fn keep(&mut self, place: Place)
-        requires { length self.old.places < 1024 }
+        requires { length self.old.places < change_limit }
         ensures { self.new ≡ record self.old { places = self.old.places ++ place ∷ [] } }
     {
         self.places.push_reserved(place);
@@ -114,7 +116,7 @@ impl CutRoom {
 
     /// Notes where an entry begins.
     pub fn note(&mut self, position: u64)
-        requires { length self.old.positions < 1024 }
+        requires { length self.old.positions < change_limit }
         ensures { self.new ≡ record self.old { positions = self.old.positions ++ position ∷ [] } }
     {
         self.positions.push_reserved(position);
@@ -146,7 +148,7 @@ fn measure_record<D: Disk>(
     requires frames { 32 ≤ free_frames volume.old.store.pool }
     requires sequential { cut.now.head.organization ≡ organization.Sequential }
     requires begins { IfSome volume.old.store.current (λ content. IsFile cut.now.head → IsLaidOut cut.now.head content → (key : Option model.Key) → Begins cut.now.head content key place.old) }
-    requires few { length room.old.places < 1024 }
+    requires few { length room.old.places < change_limit }
     requires places { AreBegun cut.now.head volume.old room.old.places }
     ensures size { IfOk result (λ size. OfRecords cut.now.head volume.old (λ m. size ≡ size_said (Number n) (m (Number n)))) }
     ensures most { IfOk result (λ size. size ≤ 8272) }
@@ -176,9 +178,9 @@ pub fn measure<D: Disk>(
     requires placed { IsPlaced cut.now.head volume.old.store.disk }
     requires frames { 32 ≤ free_frames volume.old.store.pool }
     requires sequential { cut.now.head.organization ≡ organization.Sequential }
-    requires few { removed_from cut.now.head.count cut.now.from ≤ 1024 }
+    requires few { removed_from cut.now.head.count cut.now.from ≤ change_limit }
     ensures size { IfOk result (λ size. OfRecords cut.now.head volume.old (λ m. size ≡ entry_sizes m (keys_cut cut.now.head cut.now.from))) }
-    ensures most { IfOk result (λ size. size ≤ 8272 * 1024) }
+    ensures most { IfOk result (λ size. size ≤ 8272 * change_limit) }
     ensures places { OnOk result (AreBegun cut.now.head volume.old room.new.places) }
     ensures positions { room.new.positions ≡ [] }
     ensures same { OnOk result (SameVolume volume.old volume.new) }
@@ -198,9 +200,9 @@ pub fn measure<D: Disk>(
 
 /// How many bytes the entries of a truncation take that tell that its records are gone.
 pub fn gone_size(cut: &Cut) -> u64
-    requires few { removed_from cut.now.head.count cut.now.from ≤ 1024 }
+    requires few { removed_from cut.now.head.count cut.now.from ≤ change_limit }
     ensures size { result ≡ entry_sizes empty_map (keys_cut cut.now.head cut.now.from) }
-    ensures most { result ≤ 8272 * 1024 }
+    ensures most { result ≤ 8272 * change_limit }
 {
     let mut size = 0;
     for i in 0..cut.removed() {

@@ -1,5 +1,7 @@
 // The settlement of a change that is a transaction of its own, in the journals of images of its file.
 ghost use Rattle.std.specs.Prelude.{◌≡◌, ◌≤◌, ◌<◌, ◌+◌, Some, IfErr, OnOk, length};
+ghost use Rattle.block_disk.specs.Sizes.{least_disk_size};
+ghost use Rattle.vms_model.specs.Limits.{file_limit};
 ghost use Rattle.careful_write.specs.Reads.{SameButReads};
 ghost use Rattle.careful_write.specs.State.{IsReady};
 ghost use Rattle.journal_model.specs.Entries.{IsEntry};
@@ -40,8 +42,8 @@ pub fn settle_own<D: Disk>(
     moment: Moment,
     entry: &mut EntryBuf,
 ) -> Result<(), Down>
-    requires number { file < 64 }
-    requires least { 4096 ≤ volume.old.store.disk.size }
+    requires number { file < file_limit }
+    requires least { least_disk_size ≤ volume.old.store.disk.size }
     requires afters { FileHasRoom sides.After 48 file volume.old.catalog.heads volume.old.store.disk }
     requires befores { FileHasRoom sides.Before 48 file volume.old.catalog.heads volume.old.store.disk }
     requires staged { length volume.old.store.touched ≤ 470 }

@@ -8,7 +8,7 @@ use Rattle.file_base.specs.declared.head.Span.{Span}
 use Rattle.vms_model.specs.Ids.{Id}
 use Rattle.records_model.specs.History.{same_id}
 use Rattle.journal_model.specs.Entries.{Entry}
-use Rattle.ru_journal.specs.Told.{Told, UnitTold, file_bit, find_unit, first_told, is_out_of_order, more_told, unit_refuses, units_after, with_unit, without_unit}
+use Rattle.ru_journal.specs.Told.{JournalScan, UnitTold, file_bit, find_unit, first_told, is_out_of_order, more_told, unit_refuses, units_after, with_unit, without_unit}
 use Rattle.unit_laws.proofs.LiveLemmas.{id_is, id_itself, turned}
 use Rattle.unit_table.specs.Units.{Ascend, OpenUnit, first_of, first_that, is_of, new_unit, with_first, with_position, without_first}
 use Rattle.unit_entries.specs.Opening.{AreAlike, AscendWithin, BeginWithin, Differ, IsAlike, more_open, opened_after}
@@ -250,7 +250,7 @@ module _ (p : ℕ) (e : Entry) (n : ℕ) (kinds : (e.kind == 1) ≡ false → (e
       (record { tid = refl; serial = refl; prepared = refl; changes = refl; first = λ some. refl; some = omega arith })
 
 -- so after one entry more
-module _ (p : ℕ) (e : Entry) (t : Told) (ws : List OpenUnit) (kinds : (e.kind == 1) ≡ false → (e.kind == 3) ≡ false → (e.kind == 2) ≡ true) (alike : AreAlike t.units ws) (may : is_out_of_order e t ≡ false) where
+module _ (p : ℕ) (e : Entry) (t : JournalScan) (ws : List OpenUnit) (kinds : (e.kind == 1) ≡ false → (e.kind == 3) ≡ false → (e.kind == 2) ≡ true) (alike : AreAlike t.units ws) (may : is_out_of_order e t ≡ false) where
   unsettled : list_any (same_id e.serial) t.settled ≡ false
   unsettled = (or_parts _ _ may).0
 
@@ -426,7 +426,7 @@ module _ (old new : Id → List ℕ) (p : ℕ) (e : Entry) (on : (x : Id) → ne
       go false own here rest = (all.0 ∙ sym (stays u.serial (not_its u.serial own)), rest here)
 
   -- what the units after it are
-  module _ (t : Told) (ws : List OpenUnit) (found : Found old ws) (differ : Differ ws) (fresh : Fresh old t.settled ws) (off : list_any (same_id e.serial) t.settled ≡ false) where
+  module _ (t : JournalScan) (ws : List OpenUnit) (found : Found old ws) (differ : Differ ws) (fresh : Fresh old t.settled ws) (off : list_any (same_id e.serial) t.settled ≡ false) where
     abbrev After : List OpenUnit → List Id → Type 0
     After vs settled = Found new vs × Differ vs × Fresh new settled vs
 

@@ -12,7 +12,7 @@ use Rattle.journal_format.specs.declared.head.EntryHead.{EntryHead}
 use Rattle.journal_store.specs.Reading.{Stands, ReadsAt}
 use Rattle.journal_store.proofs.EntriesAt.{stands_in, length-stream}
 use Rattle.records_model.specs.History.{same_id}
-use Rattle.ru_journal.specs.Told.{Told, after, is_out_of_order, nothing_told, told_by, told_onto}
+use Rattle.ru_journal.specs.Told.{JournalScan, after, is_out_of_order, nothing_told, told_by, told_onto}
 use Rattle.std.specs.List.{AllByRecursion, list_any}
 use Rattle.std.proofs.lemmas.Bool.{or_parts}
 use Rattle.unit_table.specs.Units.{OpenUnit, first_that, is_of}
@@ -34,7 +34,7 @@ placed_append p (e ∷ es) fs =
     let same : p + length (spelling e) + length (flat_map spelling es) ≡ p + length (flat_map spelling (e ∷ es)) = omega (arith, size) in
     ap (λ (xs : List (ℕ × Entry)). (p, e) ∷ xs) (placed_append (p + length (spelling e)) es fs ∙ ap (λ (q : ℕ). placed (p + length (spelling e)) es ++ placed q fs) same)
 
-told_append : (t : Told) (xs ys : List (ℕ × Entry)) → told_onto t (xs ++ ys) ≡ told_onto (told_onto t xs) ys
+told_append : (t : JournalScan) (xs ys : List (ℕ × Entry)) → told_onto t (xs ++ ys) ≡ told_onto (told_onto t xs) ys
 told_append t [] ys = refl
 told_append t (x ∷ xs) ys = told_append (after x.0 x.1 t) xs ys
 
@@ -103,7 +103,7 @@ module _ (c : List (List ℕ)) (s : Span) (es : List Entry) (journal : IsJournal
   pub nothing_read : HasRead c s es s.first nothing_told
   nothing_read = record { front = []; read = begins_read; told = refl; count = refl; order = λ order. order }
 
-  pub has_read_on : (position : ℕ) (t : Told) (r : HasRead c s es position t) (e : Entry) (rest : List Entry) → r.read.back ≡ e ∷ rest → HasRead c s es (position + length (spelling e)) (after position e t)
+  pub has_read_on : (position : ℕ) (t : JournalScan) (r : HasRead c s es position t) (e : Entry) (rest : List Entry) → r.read.back ≡ e ∷ rest → HasRead c s es (position + length (spelling e)) (after position e t)
   has_read_on position t r e rest is = record {
     front = r.front ++ e ∷ [];
     read = read_on r.front position r.read e rest is;
@@ -139,14 +139,14 @@ module _ (c : List (List ℕ)) (s : Span) (es : List Entry) (journal : IsJournal
       let n = next_entry front position before r in
       none n.0 (entry_is front position r n.0 n.1 n.2) (entry_stands front position r n.0 n.1 n.2)
 
-  pub read_more : (position : ℕ) (t new : Told) (h : EntryHead) (next : ℕ) (image : List ℕ) → position < s.end → HasRead c s es position t → Stands s position h next image c → new ≡ after position (entry_of h []) t → HasRead c s es next new
+  pub read_more : (position : ℕ) (t new : JournalScan) (h : EntryHead) (next : ℕ) (image : List ℕ) → position < s.end → HasRead c s es position t → Stands s position h next image c → new ≡ after position (entry_of h []) t → HasRead c s es next new
   read_more position t new h next image before r stands taken =
       let n = next_is r.front position r.read before h next image stands in
       let read = has_read_on position t r (entry_of h image) n.0 n.1 in
       subst (λ (p : ℕ). HasRead c s es p new) (sym stands.behind) (subst (HasRead c s es (position + length (spelling (entry_of h image)))) (sym taken) read)
 
   -- where all are in order, the next may be taken
-  pub may_take : (position : ℕ) (t : Told) (h : EntryHead) (next : ℕ) (image : List ℕ) → position < s.end → HasRead c s es position t → Stands s position h next image c → length es ≤ 87381 → AreInOrder nothing_told (placed s.first es)
+  pub may_take : (position : ℕ) (t : JournalScan) (h : EntryHead) (next : ℕ) (image : List ℕ) → position < s.end → HasRead c s es position t → Stands s position h next image c → length es ≤ 87381 → AreInOrder nothing_told (placed s.first es)
       → (t.entries < 87381) × (h.file < 64) × (is_out_of_order (entry_of h []) t ≡ false)
   may_take position t h next image before r stands few order =
       let n = next_is r.front position r.read before h next image stands in
@@ -156,7 +156,7 @@ module _ (c : List (List ℕ)) (s : Span) (es : List Entry) (journal : IsJournal
       let count = r.count in
       (omega (arith, few, all, count), left.1, left.0)
 
-  pub told_all : (position : ℕ) (t : Told) → HasRead c s es position t → s.end ≤ position → t ≡ told_by (placed s.first es)
+  pub told_all : (position : ℕ) (t : JournalScan) → HasRead c s es position t → s.end ≤ position → t ≡ told_by (placed s.first es)
   told_all position t r end = r.told ∙ ap (λ (xs : List Entry). told_by (placed s.first xs)) (all_read r.front position r.read end)
 
   -- The positions of branches' changes.
@@ -178,7 +178,7 @@ module _ (c : List (List ℕ)) (s : Span) (es : List Entry) (journal : IsJournal
   pub nothing_opened : HasOpened s es s.first nothing_told []
   nothing_opened = record { front = []; read = begins_read; found = tt; differ = tt; fresh = λ x none off. refl }
 
-  pub opened_more : (position : ℕ) (t new : Told) (ws vs : List OpenUnit) (h : EntryHead) (next : ℕ) (image : List ℕ) → position < s.end → HasOpened s es position t ws → Stands s position h next image c →
+  pub opened_more : (position : ℕ) (t new : JournalScan) (ws vs : List OpenUnit) (h : EntryHead) (next : ℕ) (image : List ℕ) → position < s.end → HasOpened s es position t ws → Stands s position h next image c →
       is_out_of_order (entry_of h []) t ≡ false → new ≡ after position (entry_of h []) t → vs ≡ opened_after position (entry_of h []) ws → HasOpened s es next new vs
   opened_more position t new ws vs h next image before r stands may taken opened =
       let n = next_is r.front position r.read before h next image stands in
@@ -189,8 +189,8 @@ module _ (c : List (List ℕ)) (s : Span) (es : List Entry) (journal : IsJournal
         read = read_on r.front position r.read e n.0 n.1;
         found = subst (AreChangesIn (placed s.first (r.front ++ e ∷ []))) (sym opened) after_.0;
         differ = subst Differ (sym opened) after_.1;
-        fresh = λ x none off. after_.2 x (ap (first_that (is_of x)) (sym opened) ∙ none) (ap (λ (u : Told). list_any (same_id x) u.settled) (sym taken) ∙ off);
+        fresh = λ x none off. after_.2 x (ap (first_that (is_of x)) (sym opened) ∙ none) (ap (λ (u : JournalScan). list_any (same_id x) u.settled) (sym taken) ∙ off);
       }
 
-  pub opened_all : (position : ℕ) (t : Told) (ws : List OpenUnit) → HasOpened s es position t ws → s.end ≤ position → AreChangesIn (placed s.first es) ws
+  pub opened_all : (position : ℕ) (t : JournalScan) (ws : List OpenUnit) → HasOpened s es position t ws → s.end ≤ position → AreChangesIn (placed s.first es) ws
   opened_all position t ws r end = subst (λ (xs : List Entry). AreChangesIn (placed s.first xs) ws) (all_read r.front position r.read end) r.found

@@ -5,7 +5,7 @@ use Rattle.file_base.specs.declared.head.Span.{Span}
 use Rattle.vms_model.specs.Ids.{Id}
 use Rattle.records_model.specs.History.{same_id}
 use Rattle.journal_model.specs.Entries.{Entry}
-use Rattle.ru_journal.specs.Told.{Told, UnitTold}
+use Rattle.ru_journal.specs.Told.{JournalScan, UnitTold}
 use Rattle.unit_table.specs.Units.{Ascend, OpenUnit, first_of, first_that, is_of, new_unit, no_files, prepared_unit, with_first, with_position, without_first}
 use Rattle.volume.specs.State.{VolumeState}
 use Rattle.unit_entries.specs.Collecting.{AreChangesAt}
@@ -55,7 +55,7 @@ abbrev pub AreChangesIn : List (ℕ × Entry) → List OpenUnit → Type 0
 AreChangesIn es ws = AllByRecursion (λ (w : OpenUnit). w.positions ≡ positions_of w.serial es) ws
 
 -- up to this position the entries of a journal left these units
-pub record HasOpened (s : Span) (es : List Entry) (position : ℕ) (t : Told) (ws : List OpenUnit) : Type 0 where
+pub record HasOpened (s : Span) (es : List Entry) (position : ℕ) (t : JournalScan) (ws : List OpenUnit) : Type 0 where
   pub front : List Entry
   pub read : AreRead s es front position
   pub found : AreChangesIn (placed s.first front) ws

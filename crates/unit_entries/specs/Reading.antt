@@ -1,11 +1,12 @@
 -- Entries of a journal with the positions at which they begin, and those of one branch.
 use Rattle.std.specs.Prelude.{◌≡◌, ℕ, ◌+◌, ◌<◌, ◌==◌, ◌&&◌, Bool, false, List, [], ◌∷◌, ◌++◌, length, map, if◌then◌else◌}
 use Rattle.std.specs.List.{flat_map}
+use Rattle.vms_model.specs.Limits.{file_limit}
 use Rattle.file_base.specs.declared.head.Span.{Span}
 use Rattle.vms_model.specs.Ids.{Id}
 use Rattle.records_model.specs.History.{same_id}
 use Rattle.journal_model.specs.Entries.{Entry, spelling}
-use Rattle.ru_journal.specs.Told.{Told, after, is_out_of_order, nothing_told, told_by}
+use Rattle.ru_journal.specs.Told.{JournalScan, after, is_out_of_order, nothing_told, told_by}
 
 -- each entry with its position, of which the first has this one
 abbrev pub placed : ℕ → List Entry → List (ℕ × Entry)
@@ -13,9 +14,9 @@ placed p [] = []
 placed p (e ∷ es) = (p, e) ∷ placed (p + length (spelling e)) es
 
 -- each may stand behind those before it, and is of a file that may be
-abbrev pub AreInOrder : Told → List (ℕ × Entry) → Type 0
+abbrev pub AreInOrder : JournalScan → List (ℕ × Entry) → Type 0
 AreInOrder t [] = Unit {0}
-AreInOrder t (e ∷ es) = (is_out_of_order e.1 t ≡ false) × (e.1.file < 64) × AreInOrder (after e.0 e.1 t) es
+AreInOrder t (e ∷ es) = (is_out_of_order e.1 t ≡ false) × (e.1.file < file_limit) × AreInOrder (after e.0 e.1 t) es
 
 -- whether an entry is of a change that a branch made
 abbrev pub is_change_of : Id → Entry → Bool
@@ -37,7 +38,7 @@ pub record AreRead (s : Span) (es front : List Entry) (position : ℕ) : Type 0 
   pub place : position ≡ s.first + length (flat_map spelling front)
 
 -- up to this position the entries of a journal told this
-pub record HasRead (c : List (List ℕ)) (s : Span) (es : List Entry) (position : ℕ) (t : Told) : Type 0 where
+pub record HasRead (c : List (List ℕ)) (s : Span) (es : List Entry) (position : ℕ) (t : JournalScan) : Type 0 where
   pub front : List Entry
   pub read : AreRead s es front position
   pub told : t ≡ told_by (placed s.first front)

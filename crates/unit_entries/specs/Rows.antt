@@ -2,6 +2,7 @@
 use Rattle.std.specs.Prelude.{◌≡◌, ℕ, ◌<◌, ◌≤◌, ◌+◌, ◌^◌, true, List, Some, None, Vec, length, map, take, slice_get, vec_capacity}
 use Rattle.std.specs.List.{AllByRecursion}
 use Rattle.indexmap.specs.IndexSet.{IndexSet, spare}
+use Rattle.vms_model.specs.Limits.{change_limit}
 use Rattle.table_keys.specs.declared.place.Place.{Place}
 use Rattle.vms_base.specs.Keys.{key_of}
 use Rattle.unit_entries.specs.declared.keys.ChangedKey.{ChangedKey}
@@ -27,8 +28,8 @@ pub record IsPlace (new : ChangedKey) (ks : List ChangedKey) (i : ℕ) : Type 0 
 
 -- the keys and the places at which they are found are alike, few, and have room for 1,024
 pub record AreKept {A S : Type 0} (keys : Vec ChangedKey A) (places : IndexSet Place S) : Type 0 where
-  pub room : 1024 ≤ vec_capacity keys
-  pub few : length keys.items ≤ 1024
+  pub room : change_limit ≤ vec_capacity keys
+  pub few : length keys.items ≤ change_limit
   pub low : AreLow keys.items
   pub alike : places.keys ≡ map place_said keys.items
-  pub free : 1024 ≤ length places.keys + spare places
+  pub free : change_limit ≤ length places.keys + spare places

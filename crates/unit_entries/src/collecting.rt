@@ -2,6 +2,7 @@
 ghost use Rattle.std.specs.Prelude.{◌≡◌, ◌≤◌, ◌<◌, ◌+◌, ◌^◌, ℕ, List, [], Option, Some, None, OnOk, IfOk, IfErr, IfSome, IfNone, length, option_map};
 ghost use Rattle.std.specs.List.{All};
 ghost use Rattle.std.specs.Option.{option_copied};
+ghost use Rattle.vms_model.specs.Limits.{change_limit};
 ghost use Rattle.vms_base.specs.Keys.{key_of};
 ghost use Rattle.journal_format.specs.Heads.{entry_of};
 ghost use Rattle.journal_model.specs.Entries.{Entry};
@@ -56,7 +57,7 @@ fn changed_key(head: Option<&FileHead>, position: u64, e: &EntryHead) -> Option<
 // Notes the key that an entry at a position changed.
 fn note_entry<D: Disk>(volume: &Volume<D>, position: u64, e: &EntryHead, keys: &mut ChangedKeys)
     requires low { position ≤ 2 ^ 62 }
-    requires room { length keys.old < 1024 }
+    requires room { length keys.old < change_limit }
     ensures keys { (entry_of e.now []).kind ≡ 1 → 1 ≤ length (entry_of e.now []).key → keys.new ≡ keys_with position (entry_of e.now []) (key_told volume.now.catalog.heads (entry_of e.now [])) keys.old }
     ensures few { length keys.new ≤ length keys.old + 1 }
 {
@@ -73,7 +74,7 @@ pub fn collect_keys<D: Disk>(
     image: &mut Record,
 ) -> Result<(), Down>
     requires ring { IsRing volume.old.catalog.ru volume.old.store.disk }
-    requires few { length positions.now ≤ 1024 }
+    requires few { length positions.now ≤ change_limit }
     requires low { All (λ p. p ≤ 2 ^ 62) positions.now }
     ensures keys { OnOk result (IfSome volume.old.store.current (λ c. (es : List Entry) → AreChangesAt volume.old.catalog.ru positions.now es c → keys.new ≡ keys_told volume.old.catalog.heads positions.now es)) }
     ensures catalog { volume.new.catalog ≡ volume.old.catalog }

@@ -2,6 +2,7 @@
 ghost use Rattle.std.specs.Prelude.{◌≡◌, ◌≤◌, ◌<◌, ◌+◌, ◌^◌, ℕ, List, [], Option, Some, None, length, map, IfOk, IfSome, IfNone, slice_get, position, is_some};
 ghost use Rattle.std.specs.List.{list_any};
 ghost use Rattle.indexmap.specs.IndexSet.{insert_key, spare};
+ghost use Rattle.vms_model.specs.Limits.{change_limit};
 ghost use Rattle.table_keys.specs.Places.{same_place};
 ghost use Rattle.sequence_laws.specs.Undoing.{lower};
 ghost use Rattle.unit_entries.specs.Keys.{KeyTold, keys_after, number_for, lowest_in, lowest_with, lesser, IsLeast, NoneFrom};
@@ -156,7 +157,7 @@ impl ChangedKeys {
 
     /// Notes what one entry more tells of its key.
     pub fn note(&mut self, key: ChangedKey)
-        requires room { length self.old < 1024 }
+        requires room { length self.old < change_limit }
         requires low { key.first ≤ 2 ^ 62 }
         ensures keys { self.new ≡ keys_after (key_said key) self.old }
         ensures few { length self.new ≤ length self.old + 1 }

@@ -1,5 +1,6 @@
 // The journal of recovery units as a restart reads it.
 ghost use Rattle.std.specs.Prelude.{◌≡◌, ◌≤◌, ◌<◌, ◌+◌, ◌^◌, ◌∷◌, ◌++◌, ◌==◌, ℕ, List, [], None, true, false, OnOk, OnErr, IfOk, IfErr, IfSome, IsSome, length, is_err, map, vec_capacity};
+ghost use Rattle.vms_model.specs.Limits.{branch_limit, change_limit, entry_limit, file_limit};
 ghost use Rattle.vms_base.specs.Ids.{serial_of, tid_of};
 ghost use Rattle.journal_format.specs.Heads.{entry_of, kind_code};
 ghost use Rattle.journal_model.specs.Entries.{Entry};
@@ -45,9 +46,9 @@ fn changes(e: &EntryHead) -> bool
 
 // Notes what an entry at a position tells of the unit at a place.
 fn note_entry(units: &mut UnitTable, place: u8, position: u64, e: &EntryHead)
-    requires file { e.now.file < 64 }
+    requires file { e.now.file < file_limit }
     requires there { IsSome (unit_at units.old.places place) }
-    requires room { IfSome (unit_at units.old.places place) (λ w. kind_code e.now.kind ≡ 1 → length w.positions < 1024) }
+    requires room { IfSome (unit_at units.old.places place) (λ w. kind_code e.now.kind ≡ 1 → length w.positions < change_limit) }
     ensures { IfSome (unit_at units.old.places place) (λ w. units.new ≡ with_unit place (more_open position (entry_of e.now []) w) units.old) }
 {
     match e.kind {
@@ -58,8 +59,8 @@ fn note_entry(units: &mut UnitTable, place: u8, position: u64, e: &EntryHead)
 
 // The unit of a branch begins with an entry at a position.
 fn open_unit(units: &mut UnitTable, position: u64, e: &EntryHead)
-    requires file { e.now.file < 64 }
-    requires places { length (begun units.old) < 64 }
+    requires file { e.now.file < file_limit }
+    requires places { length (begun units.old) < branch_limit }
     ensures { begun units.new ≡ begun units.old ++ more_open position (entry_of e.now []) (new_unit (tid_of e.now.tid) (serial_of e.now.serial)) ∷ [] }
 {
     units.stand_in_order();
@@ -81,9 +82,9 @@ fn forget_unit(units: &mut UnitTable, serial: &Serial)
 
 // The units after one entry more.
 fn follow_entry(units: &mut UnitTable, position: u64, e: &EntryHead)
-    requires file { e.now.file < 64 }
-    requires room { IfSome (first_that (is_of (serial_of e.now.serial)) (begun units.old)) (λ w. kind_code e.now.kind ≡ 1 → length w.positions < 1024) }
-    requires places { first_that (is_of (serial_of e.now.serial)) (begun units.old) ≡ None → (kind_code e.now.kind == 1) ≡ true → length (begun units.old) < 64 }
+    requires file { e.now.file < file_limit }
+    requires room { IfSome (first_that (is_of (serial_of e.now.serial)) (begun units.old)) (λ w. kind_code e.now.kind ≡ 1 → length w.positions < change_limit) }
+    requires places { first_that (is_of (serial_of e.now.serial)) (begun units.old) ≡ None → (kind_code e.now.kind == 1) ≡ true → length (begun units.old) < branch_limit }
     ensures { begun units.new ≡ opened_after position (entry_of e.now []) (begun units.old) }
 {
     if settles(e) {
@@ -114,7 +115,7 @@ fn take_entry(
     ensures units { result ≡ true → begun units.new ≡ opened_after position (entry_of e.now []) (begun units.old) }
     ensures order { result ≡ true → is_out_of_order (entry_of e.now []) state.old ≡ false }
     ensures alike { result ≡ true → AreAlike state.new.units (begun units.new) }
-    ensures may { whole ≡ true → state.old.entries < 87381 → e.now.file < 64 → is_out_of_order (entry_of e.now []) state.old ≡ false → result ≡ true }
+    ensures may { whole ≡ true → state.old.entries < entry_limit → e.now.file < file_limit → is_out_of_order (entry_of e.now []) state.old ≡ false → result ≡ true }
 {
     if !whole || state.taken() >= MOST_ENTRIES || e.file >= 64 {
         return false;
@@ -141,7 +142,7 @@ pub fn read_journal<D: Disk>(
     requires ring { IsRing span.now store.old.disk }
     requires room { length out.old.items + length rest.old.items ≤ vec_capacity out.old }
     ensures told { IfOk result (λ whole. whole ≡ true → IfSome store.old.current (λ c. (es : List Entry) → IsJournal c span.now es → state.new ≡ told_by (placed span.now.first es))) }
-    ensures whole { IfOk result (λ whole. IfSome store.old.current (λ c. (es : List Entry) → IsJournal c span.now es → length es ≤ 87381 → AreInOrder nothing_told (placed span.now.first es) → whole ≡ true)) }
+    ensures whole { IfOk result (λ whole. IfSome store.old.current (λ c. (es : List Entry) → IsJournal c span.now es → length es ≤ entry_limit → AreInOrder nothing_told (placed span.now.first es) → whole ≡ true)) }
     ensures found { IfOk result (λ whole. whole ≡ true → IfSome store.old.current (λ c. (es : List Entry) → IsJournal c span.now es → AreChangesIn (placed span.now.first es) (begun units.new))) }
     ensures files { IfOk result (λ whole. whole ≡ true → IfSome store.old.current (λ c. AreFiledOf span.now c (begun units.new))) }
     ensures alike { IfOk result (λ whole. whole ≡ true → AreAlike state.new.units (begun units.new)) }

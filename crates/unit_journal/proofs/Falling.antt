@@ -11,7 +11,7 @@ use Rattle.change_set.specs.Files.{fell}
 use Rattle.transcript_model.specs.Outside.{Rose}
 use Rattle.volume.specs.State.{SameVolume, VolumeState}
 use Rattle.unit_journal.specs.Leaving.{FellIn}
-use Rattle.unit_journal.specs.Groups.{Caused, Goes, HasRisen}
+use Rattle.unit_journal.specs.Groups.{Caused, DiskAdvances, HasRisen}
 
 up : (b : Bool) (n : ℕ) → n < 2 ^ 64 → (n ≤ counted b n) × (counted b n < 2 ^ 64)
 up true n h = (omega arith, omega arith)
@@ -24,7 +24,7 @@ raised n = elim (nat_lt n 18446744073709551615) as (λ t. nat_lt n 1844674407370
 ] refl
 
 -- a call that was counted
-pub counts_go : {T : Type 0} (r : Result T Down) (old new : DiskState) → Counts r old new → Goes old new
+pub counts_go : {T : Type 0} (r : Result T Down) (old new : DiskState) → Counts r old new → DiskAdvances old new
 counts_go r old new c = record {
   size = c.size;
   calls = c.calls;
@@ -40,11 +40,11 @@ counts_cause T down.Failed old new c = λ h. rw c.faults (raised old.faults)
 counts_cause T down.Stopped old new c = λ h. rw c.stops (raised old.stops)
 
 -- no call
-pub goes_nowhere : (d : DiskState) → Goes d d
+pub goes_nowhere : (d : DiskState) → DiskAdvances d d
 goes_nowhere d = record { size = refl; calls = refl; faults = λ h. omega arith; stops = λ h. omega arith; counted = λ h. h; told = refl }
 
 -- one call after another
-pub goes_on : (a b c : DiskState) → Goes a b → Goes b c → Goes a c
+pub goes_on : (a b c : DiskState) → DiskAdvances a b → DiskAdvances b c → DiskAdvances a c
 goes_on a b c f g = record {
   size = g.size ∙ f.size;
   calls = g.calls ∙ f.calls;
@@ -57,14 +57,14 @@ goes_on a b c f g = record {
 counts_answered : (down : Down) (d : DiskState) → (let r : Result (Unit {0}) Down = Err down in Counts r d (went_down down d))
 counts_answered down d = record { size = refl; calls = refl; faults = refl; stops = refl; told = refl }
 
-pub fell_goes : (down : Down) (v w : VolumeState) → FellIn down v w → Goes v.store.disk w.store.disk
-fell_goes down v w is = subst (λ (x : VolumeState). Goes v.store.disk x.store.disk) (sym is) (counts_go {T = Unit {0}} (Err down) v.store.disk (went_down down v.store.disk) (counts_answered down v.store.disk))
+pub fell_goes : (down : Down) (v w : VolumeState) → FellIn down v w → DiskAdvances v.store.disk w.store.disk
+fell_goes down v w is = subst (λ (x : VolumeState). DiskAdvances v.store.disk x.store.disk) (sym is) (counts_go {T = Unit {0}} (Err down) v.store.disk (went_down down v.store.disk) (counts_answered down v.store.disk))
 
 pub fell_caused : (down : Down) (v w : VolumeState) → FellIn down v w → Caused (Some down) v.store.disk w.store.disk
 fell_caused down v w is = subst (λ (x : VolumeState). HasRisen down v.store.disk x.store.disk) (sym is) (counts_cause (Unit {0}) down v.store.disk (went_down down v.store.disk) (counts_answered down v.store.disk))
 
-pub same_goes : (v w : VolumeState) → SameVolume v w → Goes v.store.disk w.store.disk
-same_goes v w is = subst (λ (x : VolumeState). Goes v.store.disk x.store.disk) (sym is) (goes_nowhere v.store.disk)
+pub same_goes : (v w : VolumeState) → SameVolume v w → DiskAdvances v.store.disk w.store.disk
+same_goes v w is = subst (λ (x : VolumeState). DiskAdvances v.store.disk x.store.disk) (sym is) (goes_nowhere v.store.disk)
 
 -- a call that read went down
 pub fell_in : (T : Type 0) (down : Down) (v w : VolumeState) → (let r : Result T Down = Err down in SameVolume (record v { store = fell r v.store }) w) → FellIn down v w

@@ -26,7 +26,7 @@ abbrev pub IsCounted : DiskState → Type 0
 IsCounted d = (d.faults < 2 ^ 64) × (d.stops < 2 ^ 64)
 
 -- from one state of a disk to a later one: no count falls, and what is told stays told
-pub record Goes (old new : DiskState) : Type 0 where
+pub record DiskAdvances (old new : DiskState) : Type 0 where
   pub size : new.size ≡ old.size
   pub calls : new.calls ≡ old.calls
   pub faults : IsCounted old → old.faults ≤ new.faults

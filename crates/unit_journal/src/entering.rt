@@ -1,6 +1,9 @@
 // Entries that are entered in the journal.
 ghost use Rattle.std.specs.Prelude.{◌≡◌, ◌≤◌, ◌<◌, ◌+◌, ◌-◌, ◌^◌, OnOk, IfErr, IfSome, IsSome, length, option_map};
 ghost use Rattle.std.specs.Option.{option_and_then};
+ghost use Rattle.block_disk.specs.Sizes.{least_disk_size};
+ghost use Rattle.vms_model.specs.Limits.{branch_limit};
+ghost use Rattle.vms_model.specs.Blocks.{log_start};
 ghost use Rattle.careful_write.specs.Reads.{SameButReads};
 ghost use Rattle.careful_write.specs.State.{IsReady};
 ghost use Rattle.journal_model.specs.Ring.{ring_size};
@@ -38,7 +41,7 @@ pub fn journal_refusal<D: Disk>(
     place: u8,
     size: u64,
 ) -> Option<RecErr>
-    requires place { place < 64 }
+    requires place { place < branch_limit }
     requires there { IsSome (unit_at units.now.places place) }
     requires ascends { volume.now.catalog.ru.first ≤ volume.now.catalog.ru.end }
     requires room { volume.now.catalog.ru.end - volume.now.catalog.ru.first + owed units.now.places ≤ ring_size volume.now.catalog.ru }
@@ -59,8 +62,8 @@ pub fn journal_refusal<D: Disk>(
 /// Stages an entry at the journal's end, and the journal's span. There has to be room for it.
 pub fn enter<D: Disk>(volume: &mut Volume<D>, entry: &EntryBuf) -> Result<(), Down>
     requires ring { IsRing volume.old.catalog.ru volume.old.store.disk }
-    requires behind { 584 ≤ volume.old.catalog.ru.start }
-    requires least { 4096 ≤ volume.old.store.disk.size }
+    requires behind { log_start ≤ volume.old.catalog.ru.start }
+    requires least { least_disk_size ≤ volume.old.store.disk.size }
     requires room { volume.old.catalog.ru.end - volume.old.catalog.ru.first + length entry.now ≤ ring_size volume.old.catalog.ru }
     requires staged { length volume.old.store.touched ≤ 480 }
     ensures current { OnOk result (volume.new.store.current ≡ option_map (entered volume.old.catalog.ru entry.now) volume.old.store.current) }

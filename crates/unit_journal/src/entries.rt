@@ -1,6 +1,7 @@
 // The entries of units.
 ghost use Rattle.std.specs.Prelude.{◌≡◌, ◌≤◌, ◌<◌, ◌+◌, [], length, unwrap_or};
 ghost use Rattle.std.specs.Option.{option_copied};
+ghost use Rattle.vms_model.specs.Limits.{key_limit, record_limit};
 ghost use Rattle.journal_model.specs.Entries.{IsEntry, spelling};
 ghost use Rattle.vms_model.specs.Ids.{IsId};
 ghost use Rattle.vms_base.specs.Ids.{id_of, serial_of, tid_of};
@@ -15,7 +16,7 @@ use vms_base::{Id, Key, KeyText, Moment, Outcome, Record, Serial, Tid, put_id};
 // A key as an entry has it.
 fn entry_key(key: &Key) -> Option<KeyText>
     ensures value { unwrap_or result [] ≡ key_bytes (key_of key.now) }
-    ensures few { length (key_bytes (key_of key.now)) ≤ 64 }
+    ensures few { length (key_bytes (key_of key.now)) ≤ key_limit }
 {
     match key {
         Key::Number(n) => number_key(*n),
@@ -37,7 +38,7 @@ fn is_written(id: &Id)
 
 fn image_len(before: Option<&Record>) -> u16
     ensures value { result ≡ length (unwrap_or (option_copied before.entry) []) }
-    ensures few { length (unwrap_or (option_copied before.entry) []) ≤ 8160 }
+    ensures few { length (unwrap_or (option_copied before.entry) []) ≤ record_limit }
 {
     match before {
         Some(record) => record.bytes().len() as u16,

@@ -1,5 +1,8 @@
 // Settlements.
 ghost use Rattle.std.specs.Prelude.{◌≡◌, ◌≤◌, ◌<◌, ◌+◌, ◌-◌, true, List, Option, OnOk, OnErr, IfErr, length, option_map, if◌then◌else◌};
+ghost use Rattle.block_disk.specs.Sizes.{least_disk_size};
+ghost use Rattle.vms_model.specs.Limits.{moment_ceiling};
+ghost use Rattle.vms_model.specs.Blocks.{home_block, journal_block, log_start};
 ghost use Rattle.careful_write.specs.Down.{Counts};
 ghost use Rattle.careful_write.specs.Reads.{SameButReads};
 ghost use Rattle.careful_write.specs.State.{IsIdle, IsReady, OneContent};
@@ -28,7 +31,7 @@ use volume_format::{Ending, Home, Settled};
 
 /// The moment of the next settlement: the clock's, or the first after all that are on the disk where that is later.
 pub fn next_moment(clock: Moment, home: &Home) -> Moment
-    requires { home.now.greatest_moment.0 < 24000001000066 }
+    requires { home.now.greatest_moment.0 < moment_ceiling }
     ensures { result.0 ≡ next_said clock.0 home.now }
 {
     let next = home.greatest_moment.0 + 1;
@@ -70,9 +73,9 @@ fn stage_from<D: Disk>(
     ending: Ending,
     moment: Moment,
 )
-    requires least { 4096 ≤ volume.old.store.disk.size }
+    requires least { least_disk_size ≤ volume.old.store.disk.size }
     requires staged { length volume.old.store.touched ≤ 480 }
-    ensures store { volume.new.store ≡ with_block 583 (ru_block_of (starting first volume.old.catalog.ru)) (with_block 518 (home_block_of (home_said tid serial ending moment.0 volume.old.catalog.home)) volume.old.store) }
+    ensures store { volume.new.store ≡ with_block journal_block (ru_block_of (starting first volume.old.catalog.ru)) (with_block home_block (home_block_of (home_said tid serial ending moment.0 volume.old.catalog.home)) volume.old.store) }
     ensures catalog { volume.new.catalog ≡ record volume.old.catalog { home = home_said tid serial ending moment.0 volume.old.catalog.home; ru = starting first volume.old.catalog.ru } }
     ensures holds { Holds volume.old → Holds volume.new }
     ensures ready { IsReady volume.old.store → IsReady volume.new.store }
@@ -96,9 +99,9 @@ pub fn stage_settlement<D: Disk>(
     ending: Ending,
     moment: Moment,
 )
-    requires least { 4096 ≤ volume.old.store.disk.size }
+    requires least { least_disk_size ≤ volume.old.store.disk.size }
     requires staged { length volume.old.store.touched ≤ 480 }
-    ensures store { volume.new.store ≡ with_block 583 (ru_block_of (earliest_said units.now.places volume.old.catalog.ru)) (with_block 518 (home_block_of (home_said tid serial ending moment.0 volume.old.catalog.home)) volume.old.store) }
+    ensures store { volume.new.store ≡ with_block journal_block (ru_block_of (earliest_said units.now.places volume.old.catalog.ru)) (with_block home_block (home_block_of (home_said tid serial ending moment.0 volume.old.catalog.home)) volume.old.store) }
     ensures catalog { volume.new.catalog ≡ record volume.old.catalog { home = home_said tid serial ending moment.0 volume.old.catalog.home; ru = earliest_said units.now.places volume.old.catalog.ru } }
     ensures holds { Holds volume.old → Holds volume.new }
     ensures ready { IsReady volume.old.store → IsReady volume.new.store }
@@ -116,8 +119,8 @@ fn enter_settled<D: Disk>(
     entry: &mut EntryBuf,
 ) -> Result<(), Down>
     requires ring { IsRing volume.old.catalog.ru volume.old.store.disk }
-    requires behind { 584 ≤ volume.old.catalog.ru.start }
-    requires least { 4096 ≤ volume.old.store.disk.size }
+    requires behind { log_start ≤ volume.old.catalog.ru.start }
+    requires least { least_disk_size ≤ volume.old.store.disk.size }
     requires room { has_changed ≡ true → volume.old.catalog.ru.end - volume.old.catalog.ru.first + 48 ≤ ring_size volume.old.catalog.ru }
     requires staged { length volume.old.store.touched ≤ 450 }
     ensures current { OnOk result (volume.new.store.current ≡ option_map (content_with (entry_if has_changed (settled_entry (tid_of branch.now.tid) (serial_of branch.now.serial) (outcome_of outcome) moment.0)) volume.old.catalog.ru) volume.old.store.current) }
@@ -152,8 +155,8 @@ pub fn settle_staged<D: Disk>(
     requires staged { length volume.old.store.touched ≤ 450 }
     requires holds { Holds volume.old }
     requires ring { IsRing volume.old.catalog.ru volume.old.store.disk }
-    requires behind { 584 ≤ volume.old.catalog.ru.start }
-    requires least { 4096 ≤ volume.old.store.disk.size }
+    requires behind { log_start ≤ volume.old.catalog.ru.start }
+    requires least { least_disk_size ≤ volume.old.store.disk.size }
     requires room { has_changed ≡ true → volume.old.catalog.ru.end - volume.old.catalog.ru.first + 48 ≤ ring_size volume.old.catalog.ru }
     ensures makes { OnOk result ((left : List (Option OpenUnit)) → earliest left ≡ first → MakesSettlement branch.now.tid branch.now.serial ending moment.0 (entry_if has_changed (settled_entry (tid_of branch.now.tid) (serial_of branch.now.serial) (outcome_of outcome) moment.0)) left volume.old volume.new) }
     ensures end { OnOk result (volume.new.catalog.ru.end ≡ volume.old.catalog.ru.end + (if has_changed then 48 else 0)) }
@@ -189,8 +192,8 @@ pub fn settle<D: Disk>(
     requires idle { IsIdle volume.old.store }
     requires holds { Holds volume.old }
     requires ring { IsRing volume.old.catalog.ru volume.old.store.disk }
-    requires behind { 584 ≤ volume.old.catalog.ru.start }
-    requires least { 4096 ≤ volume.old.store.disk.size }
+    requires behind { log_start ≤ volume.old.catalog.ru.start }
+    requires least { least_disk_size ≤ volume.old.store.disk.size }
     requires room { has_changed ≡ true → volume.old.catalog.ru.end - volume.old.catalog.ru.first + 48 ≤ ring_size volume.old.catalog.ru }
     ensures makes { OnOk result (MakesSettlement branch.now.tid branch.now.serial ending moment.0 (entry_if has_changed (settled_entry (tid_of branch.now.tid) (serial_of branch.now.serial) (outcome_of outcome) moment.0)) left.now.places volume.old volume.new) }
     ensures end { OnOk result (volume.new.catalog.ru.end ≡ volume.old.catalog.ru.end + (if has_changed then 48 else 0)) }

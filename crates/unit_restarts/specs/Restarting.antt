@@ -1,5 +1,6 @@
 -- What a restart makes of the units of a volume, with the log of that volume.
 use Rattle.std.specs.Prelude.{◌≡◌, ◌≤◌, ◌+◌, ℕ, List, [], IfSome, length, map}
+use Rattle.vms_model.specs.Limits.{branch_limit, lock_limit}
 use Rattle.commit_protocol.specs.Agreement.{Distinct}
 use Rattle.commit_protocol.specs.Table.{record_serials}
 use Rattle.journal_model.specs.Entries.{Entry}
@@ -37,14 +38,14 @@ pub record Restarts (clock : ℕ) (v : VolumeState) (found log : Slots) (units :
   pub committed : map log_record_of told.committed ≡ committed_of (records_in log)
   pub votes : List Id
   pub arranged : map log_record_of told.prepared ≡ records_by votes (prepared_of (records_in log))
-  pub ordered : length told.undone + length (prepared_of (records_in found)) ≤ 64 →
+  pub ordered : length told.undone + length (prepared_of (records_in found)) ≤ branch_limit →
       IfSome v.store.current (λ c. (es : List Entry) → IsJournal c v.catalog.ru es → map log_record_of told.prepared ≡ records_by (votes_in es) (prepared_of (records_in log)))
-  pub few : length told.undone + length told.prepared ≤ 64
+  pub few : length told.undone + length told.prepared ≤ branch_limit
   pub left : List OpenUnit
   pub reopens : Reopens clock v w told.undone left
   pub records : AreOfRecords (map log_record_of told.prepared) (begun units)
   pub changes : Distinct (record_serials (map log_record_of told.prepared)) → HaveChanges left (begun units)
-  pub hold : IfSome w.store.current (λ c. (ess : List (List Entry)) → AreAllChangesAt w.catalog.ru (begun units) ess c → HoldChanges w.catalog.heads 4096 (begun units) ess [] locks)
+  pub hold : IfSome w.store.current (λ c. (ess : List (List Entry)) → AreAllChangesAt w.catalog.ru (begun units) ess c → HoldChanges w.catalog.heads lock_limit (begun units) ess [] locks)
 
 -- The disk went down before all units were undone that are not prepared, or afterwards, while the prepared ones were read.
 pub data RestartsNot (clock : ℕ) (v w : VolumeState) (out : List AbortedUnit) : Type 0 where

@@ -1,5 +1,6 @@
 //! What a restart tells.
 ghost use Rattle.std.specs.Prelude.{◌≡◌, ◌<◌, ◌∷◌, [], IfOk, IfSome, IfNone};
+ghost use Rattle.vms_model.specs.Limits.{branch_limit};
 ghost use Rattle.unit_restarts.specs.Restarting.{nothing_told};
 
 use std::alloc::{AllocError, Global};
@@ -23,13 +24,14 @@ pub struct Restarted {
 impl Model for Restarted {
     ghost use Rattle.std.specs.Prelude.{◌≤◌, ◌<◌, vec_capacity};
     ghost use Rattle.std.specs.List.{AllByRecursion};
+    ghost use Rattle.vms_model.specs.Limits.{branch_limit, slot_limit};
     ghost use Rattle.unit_restarts.specs.Restarting.{RestartTold};
 
     ghost Value = { RestartTold };
 
     ghost view = { λ r. record { undone = r.undone.items; prepared = r.prepared.items; committed = r.committed.items; units = r.places.items } };
 
-    ghost invariant = { λ r. (64 ≤ vec_capacity r.undone) × (64 ≤ vec_capacity r.prepared) × (512 ≤ vec_capacity r.committed) × (64 ≤ vec_capacity r.places) × (64 ≤ vec_capacity r.listed) × AllByRecursion (λ p. p < 64) r.places.items };
+    ghost invariant = { λ r. (branch_limit ≤ vec_capacity r.undone) × (branch_limit ≤ vec_capacity r.prepared) × (slot_limit ≤ vec_capacity r.committed) × (branch_limit ≤ vec_capacity r.places) × (branch_limit ≤ vec_capacity r.listed) × AllByRecursion (λ p. p < branch_limit) r.places.items };
 }
 
 impl Restarted {
@@ -70,7 +72,7 @@ impl Restarted {
     /// The place of the next of the prepared branches' units, in the order of their records.
     pub fn next_place(&mut self) -> Option<u8>
         ensures next { IfSome result (λ place. self.old ≡ record self.new { units = place ∷ self.new.units }) }
-        ensures below { IfSome result (λ place. place < 64) }
+        ensures below { IfSome result (λ place. place < branch_limit) }
         ensures none { IfNone result ((self.old.units ≡ []) × (self.new ≡ self.old)) }
     {
         if self.places.is_empty() {

@@ -1,5 +1,6 @@
 //! A volume and its log are taken up after a fall.
 ghost use Rattle.std.specs.Prelude.{◌≡◌, ◌≤◌, ◌<◌, ◌+◌, ◌-◌, ◌++◌, [], OnOk, OnErr, length, map, max, vec_capacity};
+ghost use Rattle.vms_model.specs.Limits.{branch_limit, lock_limit, slot_limit};
 ghost use Rattle.careful_write.specs.Down.{Counts};
 ghost use Rattle.image_room.specs.Room.{AllSettlementsFit};
 ghost use Rattle.journal_model.specs.Ring.{ring_size};
@@ -47,14 +48,14 @@ impl RestartRoom {
 
 // Lists the records of a log in the order of its slots. The prepared ones behind the 64th are read as free.
 fn list_records(log: &mut Log, listed: &mut Vec<LogRec>, committed: &mut Vec<LogRec>)
-    requires listed { 64 ≤ vec_capacity listed.old }
-    requires committed { 512 ≤ vec_capacity committed.old }
-    ensures log { log.new ≡ with_few_prepared 64 log.old }
+    requires listed { branch_limit ≤ vec_capacity listed.old }
+    requires committed { slot_limit ≤ vec_capacity committed.old }
+    ensures log { log.new ≡ with_few_prepared branch_limit log.old }
     ensures prepared { map log_record_of listed.new.items ≡ prepared_of (records_in log.new) }
     ensures committed { map log_record_of committed.new.items ≡ committed_of (records_in log.new) }
-    ensures few { length listed.new.items ≤ 64 }
-    ensures listed_room { 64 ≤ vec_capacity listed.new }
-    ensures committed_room { 512 ≤ vec_capacity committed.new }
+    ensures few { length listed.new.items ≤ branch_limit }
+    ensures listed_room { branch_limit ≤ vec_capacity listed.new }
+    ensures committed_room { slot_limit ≤ vec_capacity committed.new }
 {
     log.pass_over(MOST_UNITS);
     log.list(listed, committed);
@@ -77,18 +78,18 @@ fn list_behind(records: &[LogRec], out: &mut Vec<LogRec>)
 
 // Reads the prepared records behind so many as free. Where there are such the records are listed again, the prepared ones in the order of the slots.
 fn list_few(log: &mut Log, most: usize, prepared: &mut Vec<LogRec>, committed: &mut Vec<LogRec>)
-    requires most { most ≤ 64 }
+    requires most { most ≤ branch_limit }
     requires many { length prepared.old.items ≡ length (prepared_of (records_in log.old)) }
     requires committed { map log_record_of committed.old.items ≡ committed_of (records_in log.old) }
-    requires prepared_room { 64 ≤ vec_capacity prepared.old }
-    requires committed_room { 512 ≤ vec_capacity committed.old }
+    requires prepared_room { branch_limit ≤ vec_capacity prepared.old }
+    requires committed_room { slot_limit ≤ vec_capacity committed.old }
     ensures log { log.new ≡ with_few_prepared most log.old }
     ensures committed { map log_record_of committed.new.items ≡ committed_of (records_in log.new) }
     ensures few { length prepared.new.items ≤ most }
     ensures same { length prepared.old.items ≤ most → (prepared.new.items ≡ prepared.old.items) × (log.new ≡ log.old) }
     ensures again { most < length prepared.old.items → map log_record_of prepared.new.items ≡ prepared_of (records_in log.new) }
-    ensures prepared_room_is { 64 ≤ vec_capacity prepared.new }
-    ensures committed_room_is { 512 ≤ vec_capacity committed.new }
+    ensures prepared_room_is { branch_limit ≤ vec_capacity prepared.new }
+    ensures committed_room_is { slot_limit ≤ vec_capacity committed.new }
 {
     log.pass_over(most);
     if prepared.len() > most {
@@ -113,9 +114,9 @@ pub fn restart<D: Disk>(
 ) -> Result<(), Down>
     requires none { table.old ≡ no_units }
     requires free { locks.old.locks ≡ [] }
-    requires locks { locks.old.most ≡ 4096 }
+    requires locks { locks.old.most ≡ lock_limit }
     requires may { MayReopen clock.0 volume.old }
-    ensures log { log.new ≡ with_few_prepared (64 - length out.new.undone) log.old }
+    ensures log { log.new ≡ with_few_prepared (branch_limit - length out.new.undone) log.old }
     ensures may { OnOk result (MayAbort volume.new) }
     ensures heads { OnOk result (length volume.new.catalog.heads ≡ length volume.old.catalog.heads) }
     ensures owed { OnOk result (volume.new.catalog.ru.end - volume.new.catalog.ru.first + owed table.new.places ≤ ring_size volume.new.catalog.ru) }
@@ -123,12 +124,12 @@ pub fn restart<D: Disk>(
     ensures ascends { OnOk result (AscendWithin volume.new.catalog.ru.first volume.new.catalog.ru.end (begun table.new)) }
     ensures done { OnOk result (Restarts clock.0 volume.old log.old log.new table.new locks.new.locks volume.new out.new) }
     ensures err { OnErr result (RestartsNot clock.0 volume.old volume.new out.new.undone) }
-    ensures room { OnOk result (volume.new.catalog.home.greatest_moment.0 + length (begun table.new) ≤ max volume.old.catalog.home.greatest_moment.0 clock.0 + 64) }
-    ensures most { locks.new.most ≡ 4096 }
-    ensures held { length locks.new.locks ≤ 4096 }
-    ensures grows { GrowsBy 64 clock.0 volume.old volume.new }
+    ensures room { OnOk result (volume.new.catalog.home.greatest_moment.0 + length (begun table.new) ≤ max volume.old.catalog.home.greatest_moment.0 clock.0 + branch_limit) }
+    ensures most { locks.new.most ≡ lock_limit }
+    ensures held { length locks.new.locks ≤ lock_limit }
+    ensures grows { GrowsBy branch_limit clock.0 volume.old volume.new }
     ensures moments { AreTold volume.new out.new.undone }
-    ensures few { length out.new.undone ≤ 64 }
+    ensures few { length out.new.undone ≤ branch_limit }
     ensures counts { Counts result volume.old.store.disk volume.new.store.disk }
     ensures pool { volume.new.store.pool ≡ volume.old.store.pool }
 {

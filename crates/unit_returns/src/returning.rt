@@ -1,6 +1,7 @@
 // The units of prepared branches, as a restart finds them.
 ghost use Rattle.std.specs.Prelude.{◌≡◌, ◌≤◌, ◌<◌, ◌+◌, ◌++◌, ◌∷◌, [], OnOk, OnErr, IfOk, length, map, vec_capacity};
 ghost use Rattle.std.specs.List.{AllByRecursion};
+ghost use Rattle.vms_model.specs.Limits.{branch_limit};
 ghost use Rattle.careful_write.specs.Down.{Counts};
 ghost use Rattle.careful_write.specs.State.{IsReady};
 ghost use Rattle.journal_store.specs.Rings.{IsRing};
@@ -32,10 +33,10 @@ fn take_unit<D: Disk>(
     requires ready { IsReady volume.old.store }
     requires ring { IsRing volume.old.catalog.ru volume.old.store.disk }
     requires low { AreLow (begun left.old) }
-    requires few { length (begun table.old) < 64 }
+    requires few { length (begun table.old) < branch_limit }
     ensures taken { OnOk result (IsTakenUp (log_record_of r.now) (begun left.old) volume.old (begun table.old) (begun table.new) locks.old locks.new) }
     ensures order { IfOk result (λ place. table.new.order ≡ table.old.order ++ place ∷ []) }
-    ensures place { IfOk result (λ place. place < 64) }
+    ensures place { IfOk result (λ place. place < branch_limit) }
     ensures left { OnOk result (begun left.new ≡ without_first (is_of (serial_of r.now.serial)) (begun left.old)) }
     ensures few { StayFew locks.old locks.new }
     ensures same { OnOk result (SameVolume volume.old volume.new) }
@@ -76,13 +77,13 @@ pub fn take_units<D: Disk>(
     requires ready { IsReady volume.old.store }
     requires ring { IsRing volume.old.catalog.ru volume.old.store.disk }
     requires low { AreLow (begun left.old) }
-    requires few { length (begun table.old) + length records.now ≤ 64 }
+    requires few { length (begun table.old) + length records.now ≤ branch_limit }
     requires places { places.old.items ≡ table.old.order }
-    requires below { AllByRecursion (λ p. p < 64) places.old.items }
+    requires below { AllByRecursion (λ p. p < branch_limit) places.old.items }
     requires room { length places.old.items + length records.now ≤ vec_capacity places.old }
     ensures taken { OnOk result (AreTakenUp (map log_record_of records.now) (begun left.old) volume.old (begun table.old) (begun table.new) locks.old locks.new) }
     ensures places { OnOk result (places.new.items ≡ table.new.order) }
-    ensures below { AllByRecursion (λ p. p < 64) places.new.items }
+    ensures below { AllByRecursion (λ p. p < branch_limit) places.new.items }
     ensures room { vec_capacity places.old ≤ vec_capacity places.new }
     ensures few { StayFew locks.old locks.new }
     ensures same { OnOk result (SameVolume volume.old volume.new) }

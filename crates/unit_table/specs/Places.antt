@@ -1,5 +1,6 @@
 -- How the places and the order of a table of units hang together.
 use Rattle.std.specs.Prelude.{◌≡◌, ℕ, suc, ◌==◌, Bool, true, List, [], ◌∷◌, ◌++◌, Option, Some, None, length, if◌then◌else◌}
+use Rattle.vms_model.specs.Limits.{branch_limit}
 use Rattle.unit_table.specs.Units.{OpenUnit, first_that, unit_at, units_of}
 
 -- how often a number stands in a list
@@ -20,7 +21,7 @@ taken (Some u ∷ us) = suc (taken us)
 
 -- each place that has a unit stands in the order once, and no other does
 pub record AreInOrder (places : List (Option OpenUnit)) (order : List ℕ) : Type 0 where
-  pub whole : length places ≡ 64
+  pub whole : length places ≡ branch_limit
   pub each : (p : ℕ) → occurrences p order ≡ count_at (unit_at places p)
   pub many : length order ≡ taken places
 

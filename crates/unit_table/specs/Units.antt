@@ -2,6 +2,7 @@
 use Rattle.std.specs.Prelude.{◌≡◌, ℕ, ◌+◌, ◌≤◌, ◌==◌, List, [], ◌∷◌, ◌++◌, Bool, true, false, not, Option, Some, None, min, replicate, slice_set, slice_index_or, if◌then◌else◌}
 use Rattle.std.specs.List.{filter}
 use Rattle.vms_model.specs.Ids.{Id}
+use Rattle.vms_model.specs.Limits.{branch_limit, file_limit}
 use Rattle.records_model.specs.History.{same_id}
 
 -- A unit that is not settled: its branch, where its changes begin in the journal, the oldest first, of each file number whether it changed the file, and
@@ -24,7 +25,7 @@ unit_at places p = slice_index_or places p None
 
 -- of no file
 abbrev pub no_files : List Bool
-no_files = replicate 64 false
+no_files = replicate file_limit false
 
 -- a unit that has changed nothing
 abbrev pub new_unit : (tid serial : Id) → OpenUnit
@@ -57,7 +58,7 @@ has_changed u file = slice_index_or u.files file false
 
 -- there are none
 abbrev pub no_units : Units
-no_units = record { places = replicate 64 None; order = [] }
+no_units = record { places = replicate branch_limit None; order = [] }
 
 -- one more at a place
 abbrev pub with_begun : (place : ℕ) → (tid serial : Id) → Units → Units

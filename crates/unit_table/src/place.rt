@@ -1,6 +1,7 @@
 // A place of a table, for one unit.
 ghost use Rattle.std.specs.Prelude.{◌≡◌, ◌≤◌, ◌<◌, IfOk, IfSome, IsSome, None, Some, is_some, length, option_map, true, vec_capacity};
 ghost use Rattle.std.specs.Option.{option_and_then};
+ghost use Rattle.vms_model.specs.Limits.{change_limit, file_limit};
 ghost use Rattle.vms_base.specs.Ids.{id_of, serial_of, tid_of};
 ghost use Rattle.records_model.specs.History.{same_id};
 ghost use Rattle.unit_table.specs.declared.place.Branch.{Branch};
@@ -39,6 +40,7 @@ pub(crate) struct Place {
 
 impl Model for Place {
     ghost use Rattle.std.specs.Prelude.{◌≡◌, ◌≤◌, Option, length, option_map, vec_capacity};
+    ghost use Rattle.vms_model.specs.Limits.{change_limit, file_limit};
     ghost use Rattle.vms_base.specs.Ids.{serial_of, tid_of};
     ghost use Rattle.unit_table.specs.Units.{OpenUnit};
     ghost use Rattle.unit_table.specs.declared.place.Branch.{Branch};
@@ -47,15 +49,15 @@ impl Model for Place {
 
     ghost view = { λ p. option_map (λ (b : Branch). record { tid = tid_of b.tid; serial = serial_of b.serial; positions = p.positions.items; files = p.files; prepared = p.is_prepared }) p.branch };
 
-    ghost invariant = { λ p. (1024 ≤ vec_capacity p.positions) × (length p.positions.items ≤ 1024) × (length p.files ≡ 64) };
+    ghost invariant = { λ p. (change_limit ≤ vec_capacity p.positions) × (length p.positions.items ≤ change_limit) × (length p.files ≡ file_limit) };
 }
 
 // Lists these positions in place of others.
 fn fill(list: &mut Vec<u64>, positions: &[u64])
-    requires few { length positions.now ≤ 1024 }
-    requires room { 1024 ≤ vec_capacity list.old }
+    requires few { length positions.now ≤ change_limit }
+    requires room { change_limit ≤ vec_capacity list.old }
     ensures list { list.new.items ≡ positions.now }
-    ensures room { 1024 ≤ vec_capacity list.new }
+    ensures room { change_limit ≤ vec_capacity list.new }
 {
     list.clear();
     for i in 0..positions.len() {
@@ -111,8 +113,8 @@ impl Place {
     /// Where the changes of its unit begin.
     pub fn positions(&self) -> &[u64]
         ensures value { IfSome self.now (λ u. result.now ≡ u.positions) }
-        ensures few { length result.now ≤ 1024 }
-        ensures files { IfSome self.now (λ u. length u.files ≡ 64) }
+        ensures few { length result.now ≤ change_limit }
+        ensures files { IfSome self.now (λ u. length u.files ≡ file_limit) }
     {
         &self.positions
     }
@@ -180,7 +182,7 @@ impl Place {
 
     /// Its unit is a prepared one whose changes begin at these positions, and are of these files.
     pub fn take_back(&mut self, positions: &[u64], files: &[bool; 64])
-        requires room { length positions.now ≤ 1024 }
+        requires room { length positions.now ≤ change_limit }
         ensures { self.new ≡ option_map (unit_back positions.now files.now) self.old }
     {
         fill(&mut self.positions, positions);
@@ -200,9 +202,9 @@ impl Place {
 
     /// Notes one change more.
     pub fn note(&mut self, position: u64, file: u8)
-        requires file { file < 64 }
+        requires file { file < file_limit }
         requires there { IsSome self.old }
-        requires room { IfSome self.old (λ u. length u.positions < 1024) }
+        requires room { IfSome self.old (λ u. length u.positions < change_limit) }
         ensures noted { self.new ≡ option_map (with_position position file) self.old }
         ensures changed { IfSome self.old (λ u. has_changed (with_position position file u) file ≡ true) }
     {

@@ -1,6 +1,7 @@
 // A table of units.
 ghost use Rattle.std.specs.Prelude.{◌≡◌, ◌++◌, ◌∷◌, [], ℕ, ◌≤◌, ◌<◌, ◌*◌, IfOk, IfSome, IfNone, IsSome, None, length, option_map, true};
 ghost use Rattle.std.specs.List.{AllByRecursion};
+ghost use Rattle.vms_model.specs.Limits.{branch_limit, change_limit, file_limit};
 ghost use Rattle.vms_base.specs.Ids.{serial_of, tid_of};
 ghost use Rattle.unit_table.specs.declared.place.Branch.{Branch as BranchSaid};
 ghost use Rattle.unit_table.specs.Places.{AreInOrder, IsFirstPlace};
@@ -24,6 +25,7 @@ pub struct UnitTable {
 
 impl Model for UnitTable {
     ghost use Rattle.std.specs.Prelude.{◌≤◌, vec_capacity};
+    ghost use Rattle.vms_model.specs.Limits.{branch_limit};
     ghost use Rattle.unit_table.specs.Units.{Units};
     ghost use Rattle.unit_table.specs.Places.{AreInOrder};
 
@@ -31,12 +33,12 @@ impl Model for UnitTable {
 
     ghost view = { λ t. record { places = t.places.items; order = t.order.items } };
 
-    ghost invariant = { λ t. AreInOrder t.places.items t.order.items × (64 ≤ vec_capacity t.order) };
+    ghost invariant = { λ t. AreInOrder t.places.items t.order.items × (branch_limit ≤ vec_capacity t.order) };
 }
 
 // How many bytes the units at some places will still take.
 fn owed_by(places: &[Place]) -> u64
-    requires few { length places.now ≤ 64 }
+    requires few { length places.now ≤ branch_limit }
     ensures value { result ≡ owed places.now }
     ensures few { result ≤ 96 * length places.now }
 {
@@ -48,7 +50,7 @@ fn owed_by(places: &[Place]) -> u64
 
 // How many of the units at some places changed a file.
 fn changers_of(places: &[Place], file: u8) -> u64
-    requires few { length places.now ≤ 64 }
+    requires few { length places.now ≤ branch_limit }
     ensures value { result ≡ changers file places.now }
     ensures few { result ≤ length places.now }
 {
@@ -170,8 +172,8 @@ impl UnitTable {
 
     // The first place without a unit.
     fn free_place(&self) -> Option<usize>
-        ensures found { IfSome result (λ p. (p < 64) × (unit_at self.now.places p ≡ None)) }
-        ensures none { IfNone result ((p : ℕ) → p < 64 → IsSome (unit_at self.now.places p)) }
+        ensures found { IfSome result (λ p. (p < branch_limit) × (unit_at self.now.places p ≡ None)) }
+        ensures none { IfNone result ((p : ℕ) → p < branch_limit → IsSome (unit_at self.now.places p)) }
     {
         for (i, place) in self.places.iter().enumerate() {
             if !place.is_taken() {
@@ -184,9 +186,9 @@ impl UnitTable {
     /// A unit of a branch is begun, at the place that is answered. None exactly where 64 are unsettled.
     pub fn begin(&mut self, tid: Tid, serial: Serial) -> Option<u8>
         ensures begun { IfSome result (λ p. self.new ≡ with_begun p (tid_of tid) (serial_of serial) self.old) }
-        ensures free { IfSome result (λ p. (p < 64) × (unit_at self.old.places p ≡ None)) }
+        ensures free { IfSome result (λ p. (p < branch_limit) × (unit_at self.old.places p ≡ None)) }
         ensures last { IfSome result (λ p. (w : OpenUnit) → begun (with_unit p w self.new) ≡ begun self.old ++ w ∷ []) }
-        ensures full { IfNone result ((length (begun self.old) ≡ 64) × (self.new ≡ self.old)) }
+        ensures full { IfNone result ((length (begun self.old) ≡ branch_limit) × (self.new ≡ self.old)) }
     {
         match self.free_place() {
             None => None,
@@ -238,7 +240,7 @@ impl UnitTable {
 
     /// The place of the earliest begun unit of a branch.
     pub fn find(&self, serial: &Serial) -> Option<u8>
-        ensures found { IfSome result (λ p. (p < 64) × IsFirst (is_of (serial_of serial.now)) self.now p) }
+        ensures found { IfSome result (λ p. (p < branch_limit) × IsFirst (is_of (serial_of serial.now)) self.now p) }
         ensures none { IfNone result (first_that (is_of (serial_of serial.now)) (begun self.now) ≡ None) }
     {
         place_of(&self.places, &self.order, serial)
@@ -246,7 +248,7 @@ impl UnitTable {
 
     /// The place of the earliest begun unit that is not prepared.
     pub fn first_active(&self) -> Option<u8>
-        ensures found { IfSome result (λ p. (p < 64) × IsFirst is_active self.now p) }
+        ensures found { IfSome result (λ p. (p < branch_limit) × IsFirst is_active self.now p) }
         ensures none { IfNone result (first_that is_active (begun self.now) ≡ None) }
     {
         active_place(&self.places, &self.order)
@@ -254,19 +256,19 @@ impl UnitTable {
 
     /// Where the changes of the unit at a place begin in the journal, the oldest first.
     pub fn positions(&self, place: u8) -> &[u64]
-        requires { place < 64 }
+        requires { place < branch_limit }
         ensures value { IfSome (unit_at self.now.places place) (λ u. result.now ≡ u.positions) }
-        ensures few { length result.now ≤ 1024 }
-        ensures files { IfSome (unit_at self.now.places place) (λ u. length u.files ≡ 64) }
+        ensures few { length result.now ≤ change_limit }
+        ensures files { IfSome (unit_at self.now.places place) (λ u. length u.files ≡ file_limit) }
     {
         self.places[place as usize].positions()
     }
 
     /// Notes one change more of the unit at a place: where its entry begins, and its file.
     pub fn note(&mut self, place: u8, position: u64, file: u8)
-        requires file { file < 64 }
+        requires file { file < file_limit }
         requires there { IsSome (unit_at self.old.places place) }
-        requires room { IfSome (unit_at self.old.places place) (λ u. length u.positions < 1024) }
+        requires room { IfSome (unit_at self.old.places place) (λ u. length u.positions < change_limit) }
         ensures noted { IfSome (unit_at self.old.places place) (λ u. self.new ≡ with_unit place (with_position position file u) self.old) }
         ensures changed { IfSome (unit_at self.old.places place) (λ u. has_changed (with_position position file u) file ≡ true) }
     {
@@ -276,7 +278,7 @@ impl UnitTable {
     /// The unit at a place is a prepared one whose changes begin at these positions, the oldest first, and are of these files.
     pub fn take_back(&mut self, place: u8, positions: &[u64], files: &[bool; 64])
         requires there { IsSome (unit_at self.old.places place) }
-        requires room { length positions.now ≤ 1024 }
+        requires room { length positions.now ≤ change_limit }
         ensures { IfSome (unit_at self.old.places place) (λ u. self.new ≡ with_unit place (unit_back positions.now files.now u) self.old) }
     {
         self.places[place as usize].take_back(positions, files);
@@ -292,7 +294,7 @@ impl UnitTable {
 
     /// Whether the unit at a place is prepared.
     pub fn is_prepared(&self, place: u8) -> bool
-        requires { place < 64 }
+        requires { place < branch_limit }
         ensures { IfSome (unit_at self.now.places place) (λ u. result ≡ u.prepared) }
     {
         self.places[place as usize].is_prepared()
@@ -316,7 +318,7 @@ impl UnitTable {
     /// How many bytes of the journal units that changed something will still take: 96 each, and 48 once it is prepared.
     pub fn owed(&self) -> u64
         ensures value { result ≡ owed self.now.places }
-        ensures few { result ≤ 96 * 64 }
+        ensures few { result ≤ 96 * branch_limit }
     {
         owed_by(&self.places)
     }
@@ -324,14 +326,14 @@ impl UnitTable {
     /// How many units changed a file.
     pub fn changers(&self, file: u8) -> u64
         ensures value { result ≡ changers file self.now.places }
-        ensures few { result ≤ 64 }
+        ensures few { result ≤ branch_limit }
     {
         changers_of(&self.places, file)
     }
 
     /// Of each file whether the unit at a place changed it.
     pub fn files(&self, place: u8) -> &[bool; 64]
-        requires { place < 64 }
+        requires { place < branch_limit }
         ensures { IfSome (unit_at self.now.places place) (λ u. result.now ≡ u.files) }
     {
         self.places[place as usize].files()
@@ -339,7 +341,7 @@ impl UnitTable {
 
     /// Whether the unit at a place changed a file.
     pub fn has_changed(&self, place: u8, file: u8) -> bool
-        requires { place < 64 }
+        requires { place < branch_limit }
         ensures { IfSome (unit_at self.now.places place) (λ u. result ≡ has_changed u file) }
     {
         self.places[place as usize].has_changed(file)

@@ -16,7 +16,7 @@ use Rattle.volume.specs.declared.catalog.Catalog.{Catalog}
 use Rattle.volume.specs.Catalogs.{IsSound, head_at}
 use Rattle.volume.specs.Limits.{data_area}
 use Rattle.volume_format.specs.Home.{sizes_of}
-use Rattle.directory_model.specs.Files.{Fit, StandsCarried, StandsIn}
+use Rattle.directory_model.specs.Files.{AgreesOnCarried, AgreesOnFile, Fit}
 use Rattle.directory_model.proofs.Apart.{lie_apart, writes_apart}
 use Rattle.volume_files.specs.Staging.{is_of_file}
 use Rattle.volume_files.proofs.Places.{fit_of, head_below}
@@ -43,7 +43,7 @@ module _ (node : List ℕ) (size : ℕ) (v : Catalog) (long : length v.heads ≡
       sym (off.others n (ap (λ (t : Bool). t || (n == 1 + f)) away ∙ behind))
 
   -- and each file keeps what it carries for its recovery
-  pub carried_keep : (f : ℕ) (h : FileHead) (a b : List (List ℕ)) → head_at v.heads f ≡ Some h → AgreesOff (is_of_file f h) a b → EachWhole a → EachWhole b → (g : ℕ) (k : FileHead) → head_at v.heads g ≡ Some k → StandsCarried k a b
+  pub carried_keep : (f : ℕ) (h : FileHead) (a b : List (List ℕ)) → head_at v.heads f ≡ Some h → AgreesOff (is_of_file f h) a b → EachWhole a → EachWhole b → (g : ℕ) (k : FileHead) → head_at v.heads g ≡ Some k → AgreesOnCarried k a b
   carried_keep f h a b there off whole_a whole_b g k at = carried_after (first.carried) second
     where
       m_other : (n : ℕ) → (n ≡ 1 + f → ⊥) → block_at (with_block f a b) n ≡ block_at a n
@@ -61,7 +61,7 @@ module _ (node : List ℕ) (size : ℕ) (v : Catalog) (long : length v.heads ≡
         | inr other ↦ ap length (m_other n other) ∙ whole_a n (let size = length-set a (1 + f) (block_at b (1 + f)) in omega (arith, below, size))
       ]
 
-      first : StandsIn k a (with_block f a b)
+      first : AgreesOnFile k a (with_block f a b)
       first = writes_apart.before area v.heads a (with_block f a b) fit (length-set a (1 + f) (block_at b (1 + f))) whole_m (λ n from. sym (m_other n (λ is. let below = head_below v.heads f h long there in absurd (omega (arith, from, is, below))))) g k at
 
       rest : AgreesOff (in_extent h) (with_block f a b) b
@@ -73,9 +73,9 @@ module _ (node : List ℕ) (size : ℕ) (v : Catalog) (long : length v.heads ≡
         ];
       }
 
-      second : StandsCarried k (with_block f a b) b
+      second : AgreesOnCarried k (with_block f a b) b
       second = let apart = writes_apart.in_file area v.heads f h (with_block f a b) b fit there rest whole_b in elim (cases_eq g f) [
-        | inl here ↦ let same : h ≡ k = one h k (sym there ∙ ap (head_at v.heads) (sym here) ∙ at) in subst (λ (x : FileHead). StandsCarried x (with_block f a b) b) same apart.1
+        | inl here ↦ let same : h ≡ k = one h k (sym there ∙ ap (head_at v.heads) (sym here) ∙ at) in subst (λ (x : FileHead). AgreesOnCarried x (with_block f a b) b) same apart.1
         | inr other ↦ (apart.0 g k other at).carried
       ]
         where
@@ -85,7 +85,7 @@ module _ (node : List ℕ) (size : ℕ) (v : Catalog) (long : length v.heads ≡
       rings : {s : Span} {x y z : List (List ℕ)} → SameRing s x y → SameRing s y z → SameRing s x z
       rings one two = record { size = two.size ∙ one.size; whole = two.whole; blocks = λ n from to. two.blocks n from to ∙ one.blocks n from to }
 
-      carried_after : StandsCarried k a (with_block f a b) → StandsCarried k (with_block f a b) b → StandsCarried k a b
+      carried_after : AgreesOnCarried k a (with_block f a b) → AgreesOnCarried k (with_block f a b) b → AgreesOnCarried k a b
       carried_after one two = record { after = λ c. rings (one.after c) (two.after c); before = λ c. rings (one.before c) (two.before c); save = λ c n in_it. one.save c n in_it ∙ two.save c n in_it }
 
   -- a block of the journal is none of a file's

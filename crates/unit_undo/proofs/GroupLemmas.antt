@@ -25,7 +25,7 @@ use Rattle.record_files.specs.Indexed as indexed_local
 use Rattle.unit_laws.specs.Units.{Map, IsUndoGroup, earliest_before}
 use Rattle.sequence_laws.specs.Undoing.{GoesBack}
 use Rattle.run_model.specs.World.{File}
-use Rattle.directory_model.specs.Files.{StandsCarried, head_at, file_at}
+use Rattle.directory_model.specs.Files.{AgreesOnCarried, head_at, file_at}
 use Rattle.directory_model.specs.Restoring.{bare_layout, CanRestoreBy, IsLeft, IsPlaceLeft, AreLeft, IsGrouped, IsPlaceGrouped, AreGrouped}
 use Rattle.unit_undo.specs.Steps.{IsPartlyUndone}
 use Rattle.unit_undo.specs.Way.{ArePartlyUndone, IsPlacePartly}
@@ -53,7 +53,7 @@ grouped_place a f (Some h) None left = absurd left
 grouped_place a f (Some h) (Some file) left = grouped_file a h file left.0
 
 -- what a file carries stands where nothing is written
-stands_itself : (a : List (List ℕ)) (h : FileHead) → EachWhole a → StandsCarried h a a
+stands_itself : (a : List (List ℕ)) (h : FileHead) → EachWhole a → AgreesOnCarried h a a
 stands_itself a h whole = record { after = λ m. record { size = refl; whole = whole; blocks = λ k from to. refl }; before = λ m. record { size = refl; whole = whole; blocks = λ k from to. refl }; save = λ m n in_it. refl }
 
 pub grouped_itself : (a : List (List ℕ)) (heads : List (Option FileHead)) (directory : List (Option File)) → EachWhole a → AreLeft a heads directory → AreGrouped a heads directory a heads
@@ -97,7 +97,7 @@ set_place a c (Some h) (Some g) first new file there named is =
     subst (λ (x : FileHead). IsGrouped a x g.history.live c new) (sym same) (subst (λ (x : File). IsGrouped a first x.history.live c new) (sym one) is)
 
 pub grouped_more : (a b c : List (List ℕ)) (heads mid : List (Option FileHead)) (directory : List (Option File)) (f : ℕ) (first h new : FileHead) (file : File) → AreGrouped a heads directory b mid → f < length mid → head_at heads f ≡ Some first → file_at directory f ≡ Some file
-    → IsGrouped a first file.history.live c new → ((g : ℕ) (other : FileHead) → g ≢ f → head_at mid g ≡ Some other → AgreesOn other b c) → ((g : ℕ) (k : FileHead) → head_at heads g ≡ Some k → StandsCarried k b c) → AreGrouped a heads directory c (slice_set mid f (Some new))
+    → IsGrouped a first file.history.live c new → ((g : ℕ) (other : FileHead) → g ≢ f → head_at mid g ≡ Some other → AgreesOn other b c) → ((g : ℕ) (k : FileHead) → head_at heads g ≡ Some k → AgreesOnCarried k b c) → AreGrouped a heads directory c (slice_set mid f (Some new))
 grouped_more a b c heads mid directory f first h new file are below there named is others stands = record {
   long = length-set mid f (Some new) ∙ are.long;
   each = λ g. elim (cases_eq f g) [
@@ -113,7 +113,7 @@ grouped_more a b c heads mid directory f first h new file are below there named 
     rings : {s : Span} {x y z : List (List ℕ)} → SameRing s x y → SameRing s y z → SameRing s x z
     rings one two = record { size = two.size ∙ one.size; whole = two.whole; blocks = λ k from to. two.blocks k from to ∙ one.blocks k from to }
 
-    carried_on : {k : FileHead} → StandsCarried k a b → StandsCarried k b c → StandsCarried k a c
+    carried_on : {k : FileHead} → AgreesOnCarried k a b → AgreesOnCarried k b c → AgreesOnCarried k a c
     carried_on one two = record { after = λ m. rings (one.after m) (two.after m); before = λ m. rings (one.before m) (two.before m); save = λ m n in_it. one.save m n in_it ∙ two.save m n in_it }
 
 -- What a branch changed is partly undone, and what it did not stands.

@@ -15,7 +15,7 @@ use Rattle.volume.specs.declared.catalog.Catalog.{Catalog}
 use Rattle.volume.specs.Catalogs.{IsSound, TellsCatalog}
 use Rattle.volume.specs.State.{VolumeState}
 use Rattle.run_model.specs.World.{File}
-use Rattle.directory_model.specs.Files.{StandsCarried, head_at, file_at}
+use Rattle.directory_model.specs.Files.{AgreesOnCarried, head_at, file_at}
 use Rattle.directory_model.specs.Restoring.{AreGrouped, IsGrouped, IsPlaceGrouped}
 use Rattle.volume_files.specs.Staging.{StagesFile, is_of_file}
 use Rattle.volume_files.proofs.Places.{head_below}
@@ -234,16 +234,16 @@ module _ (u : Undo) (f : ℕ) (first h new : FileHead) (file : File) (node : Lis
   others_still k other differs at = others_keep node v.store.disk.size v.catalog long sound f h g.now c there agrees k other differs at
 
   -- what each file carries stands: it is the same for a head of the file as it is now
-  pub carried_still : (k : ℕ) (old : FileHead) → head_at u.heads k ≡ Some old → StandsCarried old g.now c
+  pub carried_still : (k : ℕ) (old : FileHead) → head_at u.heads k ≡ Some old → AgreesOnCarried old g.now c
   carried_still k old at = place (head_at v.catalog.heads k) refl (file_at u.directory k) (subst (λ o. IsPlaceGrouped u.content o (file_at u.directory k) g.now (head_at v.catalog.heads k)) at (g.grouped.each k))
     where
-      place : (m : Option FileHead) → head_at v.catalog.heads k ≡ m → (p : Option File) → IsPlaceGrouped u.content (Some old) p g.now m → StandsCarried old g.now c
+      place : (m : Option FileHead) → head_at v.catalog.heads k ≡ m → (p : Option File) → IsPlaceGrouped u.content (Some old) p g.now m → AgreesOnCarried old g.now c
       place None here None is = absurd is
       place None here (Some x) is = absurd is
       place (Some mid) here None is = absurd is
       place (Some mid) here (Some x) is =
           let stands = carried_keep node v.store.disk.size v.catalog long sound f h g.now c there agrees g.journal.whole (if_told w.store.current c EachWhole now changes.whole) k mid here in
-          let same = subst (λ (y : FileHead). StandsCarried y g.now c) is.same.is stands in
+          let same = subst (λ (y : FileHead). AgreesOnCarried y g.now c) is.same.is stands in
           record { after = same.after; before = same.before; save = same.save }
 
   unfoldable pub still_going : head_at u.heads f ≡ Some first → file_at u.directory f ≡ Some file → IsGrouped u.content first file.history.live c new → IsPartlyUndone (first.organization ≡ Sequential) (changes_in u file) (map_of first u.content) (map_of new c) → IsGoing u w

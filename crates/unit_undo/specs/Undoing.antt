@@ -1,5 +1,7 @@
 -- What becomes of a volume while a unit is undone in it.
 use Rattle.std.specs.Prelude.{◌≡◌, ◌⊎◌, ℕ, ◌*◌, ◌≤◌, Bool, List, Option, Some, None, IfSome, length, option_map, slice_set}
+use Rattle.block_disk.specs.Sizes.{greatest_disk_size, least_disk_size}
+use Rattle.vms_model.specs.Limits.{file_limit}
 use Rattle.careful_write.specs.State.{EachWhole, IsReady, content}
 use Rattle.careful_write.specs.Steps.{Quiet}
 use Rattle.file_base.specs.declared.head.FileHead.{FileHead}
@@ -57,11 +59,11 @@ pub record IsFew (steps : ℕ) (v : VolumeState) : Type 0 where
 pub record MayUndo (file : ℕ) (h : FileHead) (steps : ℕ) (v : VolumeState) : Type 0 where
   pub ready : IsReady v.store
   pub there : head_at v.catalog.heads file ≡ Some h
-  pub whole : length v.catalog.heads ≡ 64
+  pub whole : length v.catalog.heads ≡ file_limit
   pub node : List ℕ
   pub sound : IsSound node v.store.disk.size v.catalog
-  pub least : 4096 ≤ v.store.disk.size
-  pub most : v.store.disk.size ≤ 65536
+  pub least : least_disk_size ≤ v.store.disk.size
+  pub most : v.store.disk.size ≤ greatest_disk_size
   pub frames : 32 ≤ free_frames v.store.pool
   pub ring : IsRing v.catalog.ru v.store.disk
   pub few : IsFew steps v
@@ -71,8 +73,8 @@ pub record MayGoOn (steps : ℕ) (v : VolumeState) : Type 0 where
   pub ready : IsReady v.store
   pub node : List ℕ
   pub sound : IsSound node v.store.disk.size v.catalog
-  pub least : 4096 ≤ v.store.disk.size
-  pub most : v.store.disk.size ≤ 65536
+  pub least : least_disk_size ≤ v.store.disk.size
+  pub most : v.store.disk.size ≤ greatest_disk_size
   pub frames : 32 ≤ free_frames v.store.pool
   pub ring : IsRing v.catalog.ru v.store.disk
   pub few : IsFew steps v

@@ -1,6 +1,7 @@
 -- What a unit's undo leaves on its way, and at its end.
 use Rattle.std.specs.Prelude.{◌≡◌, ℕ, ◌+◌, ◌-◌, ◌<◌, ◌≤◌, List, Option, Some, None, length, map}
 use Rattle.block_disk.specs.Blocks.{block_at}
+use Rattle.block_disk.specs.Sizes.{content_start}
 use Rattle.careful_write.specs.State.{EachWhole, Leaves, content}
 use Rattle.file_base.specs.declared.head.FileHead.{FileHead}
 use Rattle.file_base.specs.declared.head.Organization.TheVariants.{Sequential}
@@ -25,7 +26,7 @@ use Rattle.unit_undo.specs.Steps.{ArePositions, IsPartlyUndone}
 pub record KeepsJournal (s : Span) (a c : List (List ℕ)) : Type 0 where
   pub size : length c ≡ length a
   pub whole : EachWhole c
-  pub blocks : (n : ℕ) → 65 ≤ n → n < s.start - 518 + s.blocks → block_at c n ≡ block_at a n
+  pub blocks : (n : ℕ) → 65 ≤ n → n < s.start - content_start + s.blocks → block_at c n ≡ block_at a n
 
 -- What a branch changed in a file is partly undone.
 abbrev pub IsPlacePartly : Id → List (List ℕ) → Option FileHead → Option File → List (List ℕ) → Option FileHead → Type 0
@@ -43,7 +44,7 @@ ArePartlyUndone serial a heads directory b new = (f : ℕ) → IsPlacePartly ser
 pub record IsOnTheWay (serial : Id) (a : List (List ℕ)) (heads : List (Option FileHead)) (directory : List (Option File)) (k : Catalog) (c : List (List ℕ)) : Type 0 where
   pub new : List (Option FileHead)
   pub tells : TellsCatalog (record k { heads = new }) c
-  pub sound : (node : List ℕ) → IsSound node (length a + 518) (record k { heads = heads }) → IsSound node (length a + 518) (record k { heads = new })
+  pub sound : (node : List ℕ) → IsSound node (length a + content_start) (record k { heads = heads }) → IsSound node (length a + content_start) (record k { heads = new })
   pub grouped : AreGrouped a heads directory c new
   pub partly : ArePartlyUndone serial a heads directory c new
   pub journal : KeepsJournal k.ru a c
@@ -53,7 +54,7 @@ pub record IsUnderWay (serial : Id) (a : List (List ℕ)) (heads : List (Option 
   pub now : List (List ℕ)
   pub told : v.store.current ≡ Some now
   pub tells : TellsCatalog v.catalog now
-  pub size : length a + 518 ≡ v.store.disk.size
+  pub size : length a + content_start ≡ v.store.disk.size
   pub sound : (node : List ℕ) → IsSound node v.store.disk.size (record v.catalog { heads = heads }) → IsSound node v.store.disk.size v.catalog
   pub grouped : AreGrouped a heads directory now v.catalog.heads
   pub partly : ArePartlyUndone serial a heads directory now v.catalog.heads

@@ -1,6 +1,8 @@
 // What a unit changed is set back.
 ghost use Rattle.std.specs.Prelude.{◌≡◌, ◌⊎◌, ◌≤◌, ◌<◌, ◌+◌, ◌*◌, ◌^◌, ℕ, List, [], Option, Some, None, ◌≢◌, OnOk, OnErr, IfOk, IfSome, length};
 ghost use Rattle.std.specs.List.{All};
+ghost use Rattle.vms_model.specs.Limits.{change_limit};
+ghost use Rattle.block_disk.specs.Sizes.{greatest_disk_size, least_disk_size};
 ghost use Rattle.careful_write.specs.Down.{Counts};
 ghost use Rattle.careful_write.specs.State.{IsEither, IsIdle, IsReady, Leaves, content};
 ghost use Rattle.careful_write.specs.Steps.{Quiet};
@@ -429,7 +431,7 @@ fn read_keys<D: Disk>(
 ) -> Result<(), Down>
     requires ready { IsReady volume.old.store }
     requires ring { IsRing volume.old.catalog.ru volume.old.store.disk }
-    requires few { length positions.now ≤ 1024 }
+    requires few { length positions.now ≤ change_limit }
     requires low { All (λ p. p ≤ 2 ^ 62) positions.now }
     ensures keys { OnOk result (TellsUnit positions.now keys.new volume.old) }
     ensures same { OnOk result (SameVolume volume.old volume.new) }
@@ -458,11 +460,11 @@ pub fn undo_unit<D: Disk>(
     requires most_left { most ≤ 26 }
     requires idle { IsIdle volume.old.store }
     requires sound { (node : List ℕ) × IsSound node volume.old.store.disk.size volume.old.catalog }
-    requires least { 4096 ≤ volume.old.store.disk.size }
-    requires most { volume.old.store.disk.size ≤ 65536 }
+    requires least { least_disk_size ≤ volume.old.store.disk.size }
+    requires most { volume.old.store.disk.size ≤ greatest_disk_size }
     requires frames { 32 ≤ free_frames volume.old.store.pool }
     requires ring { IsRing volume.old.catalog.ru volume.old.store.disk }
-    requires few { length positions.now ≤ 1024 }
+    requires few { length positions.now ≤ change_limit }
     requires low { All (λ p. p ≤ 2 ^ 62) positions.now }
     ensures goes { OnOk result (GoesOn volume.old volume.new) }
     ensures room { OnOk result (length volume.new.store.touched ≤ 17 * most) }

@@ -1,5 +1,6 @@
 -- What one group makes of the log of a volume.
 use Rattle.std.specs.Prelude.{◌≡◌, ℕ, ◌+◌, ◌<◌, ◌≤◌, ◌⊎◌, true, false, Option, None, IfSome, length, option_map, slice_set}
+use Rattle.vms_model.specs.Blocks.{log_start}
 use Rattle.commit_protocol.specs.Messages.{LogRecord}
 use Rattle.log_laws.specs.Slots.{Slots, has_free, has_slot, settled_in}
 use Rattle.lmcp_log.specs.Keeping.{Keeps}
@@ -10,7 +11,7 @@ use Rattle.volume.specs.State.{VolumeState}
 
 -- The log is that of a volume: it has as many slots as lie before the journal, and what they have is what the content tells, with the staged blocks.
 pub record HasLog (ss : Slots) (v : VolumeState) : Type 0 where
-  pub before : 584 + length ss ≤ v.catalog.ru.start
+  pub before : log_start + length ss ≤ v.catalog.ru.start
   pub keeps : IfSome v.store.current (Keeps ss)
 
 -- A branch's record may be put into the log: it is of that branch, it waits for what its kind may wait for, and there is a slot for it.

@@ -1,6 +1,8 @@
 // A prepared branch is aborted.
 ghost use Rattle.std.specs.Prelude.{◌≡◌, ◌≤◌, ◌<◌, ◌^◌, ℕ, true, None, IfSome, IsSome, OnOk, OnErr, ◌+◌, length};
 ghost use Rattle.std.specs.List.{All};
+ghost use Rattle.vms_model.specs.Limits.{branch_limit};
+ghost use Rattle.vms_model.specs.Blocks.{log_start};
 ghost use Rattle.careful_write.specs.Down.{Counts};
 ghost use Rattle.careful_write.specs.State.{IsIdle};
 ghost use Rattle.log_laws.specs.Slots.{forgotten};
@@ -42,14 +44,14 @@ pub fn abort_logged<D: Disk>(
     image: &mut Record,
     entry: &mut EntryBuf,
 ) -> Result<(), Down>
-    requires place { place < 64 }
+    requires place { place < branch_limit }
     requires unit { IsSome (unit_at units.old.places place) }
     requires may { MayAbort volume.old }
     requires low { IfSome (unit_at units.old.places place) (λ u. All (λ p. p ≤ 2 ^ 62) u.positions) }
     requires room { IfSome (unit_at units.old.places place) (λ u. HasRoom u.positions volume.old) }
     requires rooms { IfSome (unit_at units.old.places place) (λ u. ImagesHaveRoom u.positions u.files volume.old) }
-    requires beside { IfSome (unit_at units.old.places place) (λ u. StandBehind u.files (584 + length log.old) volume.old.catalog.heads) }
-    requires before { 584 + length log.old ≤ volume.old.catalog.ru.start }
+    requires beside { IfSome (unit_at units.old.places place) (λ u. StandBehind u.files (log_start + length log.old) volume.old.catalog.heads) }
+    requires before { log_start + length log.old ≤ volume.old.catalog.ru.start }
     ensures units { units.new ≡ without_place place units.old }
     ensures slots { OnOk result (log.new ≡ forgotten (serial_of branch.now.serial) log.old) }
     ensures aborts { OnOk result (IfSome (unit_at units.old.places place) (λ u. AbortsLogged (record { positions = u.positions; files = u.files; tid = branch.now.tid; serial = branch.now.serial; reason = reason; moment = moment.0; left = units.new.places }) log.old log.new volume.old volume.new)) }

@@ -1,5 +1,7 @@
 // A branch is committed.
 ghost use Rattle.std.specs.Prelude.{◌≡◌, ◌≤◌, ◌<◌, ◌+◌, ◌-◌, ℕ, true, false, Option, Some, None, IfSome, OnOk, OnErr, length, option_copied, if◌then◌else◌};
+ghost use Rattle.block_disk.specs.Sizes.{least_disk_size};
+ghost use Rattle.vms_model.specs.Blocks.{log_start};
 ghost use Rattle.careful_write.specs.Down.{Counts};
 ghost use Rattle.careful_write.specs.State.{IsIdle};
 ghost use Rattle.journal_model.specs.Ring.{ring_size};
@@ -47,11 +49,11 @@ pub fn commit_logged<D: Disk>(
     requires idle { IsIdle volume.old.store }
     requires holds { Holds volume.old }
     requires ring { IsRing volume.old.catalog.ru volume.old.store.disk }
-    requires least { 4096 ≤ volume.old.store.disk.size }
+    requires least { least_disk_size ≤ volume.old.store.disk.size }
     requires room { has_changed ≡ true → volume.old.catalog.ru.end - volume.old.catalog.ru.first + 48 ≤ ring_size volume.old.catalog.ru }
     requires rooms { has_changed ≡ true → AllHaveRoom files.now 48 volume.old.catalog.heads volume.old.store.disk }
-    requires beside { has_changed ≡ true → StandBehind files.now (584 + length log.old) volume.old.catalog.heads }
-    requires before { 584 + length log.old ≤ volume.old.catalog.ru.start }
+    requires beside { has_changed ≡ true → StandBehind files.now (log_start + length log.old) volume.old.catalog.heads }
+    requires before { log_start + length log.old ≤ volume.old.catalog.ru.start }
     requires may { MayHave (serial_of branch.now.serial) (slot_of (option_copied logged)) log.old }
     ensures slots { log.new ≡ settled_in (serial_of branch.now.serial) (slot_of (option_copied logged.entry)) log.old }
     ensures makes { OnOk result (MakesLogged (record { files = files.now; tid = branch.now.tid; serial = branch.now.serial; ending = ending.Commit; moment = moment.0; entry = entry_if has_changed (settled_entry (tid_of branch.now.tid) (serial_of branch.now.serial) Commit moment.0); left = left.now.places }) (slot_of (option_copied logged.entry)) log.old log.new volume.old volume.new) }

@@ -1,5 +1,6 @@
 // Records of the log, in the groups of a volume.
 ghost use Rattle.std.specs.Prelude.{◌≡◌, ◌≤◌, ◌<◌, ◌+◌, ◌⊎◌, ℕ, true, false, Option, Some, None, IfSome, OnOk, OnErr, length, option_copied};
+ghost use Rattle.vms_model.specs.Blocks.{log_start};
 ghost use Rattle.careful_write.specs.Down.{Counts};
 ghost use Rattle.careful_write.specs.State.{IsIdle, IsReady};
 ghost use Rattle.lmcp_log.specs.Keeping.{Keeps};
@@ -23,7 +24,7 @@ pub fn set_record<D: Disk>(
     serial: Serial,
     logged: Option<&LogRec>,
 )
-    requires before { 584 + length log.old ≤ volume.old.catalog.ru.start }
+    requires before { log_start + length log.old ≤ volume.old.catalog.ru.start }
     requires may { MayHave (serial_of serial) (slot_of (option_copied logged)) log.old }
     requires ring { volume.old.catalog.ru.start ≤ volume.old.store.disk.size }
     requires staged { length volume.old.store.touched ≤ 480 }
@@ -57,7 +58,7 @@ pub fn write_record<D: Disk>(
 ) -> Result<(), Down>
     requires idle { IsIdle volume.old.store }
     requires holds { Holds volume.old }
-    requires before { 584 + length log.old ≤ volume.old.catalog.ru.start }
+    requires before { log_start + length log.old ≤ volume.old.catalog.ru.start }
     requires may { MayHave (serial_of serial) (slot_of (option_copied logged)) log.old }
     requires ring { volume.old.catalog.ru.start ≤ volume.old.store.disk.size }
     ensures slots { log.new ≡ settled_in (serial_of serial) (slot_of (option_copied logged.entry)) log.old }

@@ -1,5 +1,7 @@
 // A branch is prepared.
 ghost use Rattle.std.specs.Prelude.{◌≡◌, ◌≤◌, ◌<◌, ◌+◌, ◌-◌, ℕ, true, false, Option, Some, None, IfSome, IfErr, OnOk, OnErr, length, option_map, if◌then◌else◌};
+ghost use Rattle.block_disk.specs.Sizes.{least_disk_size};
+ghost use Rattle.vms_model.specs.Blocks.{log_start};
 ghost use Rattle.careful_write.specs.Down.{Counts};
 ghost use Rattle.careful_write.specs.Reads.{SameButReads};
 ghost use Rattle.careful_write.specs.State.{IsIdle, IsReady};
@@ -47,8 +49,8 @@ fn enter_prepared<D: Disk>(
     entry: &mut EntryBuf,
 ) -> Result<(), Down>
     requires ring { IsRing volume.old.catalog.ru volume.old.store.disk }
-    requires behind { 584 ≤ volume.old.catalog.ru.start }
-    requires least { 4096 ≤ volume.old.store.disk.size }
+    requires behind { log_start ≤ volume.old.catalog.ru.start }
+    requires least { least_disk_size ≤ volume.old.store.disk.size }
     requires room { has_changed ≡ true → volume.old.catalog.ru.end - volume.old.catalog.ru.first + 48 ≤ ring_size volume.old.catalog.ru }
     requires staged { length volume.old.store.touched ≤ 450 }
     ensures current { OnOk result (volume.new.store.current ≡ option_map (content_with (vote_entry has_changed (tid_of branch.now.tid) (serial_of branch.now.serial)) volume.old.catalog.ru) volume.old.store.current) }
@@ -79,9 +81,9 @@ pub fn enter_vote<D: Disk>(
     requires idle { IsIdle volume.old.store }
     requires holds { Holds volume.old }
     requires ring { IsRing volume.old.catalog.ru volume.old.store.disk }
-    requires least { 4096 ≤ volume.old.store.disk.size }
+    requires least { least_disk_size ≤ volume.old.store.disk.size }
     requires room { has_changed ≡ true → volume.old.catalog.ru.end - volume.old.catalog.ru.first + 48 ≤ ring_size volume.old.catalog.ru }
-    requires before { 584 + length log.old ≤ volume.old.catalog.ru.start }
+    requires before { log_start + length log.old ≤ volume.old.catalog.ru.start }
     requires may { MayPut (serial_of branch.now.serial) (vote_record (tid_of branch.now.tid) (serial_of branch.now.serial) rms.now) log.old }
     ensures slots { log.new ≡ put_in (vote_record (tid_of branch.now.tid) (serial_of branch.now.serial) rms.now) log.old }
     ensures makes { OnOk result (MakesVote (vote_record (tid_of branch.now.tid) (serial_of branch.now.serial) rms.now) (vote_entry has_changed (tid_of branch.now.tid) (serial_of branch.now.serial)) log.old log.new volume.old volume.new) }

@@ -8,7 +8,7 @@ use Rattle.volume.specs.declared.catalog.Catalog.{Catalog}
 use Rattle.volume.specs.Catalogs.{IsSound}
 use Rattle.volume.specs.Limits.{data_area}
 use Rattle.volume_format.specs.Home.{sizes_of}
-use Rattle.directory_model.specs.Files.{Fit, StandsIn, head_at}
+use Rattle.directory_model.specs.Files.{AgreesOnFile, Fit, head_at}
 use Rattle.directory_model.proofs.Apart.{writes_apart}
 use Rattle.run_model.specs.World.{Node}
 use Rattle.volume_model.specs.Laws.{KeepsNames}
@@ -37,7 +37,7 @@ module _ (node : List ℕ) (disk : ℕ) (v : Catalog) (sound : IsSound node disk
     blocks = λ k from to. other_block a q k bytes (λ is. let start = sound.ru_start in absurd (omega (arith, start, from, is, front)));
   }
 
-  pub extents_behind : EachWhole (slice_set a q bytes) → length v.heads ≡ 64 → (f : ℕ) (h : FileHead) → head_at v.heads f ≡ Some h → StandsIn h a (slice_set a q bytes)
+  pub extents_behind : EachWhole (slice_set a q bytes) → length v.heads ≡ 64 → (f : ℕ) (h : FileHead) → head_at v.heads f ≡ Some h → AgreesOnFile h a (slice_set a q bytes)
   extents_behind whole long = writes_apart.before (data_area (sizes_of v.home)) v.heads a (slice_set a q bytes) (fit node disk v sound long) (length-set a q bytes) whole (λ n from. sym (other_block a q n bytes (λ is. absurd (omega (arith, from, is, front)))))
 
 -- each block is whole still

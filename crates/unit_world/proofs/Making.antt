@@ -21,7 +21,7 @@ use Rattle.lmcp_log.specs.Keeping.{SameSlots}
 use Rattle.unit_laws.specs.Journal.{ChangeEntry, JournalEntry, PreparedEntry, SettledEntry, is_of_file}
 use Rattle.run_model.specs.World.{Creates, File, Node, acted, find_file, free_place}
 use Rattle.world_laws.proofs.OrderedLemmas.{creates_keep_order}
-use Rattle.directory_model.specs.Files.{AreFiles, IsCarried, IsFile, NoneNamed, StandsIn, file_at, head_at}
+use Rattle.directory_model.specs.Files.{AgreesOnFile, AreFiles, IsCarried, IsFile, NoneNamed, file_at, head_at}
 use Rattle.directory_model.proofs.Acts.{keeps_files}
 use Rattle.directory_model.proofs.Apart.{extent_holds, lie_apart, writes_apart}
 use Rattle.directory_model.proofs.Finding.{finds_files, finds_places}
@@ -84,7 +84,7 @@ free s v w n h b kept order run same size agrees told whole = record {
     off : AgreesOff (in_extent h) a b
     off = told_off h a b v.store.current w.store.current kept.told told agrees
 
-    agree : (f : ℕ) (other : FileHead) → head_at v.catalog.heads f ≡ Some other → StandsIn other a b
+    agree : (f : ℕ) (other : FileHead) → head_at v.catalog.heads f ≡ Some other → AgreesOnFile other a b
     agree = writes_apart.in_free (data_area (sizes_of v.catalog.home)) v.catalog.heads h.start (h.alloc * h.bucket) a b (fit v.catalog.home.node v.store.disk.size v.catalog order.sound order.heads) run (record { size = off.size; others = off.others }) whole
 
     slots : SameSlots (length n.durable.log) a b
@@ -128,7 +128,7 @@ module _ (s : UnitsState) (v : VolumeState) (n : Node) (f : ℕ) (h : FileHead) 
   front : 519 + f - 518 < 66
   front = omega (arith, below)
 
-  agree : (g : ℕ) (k : FileHead) → head_at v.catalog.heads g ≡ Some k → StandsIn k kept.content b
+  agree : (g : ℕ) (k : FileHead) → head_at v.catalog.heads g ≡ Some k → AgreesOnFile k kept.content b
   agree = extents_behind v.catalog.home.node v.store.disk.size v.catalog order.sound kept.content (519 + f - 518) bytes front whole order.heads
 
   own : AgreesOn h kept.content b

@@ -22,7 +22,7 @@ use Rattle.world_laws.specs.Ordered.{IsJournalInOrder}
 use Rattle.run_model.specs.World.{AreUnitsOf, File, Mark, Marks, ForUnits, BeginsImages, EndsImages, Saves, Node, acted, marked_file, saved_file, with_file}
 use Rattle.world_laws.proofs.IdLemmas.{id_itself}
 use Rattle.world_laws.proofs.OrderedLemmas.{marks_keep_order, saves_keep_order}
-use Rattle.directory_model.specs.Files.{AreFiles, IsCarried, IsFile, IsFoundAt, IsNamed, StandsIn, file_at, head_at}
+use Rattle.directory_model.specs.Files.{AgreesOnFile, AreFiles, IsCarried, IsFile, IsFoundAt, IsNamed, file_at, head_at}
 use Rattle.directory_model.specs.Laws.{begun_head, saved_head}
 use Rattle.directory_model.specs.Restoring.{AreRestorable}
 use Rattle.restart_laws.specs.Restorable.{SameBuckets}
@@ -100,7 +100,7 @@ module _ (s : UnitsState) (v : VolumeState) (n : Node) (f : ℕ) (h new : FileHe
   front : 519 + f - 518 < 66
   front = let within = within_list v.catalog.heads f h there in let long = order.heads in omega (arith, within, long)
 
-  pub agree : (g : ℕ) (k : FileHead) → head_at v.catalog.heads g ≡ Some k → StandsIn k kept.content b
+  pub agree : (g : ℕ) (k : FileHead) → head_at v.catalog.heads g ≡ Some k → AgreesOnFile k kept.content b
   agree = extents_behind v.catalog.home.node v.store.disk.size v.catalog order.sound kept.content (519 + f - 518) bytes front whole order.heads
 
   pub here : (file : File) × (file_at n.durable.directory f ≡ Some file) × IsFile kept.content h file × IsCarried kept.content f h file.carried

@@ -1,5 +1,6 @@
 // Keys of records.
 ghost use Rattle.std.specs.Prelude.{◌≡◌, ℕ, ◌≤◌, List, length, Some, None, ◌&&◌, nat_le, if◌then◌else◌};
+ghost use Rattle.vms_model.specs.Limits.{key_limit};
 
 use crate::short::Short;
 use std::marker::Model;
@@ -15,7 +16,7 @@ impl Model for KeyText {
 
     ghost view = { λ k. k.text };
 
-    ghost invariant = { λ k. (1 ≤ length k.text) × (length k.text ≤ 64) };
+    ghost invariant = { λ k. (1 ≤ length k.text) × (length k.text ≤ key_limit) };
 
     ghost inverse = { λ bytes. record { text = bytes } };
 }
@@ -23,7 +24,7 @@ impl Model for KeyText {
 impl KeyText {
     /// The key of these bytes. None exactly where they are not 1 to 64.
     pub fn new(bytes: &[u8]) -> Option<KeyText>
-        ensures { result ≡ (if nat_le 1 (length bytes.now) && nat_le (length bytes.now) 64 then Some bytes.now else None) }
+        ensures { result ≡ (if nat_le 1 (length bytes.now) && nat_le (length bytes.now) key_limit then Some bytes.now else None) }
     {
         if bytes.is_empty() || bytes.len() > 64 {
             return None;
@@ -37,7 +38,7 @@ impl KeyText {
     pub fn bytes(&self) -> &[u8]
         ensures value { result.now ≡ self.now }
         ensures some { 1 ≤ length self.now }
-        ensures few { length self.now ≤ 64 }
+        ensures few { length self.now ≤ key_limit }
     {
         self.text.bytes()
     }

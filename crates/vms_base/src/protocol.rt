@@ -1,5 +1,6 @@
 // What the messages of the commit protocol, the events of resource managers and the records of the log are made of.
 ghost use Rattle.std.specs.Prelude.{◌≡◌, ◌<◌, ◌≤◌, [], ◌∷◌, ◌++◌, length};
+ghost use Rattle.vms_model.specs.Limits.{bid_limit};
 
 use crate::ids::{Serial, Tid};
 use crate::names::RmName;
@@ -56,13 +57,14 @@ pub struct SerialList {
 
 impl Model for SerialList {
     ghost use Rattle.std.specs.Prelude.{◌≡◌, ◌≤◌, List, take, length};
+    ghost use Rattle.vms_model.specs.Limits.{bid_limit};
     ghost use Rattle.vms_base.specs.declared.ids.Serial.{Serial};
 
     ghost Value = { List Serial };
 
     ghost view = { λ l. take l.used l.places };
 
-    ghost invariant = { λ l. (l.used ≤ 15) × (length l.places ≡ 15) };
+    ghost invariant = { λ l. (l.used ≤ bid_limit) × (length l.places ≡ bid_limit) };
 }
 
 impl SerialList {
@@ -79,14 +81,14 @@ impl SerialList {
     /// The serials in order.
     pub fn items(&self) -> &[Serial]
         ensures value { result.now ≡ self.now }
-        ensures few { length self.now ≤ 15 }
+        ensures few { length self.now ≤ bid_limit }
     {
         &self.places[..self.used]
     }
 
     /// Adds a serial at the end.
     pub fn push(&mut self, serial: Serial)
-        requires { length self.old < 15 }
+        requires { length self.old < bid_limit }
         ensures { self.new ≡ self.old ++ serial ∷ [] }
     {
         self.places[self.used] = serial;

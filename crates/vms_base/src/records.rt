@@ -1,5 +1,6 @@
 // Records' bytes.
 ghost use Rattle.std.specs.Prelude.{◌≡◌, ℕ, ◌≤◌, List, [], length, take, IfOk};
+ghost use Rattle.vms_model.specs.Limits.{record_limit};
 
 use std::alloc::{AllocError, Global};
 use std::marker::Model;
@@ -18,7 +19,7 @@ impl Model for Record {
 
     ghost view = { λ r. take r.used r.place.items };
 
-    ghost invariant = { λ r. (length r.place.items ≡ 8160) × (r.used ≤ 8160) };
+    ghost invariant = { λ r. (length r.place.items ≡ record_limit) × (r.used ≤ record_limit) };
 }
 
 // Writes these bytes over the first ones.
@@ -41,7 +42,7 @@ impl Record {
 
     /// Takes these bytes in place of the earlier ones.
     pub fn set(&mut self, bytes: &[u8])
-        requires { length bytes.now ≤ 8160 }
+        requires { length bytes.now ≤ record_limit }
         ensures { self.new ≡ bytes.now }
     {
         put_first(&mut self.place, bytes);
@@ -51,7 +52,7 @@ impl Record {
     /// The record's bytes.
     pub fn bytes(&self) -> &[u8]
         ensures value { result.now ≡ self.now }
-        ensures few { length self.now ≤ 8160 }
+        ensures few { length self.now ≤ record_limit }
     {
         &self.place[..self.used]
     }

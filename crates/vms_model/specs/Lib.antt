@@ -6,3 +6,5 @@ pub mod Times
 pub mod Texts
 pub mod Transactions
 pub mod Keys
+pub mod Limits
+pub mod Blocks

@@ -1,6 +1,8 @@
 -- What the home block, the directory and the journal's block of a content tell. The content is the list of a disk's blocks from 518 on.
 use Rattle.std.specs.Prelude.{◌≡◌, ℕ, ◌+◌, ◌<◌, List, Option, Some, None, length, slice_index_or, ⊤}
 use Rattle.block_disk.specs.Blocks.{block_at}
+use Rattle.vms_model.specs.Limits.{file_limit}
+use Rattle.vms_model.specs.Blocks.{log_start}
 use Rattle.file_base.specs.declared.head.FileHead.{FileHead}
 use Rattle.volume_format.specs.declared.head.DirectoryEntry.{DirectoryEntry}
 use Rattle.volume_format.specs.declared.head.DirectoryEntry.TheVariants as entry
@@ -32,12 +34,12 @@ TellsHeads heads content count = (f : ℕ) → f < count → TellsEntry (block_a
 pub record TellsCatalog (v : Catalog) (content : List (List ℕ)) : Type 0 where
   pub ranges : IsHome v.home
   pub home : HasHome (block_at content 0) v.home
-  pub heads : TellsHeads v.heads content 64
+  pub heads : TellsHeads v.heads content file_limit
   pub ru : HasRu (block_at content 65) v.ru
 
 -- the content's home and directory are these alone
 abbrev pub TellsOnly : Catalog → List (List ℕ) → Type 0
-TellsOnly v content = (u : Catalog) → TellsCatalog u content → length u.heads ≡ 64 → (u.home ≡ v.home) × (u.heads ≡ v.heads)
+TellsOnly v content = (u : Catalog) → TellsCatalog u content → length u.heads ≡ file_limit → (u.home ≡ v.home) × (u.heads ≡ v.heads)
 
 -- no file of a lower number has this name
 abbrev pub NewName : List (Option FileHead) → ℕ → List ℕ → Type 0
@@ -53,10 +55,10 @@ pub record IsSound (node : List ℕ) (disk : ℕ) (v : Catalog) : Type 0 where
   pub version : v.home.version ≡ 1
   pub sizes : SizesFit disk (sizes_of v.home)
   pub home : HomeFits node v.home
-  pub files : (f : ℕ) → f < 64 → EntryFits v.home.greatest_moment.0 (head_at v.heads f)
-  pub names : (f : ℕ) → f < 64 → IsNew v.heads f (head_at v.heads f)
+  pub files : (f : ℕ) → f < file_limit → EntryFits v.home.greatest_moment.0 (head_at v.heads f)
+  pub names : (f : ℕ) → f < file_limit → IsNew v.heads f (head_at v.heads f)
   pub extents : (i : ℕ) → i < 256 → FitsAt (data_area (sizes_of v.home)) (all_extents v.heads) i
-  pub ru_start : v.ru.start ≡ 584 + v.home.slots
+  pub ru_start : v.ru.start ≡ log_start + v.home.slots
   pub ru_blocks : v.ru.blocks ≡ v.home.ru_blocks
 
 -- a catalog stands on the home block, the directory and the journal's block alone: contents that agree there tell the same

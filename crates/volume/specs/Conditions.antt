@@ -1,6 +1,9 @@
 -- The first five conditions of a valid volume, each at the blocks at which it is tested.
 use Rattle.std.specs.Prelude.{◌≡◌, ℕ, ◌+◌, ◌-◌, ◌*◌, ◌<◌, ◌≤◌, Bool, true, List, Option, Some, length}
 use Rattle.block_disk.specs.Blocks.{block_at}
+use Rattle.block_disk.specs.Sizes.{content_start}
+use Rattle.vms_model.specs.Limits.{file_limit}
+use Rattle.vms_model.specs.Blocks.{directory_start, home_block}
 use Rattle.file_base.specs.declared.head.FileHead.{FileHead}
 use Rattle.volume_format.specs.declared.home.Home.{Home}
 use Rattle.volume_format.specs.declared.home.Sizes.{Sizes}
@@ -52,24 +55,24 @@ pub record IsPlaced (content : List (List ℕ)) (f : ℕ) : Type 0 where
   pub ranges : IsHome home
   pub stands : HasHome (block_at content 0) home
   pub heads : List (Option FileHead)
-  pub count : length heads ≡ 64
-  pub tells : TellsHeads heads content 64
+  pub count : length heads ≡ file_limit
+  pub tells : TellsHeads heads content file_limit
   pub extents : (i : ℕ) → 4 * f ≤ i → i < 4 * f + 4 → FitsAt (data_area (sizes_of home)) (all_extents heads) i
 
 -- the condition of this number holds at a block of the disk
 pub record Meets (node : List ℕ) (fits : Bool) (content : List (List ℕ)) (number block : ℕ) : Type 0 where
   pub front : number ≡ 1 → HasFront (block_at content 0)
-  pub sized : number ≡ 2 → IsSized fits (length content + 518) (block_at content 0)
+  pub sized : number ≡ 2 → IsSized fits (length content + content_start) (block_at content 0)
   pub owned : number ≡ 3 → IsOwned node (block_at content 0)
-  pub listed : number ≡ 4 → IsListed content (block - 519)
-  pub placed : number ≡ 5 → IsPlaced content (block - 519)
+  pub listed : number ≡ 4 → IsListed content (block - directory_start)
+  pub placed : number ≡ 5 → IsPlaced content (block - directory_start)
 
 -- the first three conditions are tested at the home block, the next two at each directory block
 pub record IsTested (number block : ℕ) : Type 0 where
   pub least : 1 ≤ number
   pub most : number ≤ 5
-  pub home : number ≤ 3 → block ≡ 518
-  pub directory : 4 ≤ number → (519 ≤ block) × (block ≤ 582)
+  pub home : number ≤ 3 → block ≡ home_block
+  pub directory : 4 ≤ number → (directory_start ≤ block) × (block ≤ 582)
 
 -- a condition fails at a block, and no condition of a lower number fails anywhere
 pub record IsFinding (node : List ℕ) (fits : Bool) (content : List (List ℕ)) (number block : ℕ) : Type 0 where
@@ -88,4 +91,4 @@ IsValid node fits content = (number block : ℕ) → IsTested number block → M
 
 -- where a content tells a catalog with its 64 file numbers that is sound for its disk, all five hold
 abbrev pub SoundIsValid : Type 0
-SoundIsValid = (node : List ℕ) (content : List (List ℕ)) (v : Catalog) → TellsCatalog v content → IsSound node (length content + 518) v → length v.heads ≡ 64 → length (block_at content 0) ≡ 512 → IsValid node true content
+SoundIsValid = (node : List ℕ) (content : List (List ℕ)) (v : Catalog) → TellsCatalog v content → IsSound node (length content + content_start) v → length v.heads ≡ file_limit → length (block_at content 0) ≡ 512 → IsValid node true content

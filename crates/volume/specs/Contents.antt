@@ -2,6 +2,8 @@
 use Rattle.std.specs.Prelude.{◌≡◌, ◌⊎◌, ℕ, ◌+◌, ◌<◌, ◌≤◌, Bool, true, List, length}
 use Rattle.std.specs.List.{All}
 use Rattle.block_disk.specs.Blocks.{block_at}
+use Rattle.block_disk.specs.Sizes.{content_start}
+use Rattle.vms_model.specs.Limits.{file_limit}
 use Rattle.careful_write.specs.State.{EachWhole}
 use Rattle.volume.specs.declared.catalog.Catalog.{Catalog}
 use Rattle.volume.specs.Catalogs.{IsSound, TellsCatalog}
@@ -17,9 +19,9 @@ pub record IsContent (content : List (List ℕ)) : Type 0 where
 pub record HasSound (node : List ℕ) (fits : Bool) (content : List (List ℕ)) : Type 0 where
   pub group : fits ≡ true
   pub catalog : Catalog
-  pub count : length catalog.heads ≡ 64
+  pub count : length catalog.heads ≡ file_limit
   pub tells : TellsCatalog catalog content
-  pub sound : IsSound node (length content + 518) catalog
+  pub sound : IsSound node (length content + content_start) catalog
 
 -- one of its conditions fails first
 pub record HasFinding (node : List ℕ) (fits : Bool) (content : List (List ℕ)) : Type 0 where

@@ -1,6 +1,9 @@
 -- An empty volume.
 use Rattle.std.specs.Prelude.{◌≡◌, ◌==◌, ◌||◌, ◌&&◌, ℕ, ◌+◌, ◌<◌, ◌≤◌, Bool, List, None, replicate, nat_le, nat_lt}
 use Rattle.block_disk.specs.Blocks.{block_at}
+use Rattle.block_disk.specs.Sizes.{content_start}
+use Rattle.vms_model.specs.Limits.{file_limit}
+use Rattle.vms_model.specs.Blocks.{directory_start, log_start}
 use Rattle.volume_format.specs.declared.home.Home.{Home}
 use Rattle.volume_format.specs.Home.{home_block_of}
 use Rattle.volume.specs.declared.catalog.Catalog.{Catalog}
@@ -11,7 +14,7 @@ empty_home node disk slots ru_blocks = record { version = 1; blocks = disk; slot
 
 -- the blocks of a disk behind the home are zeros up to an end
 abbrev pub ZerosTo : ℕ → List (List ℕ) → Type 0
-ZerosTo end blocks = (n : ℕ) → 519 ≤ n → n < end → block_at blocks n ≡ replicate 512 0
+ZerosTo end blocks = (n : ℕ) → directory_start ≤ n → n < end → block_at blocks n ≡ replicate 512 0
 
 -- the content has this home; the directory is free, the journal of recovery units is empty and begins at position 0, and no log slot is used
 pub record IsEmptyVolume (home : Home) (content : List (List ℕ)) : Type 0 where
@@ -20,12 +23,12 @@ pub record IsEmptyVolume (home : Home) (content : List (List ℕ)) : Type 0 wher
 
 -- what an empty volume tells: no file, and a journal of recovery units that begins and ends at position 0
 abbrev pub empty_catalog : Home → Catalog
-empty_catalog h = record { home = h; heads = replicate 64 None; ru = record { start = 584 + h.slots; blocks = h.ru_blocks; first = 0; end = 0 } }
+empty_catalog h = record { home = h; heads = replicate file_limit None; ru = record { start = log_start + h.slots; blocks = h.ru_blocks; first = 0; end = 0 } }
 
 -- the blocks between the home and an end
 abbrev pub is_zeroed : ℕ → ℕ → Bool
-is_zeroed end n = nat_le 519 n && nat_lt n end
+is_zeroed end n = nat_le directory_start n && nat_lt n end
 
 -- the blocks that a format with so many log slots writes: the gate's, and those from the home to the last slot
 abbrev pub is_formatted : ℕ → ℕ → Bool
-is_formatted slots n = n == 0 || (nat_le 518 n && nat_lt n (584 + slots))
+is_formatted slots n = n == 0 || (nat_le content_start n && nat_lt n (log_start + slots))

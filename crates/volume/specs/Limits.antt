@@ -1,5 +1,7 @@
 -- The numbers that a volume and its files may have.
 use Rattle.std.specs.Prelude.{◌≡◌, ℕ, ◌+◌, ◌-◌, ◌*◌, ◌/◌, ◌<◌, ◌≤◌, Bool, true, false, List, Option, Some, None, ⊤}
+use Rattle.vms_model.specs.Limits.{key_limit, record_limit, slot_limit}
+use Rattle.vms_model.specs.Blocks.{log_start}
 use Rattle.file_base.specs.declared.head.FileHead.{FileHead}
 use Rattle.file_base.specs.declared.head.Organization.{Organization}
 use Rattle.file_base.specs.declared.head.Organization.TheVariants.{Sequential, Relative, Indexed}
@@ -12,7 +14,7 @@ use Rattle.volume.specs.declared.limits.Buckets.{Buckets}
 
 -- the first block of the data area: behind the home, the directory, the journal's block, the log slots and the journal
 abbrev pub data_start : Sizes → ℕ
-data_start s = 584 + s.slots + s.ru_blocks
+data_start s = log_start + s.slots + s.ru_blocks
 
 -- the data area goes to the end of the disk
 abbrev pub data_area : Sizes → Extent
@@ -22,7 +24,7 @@ data_area s = record { start = data_start s; end = s.blocks }
 pub record SizesFit (disk : ℕ) (s : Sizes) : Type 0 where
   pub blocks : s.blocks ≡ disk
   pub least_slots : 64 ≤ s.slots
-  pub most_slots : s.slots ≤ 512
+  pub most_slots : s.slots ≤ slot_limit
   pub least_journal : 64 ≤ s.ru_blocks
   pub most_journal : s.ru_blocks ≤ 8192
   pub room : data_start s < disk
@@ -37,14 +39,14 @@ pub record BucketFits (h : FileHead) : Type 0 where
   pub least_blocks : 1 ≤ h.bucket
   pub most_blocks : h.bucket ≤ 16
   pub least_record : 1 ≤ h.mrs
-  pub most_record : h.mrs ≤ 8160
+  pub most_record : h.mrs ≤ record_limit
   pub record_fits : h.mrs + 32 ≤ 512 * h.bucket
 
 -- a relative file has record numbers from 1 on, an indexed one a key of 1 to 64 bytes in the shortest record; others have zeros there
 abbrev pub KeysFit : Organization → FileHead → Type 0
 KeysFit Sequential h = (h.mrn ≡ 0) × (h.key_pos ≡ 0) × (h.key_size ≡ 0)
 KeysFit Relative h = (1 ≤ h.mrn) × (h.key_pos ≡ 0) × (h.key_size ≡ 0)
-KeysFit Indexed h = (h.mrn ≡ 0) × (1 ≤ h.key_size) × (h.key_size ≤ 64) × (h.key_pos + h.key_size ≤ h.mrs)
+KeysFit Indexed h = (h.mrn ≡ 0) × (1 ≤ h.key_size) × (h.key_size ≤ key_limit) × (h.key_pos + h.key_size ≤ h.mrs)
 
 -- how many cells a bucket of a relative file has
 abbrev pub cells_of : FileHead → ℕ

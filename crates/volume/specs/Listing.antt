@@ -2,6 +2,7 @@
 use Rattle.std.specs.Prelude.{◌≡◌, ◌<◌, ◌≤◌, ◌⊎◌, ◌+◌, ◌-◌, ◌*◌, ℕ, Bool, List, [], ◌∷◌, Option, Some, None, length, slice_set, ⊤}
 use Rattle.std.specs.List.{All, Contains}
 use Rattle.block_disk.specs.Blocks.{block_at}
+use Rattle.vms_model.specs.Blocks.{directory_start}
 use Rattle.file_base.specs.declared.head.FileHead.{FileHead}
 use Rattle.extents.specs.declared.extent.Extent.{Extent}
 use Rattle.extents.specs.Extents.{FitsAt}
@@ -65,15 +66,15 @@ LiesApart area es f = (i : ℕ) → 4 * f ≤ i → i < 4 * f + 4 → FitsAt are
 -- a finding of this number at one of the first directory blocks
 pub record IsIn (number count : ℕ) (x : Finding) : Type 0 where
   pub number_is : x.number ≡ number
-  pub from : 519 ≤ x.block
-  pub to : x.block < 519 + count
+  pub from : directory_start ≤ x.block
+  pub to : x.block < directory_start + count
 
 -- the findings of one condition at the first directory blocks, ascending: those where it does not hold
 pub record ListsTo (number : ℕ) (Holds : ℕ → Type 0) (count : ℕ) (found : List Finding) : Type 0 where
   pub ascends : Ascends found
   pub within : All (IsIn number count) found
-  pub fails : All (λ x. Holds (x.block - 519) → ⊥) found
-  pub whole : (f : ℕ) → f < count → Contains found (fails_at number (519 + f)) ⊎ Holds f
+  pub fails : All (λ x. Holds (x.block - directory_start) → ⊥) found
+  pub whole : (f : ℕ) → f < count → Contains found (fails_at number (directory_start + f)) ⊎ Holds f
   pub few : length found ≤ count
 
 -- a directory block was found, with its file; or it has none that fits under a new name
@@ -88,4 +89,4 @@ HeadsTried greatest heads count content = (f : ℕ) → f < count → EntryTried
 abbrev pub TakesEntry : ℕ → ℕ → List ℕ → List (Option FileHead) → List (Option FileHead) → List Finding → List Finding → Type 0
 TakesEntry greatest f block heads new found more =
     ((o : Option FileHead) × EntryFound greatest heads f block o × (new ≡ slice_set heads f o) × (more ≡ found))
-    ⊎ (EntryMisses greatest heads f block × (new ≡ slice_set heads f None) × (more ≡ first_thousand (with_finding (fails_at 4 (519 + f)) found)))
+    ⊎ (EntryMisses greatest heads f block × (new ≡ slice_set heads f None) × (more ≡ first_thousand (with_finding (fails_at 4 (directory_start + f)) found)))

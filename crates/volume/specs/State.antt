@@ -1,6 +1,7 @@
 -- A volume as its callers see it.
 use Rattle.std.specs.Prelude.{◌≡◌, ℕ, ◌-◌, List, IfSome, option_map, slice_set}
 use Rattle.block_disk.specs.Blocks.{with_number}
+use Rattle.block_disk.specs.Sizes.{content_start}
 use Rattle.careful_write.specs.Reads.{as_read_by}
 use Rattle.careful_write.specs.State.{StoreState}
 use Rattle.volume.specs.declared.catalog.Catalog.{Catalog}
@@ -21,4 +22,4 @@ SameVolume old new = new ≡ record old { store = as_read_by new.store old.store
 
 -- the store with one block staged
 abbrev pub with_block : ℕ → List ℕ → StoreState → StoreState
-with_block n bytes s = record s { current = option_map (λ blocks. slice_set blocks (n - 518) bytes) s.current; touched = with_number n s.touched }
+with_block n bytes s = record s { current = option_map (λ blocks. slice_set blocks (n - content_start) bytes) s.current; touched = with_number n s.touched }

@@ -1,5 +1,6 @@
 //! What a volume keeps of its content, and the look-ups in it.
 ghost use Rattle.std.specs.Prelude.{◌≡◌, ◌≤◌, ◌<◌, ℕ, Option, Some, None, true, false, IfSome, IfNone, length};
+ghost use Rattle.vms_model.specs.Limits.{file_limit};
 ghost use Rattle.file_base.specs.declared.head.FileHead.{FileHead as HeadSaid};
 ghost use Rattle.volume_format.specs.Home.{sizes_of};
 ghost use Rattle.volume.specs.Catalogs.{NewName, head_at};
@@ -43,7 +44,7 @@ fn is_named(head: &Option<FileHead>, name: &FileName) -> bool
 
 /// The lowest file number whose file has this name, among the first so many.
 pub(crate) fn find_name(heads: &[Option<FileHead>; 64], count: usize, name: &FileName) -> Option<u8>
-    requires { count ≤ 64 }
+    requires { count ≤ file_limit }
     ensures found { IfSome result (λ f. (h : HeadSaid) × (f < count) × (head_at heads.now f ≡ Some h) × (h.name ≡ name.now)) }
     ensures lowest { IfSome result (λ f. NewName heads.now f name.now) }
     ensures none { IfNone result (NewName heads.now count name.now) }
@@ -58,7 +59,7 @@ pub(crate) fn find_name(heads: &[Option<FileHead>; 64], count: usize, name: &Fil
 
 /// Whether no file among the first so many has this name.
 pub(crate) fn is_new(heads: &[Option<FileHead>; 64], count: usize, name: &FileName) -> bool
-    requires { count ≤ 64 }
+    requires { count ≤ file_limit }
     ensures yes { result ≡ true → NewName heads.now count name.now }
     ensures no { result ≡ false → NewName heads.now count name.now → ⊥ }
 {
@@ -70,9 +71,9 @@ pub(crate) fn is_new(heads: &[Option<FileHead>; 64], count: usize, name: &FileNa
 
 /// The lowest file number without a file.
 pub(crate) fn free_number(heads: &[Option<FileHead>; 64]) -> Option<u8>
-    ensures found { IfSome result (λ f. (f < 64) × (head_at heads.now f ≡ None)) }
+    ensures found { IfSome result (λ f. (f < file_limit) × (head_at heads.now f ≡ None)) }
     ensures lowest { IfSome result (λ f. (g : ℕ) → g < f → head_at heads.now g ≡ None → ⊥) }
-    ensures none { IfNone result ((g : ℕ) → g < 64 → head_at heads.now g ≡ None → ⊥) }
+    ensures none { IfNone result ((g : ℕ) → g < file_limit → head_at heads.now g ≡ None → ⊥) }
 {
     for f in 0..64 {
         if heads[f].is_none() {

@@ -2,6 +2,9 @@
 ghost use Rattle.std.specs.Prelude.{◌≡◌, ◌≤◌, ◌<◌, ◌+◌, ℕ, List, [], false, IfSome, OnOk, OnErr, length, replicate, slice_index};
 ghost use Rattle.block_disk.specs.Blocks.{block_at};
 ghost use Rattle.block_disk.specs.Disk.{DiskState};
+ghost use Rattle.block_disk.specs.Sizes.{least_disk_size, pending_limit};
+ghost use Rattle.vms_model.specs.Limits.{slot_limit};
+ghost use Rattle.vms_model.specs.Blocks.{directory_start};
 ghost use Rattle.careful_write.specs.Content.{content_of, gate_open, gate_block};
 ghost use Rattle.careful_write.specs.Down.{Counts as DownCounts};
 ghost use Rattle.careful_write.specs.Steps.{Counts, Touches};
@@ -20,7 +23,7 @@ use volume_format::{Home, layouts_are_read_as_written, write_home};
 
 // Closes the gate for good: all of its block becomes zeros.
 fn close_gate<D: Disk>(disk: &mut D) -> Result<(), DiskErr>
-    requires size { 4096 ≤ (D.state disk.old).size }
+    requires size { least_disk_size ≤ (D.state disk.old).size }
     requires settled { (D.state disk.old).pending ≡ [] }
     ensures gate { OnOk result (IfSome (D.state disk.new).seen (λ blocks. block_at blocks 0 ≡ gate_block 0)) }
     ensures settled { OnOk result ((D.state disk.new).pending ≡ []) }
@@ -33,14 +36,14 @@ fn close_gate<D: Disk>(disk: &mut D) -> Result<(), DiskErr>
 
 // Writes zeros to the blocks behind the home, up to an end.
 fn write_zeros<D: Disk>(disk: &mut D, end: u32) -> Result<(), DiskErr>
-    requires size { 4096 ≤ (D.state disk.old).size }
-    requires some { 519 ≤ end }
+    requires size { least_disk_size ≤ (D.state disk.old).size }
+    requires some { directory_start ≤ end }
     requires end { end ≤ 1096 }
     requires gate { IfSome (D.state disk.old).seen (λ blocks. block_at blocks 0 ≡ gate_block 0) }
     requires settled { (D.state disk.old).pending ≡ [] }
     ensures zeros { OnOk result (IfSome (D.state disk.new).seen (ZerosTo end)) }
     ensures gate { OnOk result (IfSome (D.state disk.new).seen (λ blocks. block_at blocks 0 ≡ gate_block 0)) }
-    ensures pending { OnOk result (length (D.state disk.new).pending < 1024) }
+    ensures pending { OnOk result (length (D.state disk.new).pending < pending_limit) }
     ensures touches { Touches (is_zeroed end) (D.state disk.old) (D.state disk.new) }
     ensures counts { Counts result (D.state disk.old) (D.state disk.new) }
 {
@@ -52,8 +55,8 @@ fn write_zeros<D: Disk>(disk: &mut D, end: u32) -> Result<(), DiskErr>
 
 // Writes an empty volume to a disk whose gate is closed, with zeros behind its mark.
 fn write_empty<D: Disk>(disk: &mut D, home: &Home) -> Result<(), DiskErr>
-    requires size { 4096 ≤ (D.state disk.old).size }
-    requires slots { home.now.slots ≤ 512 }
+    requires size { least_disk_size ≤ (D.state disk.old).size }
+    requires slots { home.now.slots ≤ slot_limit }
     requires gate { IfSome (D.state disk.old).seen (λ blocks. block_at blocks 0 ≡ gate_block 0) }
     requires settled { (D.state disk.old).pending ≡ [] }
     ensures empty { OnOk result (IfSome (D.state disk.new).seen (λ blocks. IsEmptyVolume home.now (content_of blocks))) }
@@ -72,8 +75,8 @@ fn write_empty<D: Disk>(disk: &mut D, home: &Home) -> Result<(), DiskErr>
 }
 
 fn format_disk<D: Disk>(disk: &mut D, home: &Home) -> Result<(), DiskErr>
-    requires size { 4096 ≤ (D.state disk.old).size }
-    requires slots { home.now.slots ≤ 512 }
+    requires size { least_disk_size ≤ (D.state disk.old).size }
+    requires slots { home.now.slots ≤ slot_limit }
     requires settled { (D.state disk.old).pending ≡ [] }
     ensures empty { OnOk result (IfSome (D.state disk.new).seen (λ blocks. IsEmptyVolume home.now (content_of blocks))) }
     ensures tells { OnOk result (IfSome (D.state disk.new).seen (λ blocks. TellsCatalog (empty_catalog home.now) (content_of blocks))) }
@@ -92,7 +95,7 @@ impl<D: Disk> Volume<D> {
     /// journal and the data area stays. After `Down` the blocks before them may have anything.
     pub fn format(mut disk: D, node: NodeName, slots: u32, blocks: u32) -> (D, Result<(), Down>)
         requires sizes { SizesFit (D.state disk).size (record { blocks = (D.state disk).size; slots = slots; ru_blocks = blocks }) }
-        requires size { 4096 ≤ (D.state disk).size }
+        requires size { least_disk_size ≤ (D.state disk).size }
         requires settled { (D.state disk).pending ≡ [] }
         ensures ranges { IsHome (empty_home node (D.state disk).size slots blocks) }
         ensures empty { OnOk result.1 (IfSome (D.state result.0).seen (λ image. IsEmptyVolume (empty_home node (D.state disk).size slots blocks) (content_of image))) }

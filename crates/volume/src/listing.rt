@@ -1,6 +1,8 @@
 //! The failing ones of the first five conditions.
 ghost use Rattle.std.specs.Prelude.{◌≡◌, ◌<◌, ◌≤◌, ◌+◌, ◌*◌, ℕ, [], true, false, OnOk, IfSome, length};
 ghost use Rattle.block_disk.specs.Blocks.{block_at};
+ghost use Rattle.block_disk.specs.Sizes.{content_start, least_disk_size};
+ghost use Rattle.vms_model.specs.Limits.{file_limit};
 ghost use Rattle.careful_write.specs.Down.{answered};
 ghost use Rattle.careful_write.specs.Reads.{SameButReads};
 ghost use Rattle.extents.specs.Extents.{FitsAt};
@@ -25,7 +27,7 @@ fn take_entry(
     f: u32,
     out: &mut Findings,
 )
-    requires { f < 64 }
+    requires { f < file_limit }
     ensures { TakesEntry greatest.0 f block.now heads.old heads.new out.old out.new }
 {
     match entry_in(block, greatest, heads, f as usize) {
@@ -47,12 +49,12 @@ fn list_entries<D: Disk>(
     heads: &mut [Option<FileHead>; 64],
     out: &mut Findings,
 ) -> Result<(), Down>
-    requires size { 4096 ≤ store.old.disk.size }
+    requires size { least_disk_size ≤ store.old.disk.size }
     requires empty { out.old ≡ [] }
     ensures state { SameButReads (record store.old { disk = answered result store.old.disk }) store.new }
-    ensures count { length heads.new ≡ 64 }
-    ensures lists { OnOk result (IfSome store.old.current (λ c. ListsTo 4 (IsEntered greatest.0 c) 64 out.new)) }
-    ensures tried { OnOk result (IfSome store.old.current (HeadsTried greatest.0 heads.new 64)) }
+    ensures count { length heads.new ≡ file_limit }
+    ensures lists { OnOk result (IfSome store.old.current (λ c. ListsTo 4 (IsEntered greatest.0 c) file_limit out.new)) }
+    ensures tried { OnOk result (IfSome store.old.current (HeadsTried greatest.0 heads.new file_limit)) }
 {
     for f in 0..64 {
         let mut block = [0; 512];
@@ -64,7 +66,7 @@ fn list_entries<D: Disk>(
 
 // Whether the four extents of a file number lie in the area, and apart from each other and from those before them.
 fn lies_apart(area: &Extent, extents: &[Extent; 256], f: usize) -> bool
-    requires { f < 64 }
+    requires { f < file_limit }
     ensures yes { result ≡ true → LiesApart area.now extents.now f }
     ensures no { result ≡ false → LiesApart area.now extents.now f → ⊥ }
 {
@@ -79,7 +81,7 @@ fn lies_apart(area: &Extent, extents: &[Extent; 256], f: usize) -> bool
 // Lists where condition 5 fails.
 fn list_extents(area: &Extent, extents: &[Extent; 256], out: &mut Findings)
     requires { out.old ≡ [] }
-    ensures { ListsTo 5 (LiesApart area.now extents.now) 64 out.new }
+    ensures { ListsTo 5 (LiesApart area.now extents.now) file_limit out.new }
 {
     for f in 0..64 {
         if !lies_apart(area, extents, f as usize) {
@@ -98,9 +100,9 @@ fn list_files<D: Disk>(
     home: &Home,
     out: &mut Findings,
 ) -> Result<(), Down>
-    requires size { 4096 ≤ store.old.disk.size }
+    requires size { least_disk_size ≤ store.old.disk.size }
     requires empty { out.old ≡ [] }
-    requires home { IfSome store.old.current (λ c. HomeFound node.now store.old.fits (length c + 518) (block_at c 0) home.now) }
+    requires home { IfSome store.old.current (λ c. HomeFound node.now store.old.fits (length c + content_start) (block_at c 0) home.now) }
     ensures state { SameButReads (record store.old { disk = answered result store.old.disk }) store.new }
     ensures lists { OnOk result (IfSome store.old.current (λ c. ListsFindings node.now store.old.fits c out.new)) }
 {
@@ -120,7 +122,7 @@ pub fn conditions<D: Disk>(
     node: NodeName,
     out: &mut Findings,
 ) -> Result<(), Down>
-    requires size { 4096 ≤ store.old.disk.size }
+    requires size { least_disk_size ≤ store.old.disk.size }
     ensures state { SameButReads (record store.old { disk = answered result store.old.disk }) store.new }
     ensures lists { OnOk result (IfSome store.old.current (λ c. ListsFindings node store.old.fits c out.new)) }
 {

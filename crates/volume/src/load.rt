@@ -1,6 +1,9 @@
 //! What a content tells, and the first of its conditions that fails.
 ghost use Rattle.std.specs.Prelude.{◌≡◌, ◌≤◌, ◌<◌, ◌+◌, ℕ, Option, Some, None, true, false, IfOk, IfErr, IfSome, IfNone, OnOk, length};
 ghost use Rattle.block_disk.specs.Blocks.{block_at};
+ghost use Rattle.block_disk.specs.Sizes.{content_start, least_disk_size};
+ghost use Rattle.vms_model.specs.Limits.{file_limit, slot_limit};
+ghost use Rattle.vms_model.specs.Blocks.{log_start};
 ghost use Rattle.careful_write.specs.Down.{answered};
 ghost use Rattle.careful_write.specs.Reads.{SameButReads};
 ghost use Rattle.careful_write.specs.State.{EachWhole};
@@ -70,7 +73,7 @@ fn home_in(block: &[u8; 512], disk: u32, fits: bool, node: &NodeName) -> Result<
 
 // Whether a file fits, and has a new name among the first file numbers.
 fn suits(greatest: Moment, head: &FileHead, heads: &[Option<FileHead>; 64], f: usize) -> bool
-    requires { f ≤ 64 }
+    requires { f ≤ file_limit }
     ensures fits { result ≡ true → FileFits greatest.0 head.now }
     ensures new { result ≡ true → NewName heads.now f head.now.name }
     ensures no { result ≡ false → FileFits greatest.0 head.now → NewName heads.now f head.now.name → ⊥ }
@@ -85,7 +88,7 @@ pub(crate) fn entry_in(
     heads: &[Option<FileHead>; 64],
     f: usize,
 ) -> Option<Option<FileHead>>
-    requires { f ≤ 64 }
+    requires { f ≤ file_limit }
     ensures some { IfSome result (EntryFound greatest.0 heads.now f block.now) }
     ensures none { IfNone result (EntryMisses greatest.0 heads.now f block.now) }
 {
@@ -103,12 +106,12 @@ pub(crate) fn entry_in(
 }
 
 pub(crate) fn load_home<D: Disk>(store: &mut Store<D>, node: &NodeName) -> Result<Home, LoadErr>
-    requires size { 4096 ≤ store.old.disk.size }
+    requires size { least_disk_size ≤ store.old.disk.size }
     ensures state { SameButReads (record store.old { disk = after_load result store.old.disk }) store.new }
-    ensures ok { IfOk result (λ home. IfSome store.old.current (λ c. HomeFound node.now store.old.fits (length c + 518) (block_at c 0) home)) }
+    ensures ok { IfOk result (λ home. IfSome store.old.current (λ c. HomeFound node.now store.old.fits (length c + content_start) (block_at c 0) home)) }
     ensures sound { IfOk result (HomeSound node.now store.old.disk.size) }
     ensures fits { OnOk result (store.old.fits ≡ true) }
-    ensures whole { IfSome store.old.current (λ c. length c + 518 ≡ store.old.disk.size) }
+    ensures whole { IfSome store.old.current (λ c. length c + content_start ≡ store.old.disk.size) }
     ensures each { IfSome store.old.current EachWhole }
     ensures err { IfErr result (LoadFinds node.now store.old.fits store.old.current) }
     ensures home { IfErr result IsOfHome }
@@ -129,12 +132,12 @@ fn load_heads<D: Disk>(
     greatest: Moment,
     heads: &mut [Option<FileHead>; 64],
 ) -> Result<Option<u32>, Down>
-    requires size { 4096 ≤ store.old.disk.size }
+    requires size { least_disk_size ≤ store.old.disk.size }
     ensures state { SameButReads (record store.old { disk = answered result store.old.disk }) store.new }
-    ensures all { IfOk result (λ found. IfNone found (IfSome store.old.current (HeadsFound greatest.0 heads.new 64))) }
-    ensures sound { IfOk result (λ found. IfNone found (HeadsSound greatest.0 heads.new 64)) }
-    ensures count { length heads.new ≡ 64 }
-    ensures miss { IfOk result (λ found. IfSome found (λ f. (f < 64) × IfSome store.old.current (λ c. HeadsFound greatest.0 heads.new f c × EntryMisses greatest.0 heads.new f (block_at c (1 + f))))) }
+    ensures all { IfOk result (λ found. IfNone found (IfSome store.old.current (HeadsFound greatest.0 heads.new file_limit))) }
+    ensures sound { IfOk result (λ found. IfNone found (HeadsSound greatest.0 heads.new file_limit)) }
+    ensures count { length heads.new ≡ file_limit }
+    ensures miss { IfOk result (λ found. IfSome found (λ f. (f < file_limit) × IfSome store.old.current (λ c. HeadsFound greatest.0 heads.new f c × EntryMisses greatest.0 heads.new f (block_at c (1 + f))))) }
 {
     for f in 0..64 {
         let mut block = [0; 512];
@@ -148,11 +151,11 @@ fn load_heads<D: Disk>(
 }
 
 fn load_ru<D: Disk>(store: &mut Store<D>, home: &Home) -> Result<Span, Down>
-    requires size { 4096 ≤ store.old.disk.size }
-    requires slots { home.now.slots ≤ 512 }
+    requires size { least_disk_size ≤ store.old.disk.size }
+    requires slots { home.now.slots ≤ slot_limit }
     ensures state { SameButReads (record store.old { disk = answered result store.old.disk }) store.new }
     ensures ru { IfOk result (λ ru. IfSome store.old.current (λ c. HasRu (block_at c 65) ru)) }
-    ensures start { IfOk result (λ ru. ru.start ≡ 584 + home.now.slots) }
+    ensures start { IfOk result (λ ru. ru.start ≡ log_start + home.now.slots) }
     ensures blocks { IfOk result (λ ru. ru.blocks ≡ home.now.ru_blocks) }
 {
     let mut block = [0; 512];
@@ -162,14 +165,14 @@ fn load_ru<D: Disk>(store: &mut Store<D>, home: &Home) -> Result<Span, Down>
 
 /// What the content tells, or the first of the five conditions that fails.
 pub(crate) fn load<D: Disk>(store: &mut Store<D>, node: &NodeName) -> Result<Catalog, LoadErr>
-    requires size { 4096 ≤ store.old.disk.size }
+    requires size { least_disk_size ≤ store.old.disk.size }
     ensures state { SameButReads (record store.old { disk = after_load result store.old.disk }) store.new }
     ensures ok { IfOk result (λ v. IfSome store.old.current (Loaded node.now store.old.fits v)) }
     ensures sound { IfOk result (IsSound node.now store.old.disk.size) }
     ensures fits { OnOk result (store.old.fits ≡ true) }
-    ensures whole { IfSome store.old.current (λ c. length c + 518 ≡ store.old.disk.size) }
+    ensures whole { IfSome store.old.current (λ c. length c + content_start ≡ store.old.disk.size) }
     ensures each { IfSome store.old.current EachWhole }
-    ensures count { IfOk result (λ v. length v.heads ≡ 64) }
+    ensures count { IfOk result (λ v. length v.heads ≡ file_limit) }
     ensures err { IfErr result (LoadFinds node.now store.old.fits store.old.current) }
 {
     let home = load_home(store, node)?;

@@ -3,9 +3,13 @@ ghost use Rattle.std.specs.Prelude.{◌≡◌, ◌≤◌, ◌<◌, ◌+◌, ◌-
 ghost use Rattle.std.specs.Option.{option_copied};
 ghost use Rattle.std.specs.Borrow.{Lends, sem};
 ghost use Rattle.block_disk.specs.Blocks.{has_number};
+ghost use Rattle.block_disk.specs.Sizes.{content_start, least_disk_size};
+ghost use Rattle.vms_model.specs.Limits.{file_limit};
+ghost use Rattle.vms_model.specs.Blocks.{directory_start, home_block, journal_block};
 ghost use Rattle.careful_write.specs.Reads.{SameButReads};
 ghost use Rattle.careful_write.specs.State.{EachWhole, IsReady};
 ghost use Rattle.careful_write.specs.contracts.store.Store.{the_row as store_row};
+ghost use Rattle.careful_write.specs.Sizes.{group_limit};
 ghost use Rattle.file_base.specs.declared.head.FileHead.{FileHead as HeadSaid};
 ghost use Rattle.volume_format.specs.Home.{home_block_of, ru_block_of, sizes_of};
 ghost use Rattle.volume_format.specs.Head.{head_block_of};
@@ -46,8 +50,9 @@ impl<D: Disk> Model for Volume<D> {
     ghost view = { λ v. record { catalog = v.catalog; store = v.store } };
 
     ghost use Rattle.std.specs.Prelude.{◌≡◌, length};
+    ghost use Rattle.vms_model.specs.Limits.{file_limit};
 
-    ghost invariant = { λ v. length v.catalog.heads ≡ 64 };
+    ghost invariant = { λ v. length v.catalog.heads ≡ file_limit };
 }
 
 /// Why a store was not mounted, with the store.
@@ -68,9 +73,9 @@ pub enum MountErr<D: Disk> {
 impl<D: Disk> Volume<D> {
     /// Mounts the volume of a node. It writes nothing.
     pub fn mount(mut store: Store<D>, node: NodeName) -> Result<Volume<D>, MountErr<D>>
-        requires size { 4096 ≤ store.disk.size }
+        requires size { least_disk_size ≤ store.disk.size }
         ensures store { IfOk result (λ v. SameButReads store v.store) }
-        ensures whole { IfSome store.current (λ c. length c + 518 ≡ store.disk.size) }
+        ensures whole { IfSome store.current (λ c. length c + content_start ≡ store.disk.size) }
         ensures each { IfSome store.current EachWhole }
         ensures fits { OnOk result (store.fits ≡ true) }
         ensures holds { IfOk result Holds }
@@ -100,7 +105,7 @@ impl<D: Disk> Volume<D> {
     /// The file of a file number. None exactly where it has none.
     pub fn head(&self, file: u8) -> Option<&FileHead>
         ensures value { option_copied result ≡ head_at self.now.catalog.heads file }
-        ensures whole { length self.now.catalog.heads ≡ 64 }
+        ensures whole { length self.now.catalog.heads ≡ file_limit }
     {
         if file < 64 {
             self.catalog.heads[file as usize].as_ref()
@@ -111,10 +116,10 @@ impl<D: Disk> Volume<D> {
 
     /// The lowest file number whose file has a name. None exactly where no file has it.
     pub fn find(&self, name: &FileName) -> Option<u8>
-        ensures found { IfSome result (λ f. (h : HeadSaid) × (f < 64) × (head_at self.now.catalog.heads f ≡ Some h) × (h.name ≡ name.now)) }
+        ensures found { IfSome result (λ f. (h : HeadSaid) × (f < file_limit) × (head_at self.now.catalog.heads f ≡ Some h) × (h.name ≡ name.now)) }
         ensures lowest { IfSome result (λ f. NewName self.now.catalog.heads f name.now) }
-        ensures none { IfNone result (NewName self.now.catalog.heads 64 name.now) }
-        ensures whole { length self.now.catalog.heads ≡ 64 }
+        ensures none { IfNone result (NewName self.now.catalog.heads file_limit name.now) }
+        ensures whole { length self.now.catalog.heads ≡ file_limit }
     {
         find_name(&self.catalog.heads, 64, name)
     }
@@ -159,9 +164,9 @@ impl<D: Disk> Volume<D> {
 
     /// The lowest file number without a file.
     pub fn free_file(&self) -> Option<u8>
-        ensures found { IfSome result (λ f. (f < 64) × (head_at self.now.catalog.heads f ≡ None)) }
+        ensures found { IfSome result (λ f. (f < file_limit) × (head_at self.now.catalog.heads f ≡ None)) }
         ensures lowest { IfSome result (λ f. (g : ℕ) → g < f → head_at self.now.catalog.heads g ≡ None → ⊥) }
-        ensures none { IfNone result ((g : ℕ) → g < 64 → head_at self.now.catalog.heads g ≡ None → ⊥) }
+        ensures none { IfNone result ((g : ℕ) → g < file_limit → head_at self.now.catalog.heads g ≡ None → ⊥) }
     {
         free_number(&self.catalog.heads)
     }
@@ -169,11 +174,11 @@ impl<D: Disk> Volume<D> {
     /// Stages the directory block of a file number, which has this file from now on. Full exactly where 512 other blocks
     /// are staged.
     pub fn stage_head(&mut self, file: u8, head: &FileHead) -> Result<(), Full>
-        requires number { file < 64 }
-        requires size { 4096 ≤ self.old.store.disk.size }
-        ensures store { OnOk result (self.new.store ≡ with_block (519 + file) (head_block_of head.now) self.old.store) }
+        requires number { file < file_limit }
+        requires size { least_disk_size ≤ self.old.store.disk.size }
+        ensures store { OnOk result (self.new.store ≡ with_block (directory_start + file) (head_block_of head.now) self.old.store) }
         ensures heads { OnOk result (self.new.catalog ≡ record self.old.catalog { heads = slice_set self.old.catalog.heads file (Some head.now) }) }
-        ensures full { IsErr result → (length self.old.store.touched ≡ 512) × (has_number (519 + file) self.old.store.touched ≡ false) }
+        ensures full { IsErr result → (length self.old.store.touched ≡ group_limit) × (has_number (directory_start + file) self.old.store.touched ≡ false) }
         ensures err { OnErr result (self.new ≡ self.old) }
         ensures holds { Holds self.old → Holds self.new }
         ensures ready { IsReady self.old.store → IsReady self.new.store }
@@ -188,10 +193,10 @@ impl<D: Disk> Volume<D> {
 
     /// Stages the home block, with zeros where no field stands. Full exactly where 512 other blocks are staged.
     pub fn stage_home(&mut self, home: &Home) -> Result<(), Full>
-        requires size { 4096 ≤ self.old.store.disk.size }
-        ensures store { OnOk result (self.new.store ≡ with_block 518 (home_block_of home.now) self.old.store) }
+        requires size { least_disk_size ≤ self.old.store.disk.size }
+        ensures store { OnOk result (self.new.store ≡ with_block home_block (home_block_of home.now) self.old.store) }
         ensures home { OnOk result (self.new.catalog ≡ record self.old.catalog { home = home.now }) }
-        ensures full { IsErr result → (length self.old.store.touched ≡ 512) × (has_number 518 self.old.store.touched ≡ false) }
+        ensures full { IsErr result → (length self.old.store.touched ≡ group_limit) × (has_number home_block self.old.store.touched ≡ false) }
         ensures err { OnErr result (self.new ≡ self.old) }
         ensures holds { Holds self.old → Holds self.new }
         ensures ready { IsReady self.old.store → IsReady self.new.store }
@@ -206,10 +211,10 @@ impl<D: Disk> Volume<D> {
 
     /// Stages the positions of the recovery unit journal. Full exactly where 512 other blocks are staged.
     pub fn stage_ru(&mut self, span: &Span) -> Result<(), Full>
-        requires size { 4096 ≤ self.old.store.disk.size }
-        ensures store { OnOk result (self.new.store ≡ with_block 583 (ru_block_of span.now) self.old.store) }
+        requires size { least_disk_size ≤ self.old.store.disk.size }
+        ensures store { OnOk result (self.new.store ≡ with_block journal_block (ru_block_of span.now) self.old.store) }
         ensures ru { OnOk result (self.new.catalog ≡ record self.old.catalog { ru = span.now }) }
-        ensures full { IsErr result → (length self.old.store.touched ≡ 512) × (has_number 583 self.old.store.touched ≡ false) }
+        ensures full { IsErr result → (length self.old.store.touched ≡ group_limit) × (has_number journal_block self.old.store.touched ≡ false) }
         ensures err { OnErr result (self.new ≡ self.old) }
         ensures holds { Holds self.old → Holds self.new }
         ensures ready { IsReady self.old.store → IsReady self.new.store }

@@ -1,5 +1,6 @@
 -- Changes of a file that are staged: with the blocks of its buckets its directory block, where its head changes.
 use Rattle.std.specs.Prelude.{◌≡◌, ◌⊎◌, ℕ, ◌+◌, ◌-◌, ◌*◌, ◌≤◌, ◌==◌, ◌||◌, Bool, true, List, [], Option, Some, None, IsSomeAnd, MatchOption, length, slice_set}
+use Rattle.block_disk.specs.Sizes.{content_start}
 use Rattle.careful_write.specs.Reads.{SameButReads}
 use Rattle.careful_write.specs.State.{EachWhole}
 use Rattle.careful_write.specs.Steps.{AgreesOff}
@@ -31,8 +32,8 @@ pub record StagesFile (f : ℕ) (h : FileHead) (limit : ℕ) (old mid : VolumeSt
 
 -- a file's extent lies in the content, and each block there has 512 bytes
 pub record IsWithin (content : List (List ℕ)) (h : FileHead) : Type 0 where
-  pub from : 518 ≤ h.start
-  pub to : h.start + h.alloc * h.bucket ≤ length content + 518
+  pub from : content_start ≤ h.start
+  pub to : h.start + h.alloc * h.bucket ≤ length content + content_start
   pub whole : EachWhole content
 
 -- a key was set from one content, in which the file lies, to another of whole blocks, while these keys were held

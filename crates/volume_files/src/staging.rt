@@ -1,7 +1,11 @@
 //! Changes of a file's records that are staged, with the head of the file.
 ghost use Rattle.std.specs.Prelude.{◌≡◌, ◌≢◌, ◌⊎◌, ◌<◌, ◌≤◌, ◌+◌, ◌*◌, ℕ, List, true, false, Option, Some, None, Ok, length, OnOk, OnErr, IfSome, option_map, slice_set};
 ghost use Rattle.std.specs.Option.{option_copied};
+ghost use Rattle.block_disk.specs.Sizes.{content_start, greatest_disk_size, least_disk_size};
+ghost use Rattle.vms_model.specs.Limits.{file_limit};
+ghost use Rattle.vms_model.specs.Blocks.{directory_start};
 ghost use Rattle.careful_write.specs.State.{EachWhole};
+ghost use Rattle.careful_write.specs.Sizes.{group_limit, staged_limit};
 ghost use Rattle.change_set.specs.Files.{SameFile, fell, free_frames};
 ghost use Rattle.file_base.specs.declared.head.Organization.TheVariants as organization;
 ghost use Rattle.record_files.specs.Any.{Begins, IsFile, IsLaidOut};
@@ -22,7 +26,7 @@ use volume::{Volume, catalogs_stand_on_the_front};
 
 /// What a store promises of the content that it reads: each block is whole, and they are as many as the disk has from 518 on.
 pub fn blocks_are_whole<D: Disk>(volume: &mut Volume<D>)
-    ensures whole { IfSome volume.old.store.current (λ blocks. length blocks + 518 ≡ volume.old.store.disk.size) }
+    ensures whole { IfSome volume.old.store.current (λ blocks. length blocks + content_start ≡ volume.old.store.disk.size) }
     ensures each { IfSome volume.old.store.current EachWhole }
     ensures same { volume.new ≡ volume.old }
 {
@@ -54,12 +58,12 @@ pub fn stage_value<D: Disk, H: Held>(
 ) -> Result<(), Down>
     requires begins { IfSome volume.old.store.current (λ content. IsFile head.old → IsLaidOut head.old content → Begins head.old content (Some (key_of key.now)) place) }
     requires there { head_at volume.old.catalog.heads file ≡ Some head.old }
-    requires whole { length volume.old.catalog.heads ≡ 64 }
+    requires whole { length volume.old.catalog.heads ≡ file_limit }
     requires sound { (node : List ℕ) × IsSound node volume.old.store.disk.size volume.old.catalog }
-    requires least { 4096 ≤ volume.old.store.disk.size }
-    requires most { volume.old.store.disk.size ≤ 65536 }
+    requires least { least_disk_size ≤ volume.old.store.disk.size }
+    requires most { volume.old.store.disk.size ≤ greatest_disk_size }
     requires frames { 32 ≤ free_frames volume.old.store.pool }
-    requires staged { length volume.old.store.touched ≤ 64 }
+    requires staged { length volume.old.store.touched ≤ staged_limit }
     ensures stages { OnOk result (StagesFile file head.old 417 volume.old volume.new head.new) }
     ensures sets { OnOk result (TellsSet head.old (H.held held.now) (key_of key.now) (option_copied value.entry) volume.old volume.new head.new) }
     ensures unformed { (IsFile head.old → ⊥) → (result ≡ Ok tt) × (volume.new ≡ volume.old) × (head.new ≡ head.old) }
@@ -87,12 +91,12 @@ pub fn stage_cut<D: Disk>(
     place: Place,
 ) -> Result<(), Down>
     requires there { head_at volume.old.catalog.heads file ≡ Some head.old }
-    requires whole { length volume.old.catalog.heads ≡ 64 }
+    requires whole { length volume.old.catalog.heads ≡ file_limit }
     requires sound { (node : List ℕ) × IsSound node volume.old.store.disk.size volume.old.catalog }
-    requires least { 4096 ≤ volume.old.store.disk.size }
-    requires most { volume.old.store.disk.size ≤ 65536 }
+    requires least { least_disk_size ≤ volume.old.store.disk.size }
+    requires most { volume.old.store.disk.size ≤ greatest_disk_size }
     requires frames { 32 ≤ free_frames volume.old.store.pool }
-    requires staged { length volume.old.store.touched ≤ 64 }
+    requires staged { length volume.old.store.touched ≤ staged_limit }
     requires sequential { head.old.organization ≡ organization.Sequential }
     requires first { 1 ≤ from }
     requires last { from ≤ head.old.count }
@@ -123,10 +127,10 @@ pub fn stage_back<D: Disk>(
     value: Option<&Record>,
 ) -> Result<(), Down>
     requires there { head_at volume.old.catalog.heads file ≡ Some head.old }
-    requires whole { length volume.old.catalog.heads ≡ 64 }
+    requires whole { length volume.old.catalog.heads ≡ file_limit }
     requires sound { (node : List ℕ) × IsSound node volume.old.store.disk.size volume.old.catalog }
-    requires least { 4096 ≤ volume.old.store.disk.size }
-    requires most { volume.old.store.disk.size ≤ 65536 }
+    requires least { least_disk_size ≤ volume.old.store.disk.size }
+    requires most { volume.old.store.disk.size ≤ greatest_disk_size }
     requires frames { 32 ≤ free_frames volume.old.store.pool }
     requires staged { length volume.old.store.touched ≤ 480 }
     ensures stages { OnOk result (StagesFile file head.old 17 volume.old volume.new head.new) }
@@ -146,12 +150,12 @@ pub fn stage_back<D: Disk>(
 
 // Stages the directory block of a file where its head has other buckets or records than before.
 fn stage_moved<D: Disk>(volume: &mut Volume<D>, file: u8, old: &FileHead, new: &FileHead)
-    requires file { file < 64 }
-    requires size { 4096 ≤ volume.old.store.disk.size }
-    requires room { length volume.old.store.touched < 512 }
+    requires file { file < file_limit }
+    requires size { least_disk_size ≤ volume.old.store.disk.size }
+    requires room { length volume.old.store.touched < group_limit }
     requires there { head_at volume.old.catalog.heads file ≡ Some old.now }
     requires same { SameFile old.now new.now }
-    ensures store { (volume.new.store ≡ volume.old.store) ⊎ (volume.new.store ≡ with_block (519 + file) (head_block_of new.now) volume.old.store) }
+    ensures store { (volume.new.store ≡ volume.old.store) ⊎ (volume.new.store ≡ with_block (directory_start + file) (head_block_of new.now) volume.old.store) }
     ensures catalog { volume.new.catalog ≡ record volume.old.catalog { heads = slice_set volume.old.catalog.heads file (Some new.now) } }
     ensures still { new.now ≡ old.now → volume.new ≡ volume.old }
     ensures holds { Holds volume.old → Holds volume.new }

@@ -1,12 +1,13 @@
 -- What bars a boot of a volume whose blocks are in order.
 use Rattle.std.specs.Prelude.{◌+◌, ◌-◌, ◌*◌, ◌^◌, ◌&&◌, ◌==◌, ℕ, List, [], ◌∷◌, Bool, true, false, Option, Some, None, if◌then◌else◌, max, min, nat_le, nat_lt}
+use Rattle.vms_model.specs.Limits.{boot_limit, moment_limit, position_limit}
+use Rattle.block_disk.specs.Sizes.{greatest_disk_size}
 use Rattle.file_base.specs.declared.head.FileHead.{FileHead}
 use Rattle.file_base.specs.declared.head.Organization.{Organization}
 use Rattle.file_base.specs.declared.head.Organization.TheVariants.{Sequential, Relative, Indexed}
 use Rattle.file_base.specs.declared.head.Span.{Span}
 use Rattle.image_room.specs.Room.{images_end}
 use Rattle.journal_model.specs.Ring.{ring_size}
-use Rattle.run_model.specs.Answers.{boot_limit, moment_limit, position_limit}
 use Rattle.run_model.specs.World.{Bar, NoRing, NoIndex, AllBoots, LateMoment, FarPosition}
 use Rattle.volume.specs.declared.catalog.Catalog.{Catalog}
 
@@ -23,7 +24,7 @@ units_block = 583
 
 -- more than the number of any block
 abbrev pub no_block : ℕ
-no_block = 65536
+no_block = greatest_disk_size
 
 -- the block at which the root of a file begins, where that is an indexed one with several buckets and no index, or with an index and one bucket
 abbrev pub odd_root_by : Organization → FileHead → ℕ

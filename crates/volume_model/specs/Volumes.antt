@@ -1,6 +1,7 @@
 -- Which node of the world a volume is: by its home and directory, its journal and its files.
 use Rattle.std.specs.Prelude.{◌≡◌, ◌⊎◌, ◌<◌, ◌≤◌, ◌^◌, ℕ, List, true, Some, None, length}
 use Rattle.block_disk.specs.Disk.{DiskState, MayLeave}
+use Rattle.vms_model.specs.Limits.{file_limit}
 use Rattle.careful_write.specs.Content.{content_of}
 use Rattle.careful_write.specs.Load.{fitting}
 use Rattle.careful_write.specs.State.{EachWhole, Leaves}
@@ -80,7 +81,7 @@ FailsFirst name condition block d = (image : List (List ℕ)) → MayLeave d ima
 pub record HasBarred (name : List ℕ) (size : ℕ) (bar : Bar) (content : List (List ℕ)) : Type 0 where
   pub catalog : Catalog
   pub tells : TellsCatalog catalog content
-  pub heads : length catalog.heads ≡ 64
+  pub heads : length catalog.heads ≡ file_limit
   pub sound : IsSound name size catalog
   pub wide : (catalog.ru.first < 2 ^ 64) × (catalog.ru.end < 2 ^ 64)
   pub bars : first_bar catalog ≡ Some bar

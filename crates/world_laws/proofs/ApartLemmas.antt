@@ -15,7 +15,7 @@ use Rattle.records_model.specs.History.{same_id}
 use Rattle.records_model.proofs.RecordsLemmas.{same_key}
 use Rattle.run_model.specs.Locks.{Lock, is_lock_of, is_locked, not_locked, released, with_locks}
 use Rattle.run_model.specs.World.{File, Organization, Sequential, Relative, Indexed}
-use Rattle.run_model.specs.Operations.{count_of, cut_keys, first_behind, in_order, key_found, put_keys, standing_of}
+use Rattle.run_model.specs.Operations.{count_of, current_records, cut_keys, first_behind, in_order, key_found, put_keys}
 use Rattle.world_laws.specs.Apart.{FewerLocksDiffer, HeldKeysDiffer, KeysDiffer, LocksDiffer, MoreLocksDiffer}
 use Rattle.world_laws.proofs.EntryLemmas.{all_append, all_more}
 use Rattle.world_laws.proofs.FoundLemmas.{all_got, dropped, first_part, itself, less, second_part, sorted_dropped, sorted_in}
@@ -106,11 +106,11 @@ got_apart m key (x ∷ es) none h = (false_from_ne_true _ (λ e. clash (same_key
     clash : key ≡ x.0 → ⊥
     clash is = let both : ◌≡◌ {A = Option (List ℕ)} None (Some x.1) = sym none ∙ ap (get m) is ∙ h.0 in let never : ⊥ = cc in never
 
-cut_differ : (f : File) (number : ℕ) → get (standing_of f) End ≡ None → KeysDiffer (End ∷ cut_keys f number)
+cut_differ : (f : File) (number : ℕ) → get (current_records f) End ≡ None → KeysDiffer (End ∷ cut_keys f number)
 cut_differ f number none = go (leb 1 number)
   where
     m : Records
-    m = standing_of f
+    m = current_records f
 
     gone : List (Key × List ℕ)
     gone = drop (number - 1) (entries m)

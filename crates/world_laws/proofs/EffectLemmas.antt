@@ -2,6 +2,7 @@
 use Rattle.std.proofs.Common.{◌≡◌, ◌≤◌, ℕ, zero, suc, ◌+◌, List, [], ◌∷◌, length, take, drop, Bool, true, false, not, ◌||◌, Option, Some, None, if◌then◌else◌, refl, sym, ◌∙◌, ap, subst, arith}
 use Rattle.std.specs.Prelude.{replicate}
 use Rattle.std.proofs.lemmas.Bool.{both_ways, or_parts}
+use Rattle.vms_model.specs.Limits.{lock_limit}
 use Rattle.transcript_model.specs.Lines as line
 use Rattle.transcript_model.specs.Lines.{Line, Cause}
 use Rattle.unit_laws.specs.Journal.{empty_journal, is_settled_in}
@@ -11,9 +12,9 @@ use Rattle.commit_protocol.specs.Table as table
 use Rattle.log_laws.specs.Slots.{prepared_of, committed_of, records_in}
 use Rattle.run_model.specs.Locks.{Lock}
 use Rattle.run_model.specs.World.{Act, Arms, Boots, Changes, Clocks, ComesUp, Creates, Declares, Directs, Draws, Durable, Falls, Formats, Holds, IsLogInOrder, Labels, Marks, Saves, Recovers, MayTurnOut, Node, Numbers, Outturn, Shared, Tables, Unknown, acted, durable_after, made_volume, powered, prepared_left, relocked, relocked_by, shared_after, shared_tabled, unpowered, IsOfTransaction, without_units, IsReached}
-use Rattle.run_model.specs.Answers.{Row, Service, Unused, Powered, MadeAnew, boot_rows, lock_limit, occupies, plain, powers, silent, spoils, refused_before_reading}
+use Rattle.run_model.specs.Answers.{Row, Service, Unused, Powered, MadeAnew, boot_rows, occupies, plain, powers, silent, spoils, refused_before_reading}
 use Rattle.run_model.specs.Operations.{refused_if}
-use Rattle.run_model.specs.Steps.{Choice, Cut, Unpowered, Whole, WithoutMemory, ServiceAllowed, act_begun, begun, cut, node_after, node_after_rows, occupied, ready_node, rows_if, rows_to_cut, service_effect, shared_after_rows, shared_then, spoilt, succeeded, whole}
+use Rattle.run_model.specs.Steps.{Choice, Cut, Unpowered, Whole, WithoutMemory, ServiceAllowed, act_begun, begun, cut, node_after, node_after_rows, occupied, ready_node, rows_if, rows_to_cut, service_effect, shared_after_rows, shared_then, with_unknown_volume, succeeded, whole}
 use Rattle.world_laws.specs.Running.{no_history}
 use Rattle.world_laws.proofs.AnswerLemmas.{neither, not_refused}
 use Rattle.world_laws.proofs.ComeUp.{come_room, come_up}
@@ -102,7 +103,7 @@ none_under o e act f = let clash : ◌≡◌ {A = Option Act} None (Some act) = 
 module _ (e : Service) (p : powers e ≡ false) (closing : e.closing ≡ None) (down : e.while_down ≡ false) (s : Shared) (stops : ℕ) (n : Node) (h : IsKeptNode s n)
     (keeps : n.up ≡ true → refused_before_reading s n e ≡ None → e.refused_after_reading s n ≡ None → RowsKeep (e.rows s n) n) where
   same_ready : (o : Outturn) → ready_node o stops e n ≡ n
-  same_ready o = ap (λ b. if b then spoilt (spoils e) (powered o stops n) else n) p
+  same_ready o = ap (λ b. if b then with_unknown_volume (spoils e) (powered o stops n) else n) p
 
   is_up : refused_before_reading s n e ≡ None → n.up ≡ true
   is_up r = go n.up (subst (λ b. not (n.up || b) ≡ false) down (not_refused (not (n.up || e.while_down)) line.NodeDown (neither (refused_if (not (n.up || e.while_down)) line.NodeDown) (e.refused_before_reading s n) r).0))
@@ -168,7 +169,7 @@ same_kept s n m name durable volatile way up h = record {
 
 -- A boot.
 
-kept_spoilt : (b : Bool) (n : Node) → IsKeptDisk n → IsKeptDisk (spoilt b n)
+kept_spoilt : (b : Bool) (n : Node) → IsKeptDisk n → IsKeptDisk (with_unknown_volume b n)
 kept_spoilt false n k = k
 kept_spoilt true n k = record {
   filed = record { can = k.filed.can; names = k.filed.names; reached = k.filed.reached; plain = k.filed.plain; carries = k.filed.carries; moments = k.filed.moments; images = k.filed.images; one = k.filed.one };
@@ -190,7 +191,7 @@ dead_kept s stops n e h = record {
 }
 
 -- where nothing is under way
-spoilt_dead : (s : Shared) (stops : ℕ) (n : Node) (e : Service) → n.under_way ≡ None → IsKeptNode s n → IsKeptNode (occupied e s) (spoilt true (unpowered stops n))
+spoilt_dead : (s : Shared) (stops : ℕ) (n : Node) (e : Service) → n.under_way ≡ None → IsKeptNode s n → IsKeptNode (occupied e s) (with_unknown_volume true (unpowered stops n))
 spoilt_dead s stops n e rests h =
     let k = dead_kept s stops n e h in
     record { disk = kept_spoilt true (unpowered stops n) k.disk; way = λ act w. none_under n.under_way rests act w; runs = λ u. not_up u; unused = λ q. (refl, rests) }
@@ -300,16 +301,16 @@ module _ (before : Shared → Node → Option Line) (slots journal : ℕ) (answe
   passes : refused_before_reading s n makes ≡ None → before s n ≡ None
   passes r = (neither (refused_if (not (n.up || true)) line.NodeDown) (before s n) r).1
 
-  ready_spoilt : (o : Outturn) → MayTurnOut n o → refused_before_reading s n makes ≡ None → IsKeptNode s (spoilt true (powered o stops n))
+  ready_spoilt : (o : Outturn) → MayTurnOut n o → refused_before_reading s n makes ≡ None → IsKeptNode s (with_unknown_volume true (powered o stops n))
   ready_spoilt o may r =
       let m = powered_ready o stops s n may h in
       let u = h.unused (unused (passes r)) in
       record { disk = kept_spoilt true (powered o stops n) m.disk; way = λ act w. none_under (powered o stops n).under_way m.way act w; runs = λ q. not_up (sym (m.up ∙ u.0) ∙ q); unused = λ q. (m.up ∙ u.0, m.way) }
 
-  init_whole : (o : Outturn) → MayTurnOut n o → (q : Option Line) → refused_before_reading s n makes ≡ q → IsKeptNode (whole s n (spoilt true (powered o stops n)) makes q).shared (whole s n (spoilt true (powered o stops n)) makes q).node
+  init_whole : (o : Outturn) → MayTurnOut n o → (q : Option Line) → refused_before_reading s n makes ≡ q → IsKeptNode (whole s n (with_unknown_volume true (powered o stops n)) makes q).shared (whole s n (with_unknown_volume true (powered o stops n)) makes q).node
   init_whole o may (Some refusal) r = h
   init_whole o may None r =
-      let m = spoilt true (powered o stops n) in
+      let m = with_unknown_volume true (powered o stops n) in
       let k = ready_spoilt o may r in
       let u = h.unused (unused (passes r)) in
       let p = powered_ready o stops s n may h in
@@ -325,7 +326,7 @@ module _ (before : Shared → Node → Option Line) (slots journal : ℕ) (answe
   init_effect WithoutMemory rises a = h
   init_effect Unpowered rises a = spoilt_dead s stops n makes (h.unused (unused (passes a.0))).1 h
   init_effect (Cut o k b cause) rises a =
-      let m = spoilt true (powered o stops n) in
+      let m = with_unknown_volume true (powered o stops n) in
       cut_kept (cut s m makes (rows_to_cut s m makes) k b cause).shared b k [] m (ready_spoilt o a.2 a.0).disk (λ q. no_act b k)
     where
       no_act : (b : Bool) (k : ℕ) → act_begun b (drop k []) ≡ None

@@ -3,6 +3,7 @@ use Rattle.std.proofs.Common.{◌≡◌, ◌≤◌, ℕ, zero, suc, ◌+◌, Lis
 use Rattle.std.specs.Option.{option_map}
 use Rattle.std.proofs.lemmas.Bool.{cond_both}
 use Rattle.vms_model.specs.Ids.{Id}
+use Rattle.vms_model.specs.Limits.{change_limit}
 use Rattle.records_model.specs.Records.{Change}
 use Rattle.records_model.specs.History.{same_id}
 use Rattle.unit_laws.specs.Units.{has_changes}
@@ -12,7 +13,6 @@ use Rattle.unit_laws.proofs.LiveLemmas.{clash, id_itself}
 use Rattle.unit_laws.proofs.Tests.{passed, picked}
 use Rattle.unit_laws.proofs.TrimLemmas.{changed_beside, changed_without, prepared_beside, prepared_without, settled_beside}
 use Rattle.unit_laws.proofs.UnitLemmas.{found_changed, found_prepared, found_settled, is_prepared, onto_append, units_follow}
-use Rattle.run_model.specs.Answers.{change_limit}
 use Rattle.world_laws.specs.Ordered.{AreFew, AreFewOver}
 use Rattle.world_laws.proofs.IdLemmas.{id_is}
 

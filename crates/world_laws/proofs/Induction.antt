@@ -7,7 +7,7 @@ use Rattle.script_model.specs.Statements.{Statement, Settle, At, Deliver, LinkDo
 use Rattle.script_model.specs.Grammar.{reading}
 use Rattle.run_model.specs.World.{Act, Half, Lost, Outturn, Taken, World, Node, Shared, DiskCounts, find_node, powered, unpowered, with_node}
 use Rattle.run_model.specs.Answers.{Row, Service, Task, Hears, powers, refused_before_reading, spoils, task_service}
-use Rattle.run_model.specs.Steps.{Choice, Cut, TaskAllowed, Unpowered, Whole, WithoutMemory, begun, node_after, node_after_rows, ready_node, rows_to_cut, service_effect, spoilt, task_effect, whole}
+use Rattle.run_model.specs.Steps.{Choice, Cut, TaskAllowed, Unpowered, Whole, WithoutMemory, begun, node_after, node_after_rows, ready_node, rows_to_cut, service_effect, task_effect, whole, with_unknown_volume}
 use Rattle.run_model.specs.Statements.{Allowed, AllowedAt, AllowedOf, Asks, Begins, Does, Doubtful, Heard, Part, PartEffect, Parts, Phase, Phases, Question, RoseAt, Step, Then, Unanswered, begun_with, done_at, part_effect, phases_of, put_into, question, question_effect, refused_at_once, stops_at, no_node}
 use Rattle.run_model.specs.Transcript.{Entry, Legal, Turn}
 use Rattle.world_laws.proofs.EffectLemmas.{kept_sharing, use_before}
@@ -51,7 +51,7 @@ rows_name : (rs : List Row) (n : Node) → (node_after_rows rs n).name ≡ n.nam
 rows_name [] n = refl
 rows_name (r ∷ rs) n = rows_name rs (node_after r.act n) ∙ act_name r.act n
 
-pub spoilt_name : (b : Bool) (n : Node) → (spoilt b n).name ≡ n.name
+pub spoilt_name : (b : Bool) (n : Node) → (with_unknown_volume b n).name ≡ n.name
 spoilt_name true n = refl
 spoilt_name false n = refl
 
@@ -67,7 +67,7 @@ powered_name Taken stops n = go n.under_way
 pub ready_name : (o : Outturn) (stops : ℕ) (e : Service) (n : Node) → (ready_node o stops e n).name ≡ n.name
 ready_name o stops e n = go (powers e)
   where
-    go : (b : Bool) → (if b then spoilt (spoils e) (powered o stops n) else n).name ≡ n.name
+    go : (b : Bool) → (if b then with_unknown_volume (spoils e) (powered o stops n) else n).name ≡ n.name
     go true = spoilt_name (spoils e) (powered o stops n) ∙ powered_name o stops n
     go false = refl
 

@@ -5,6 +5,7 @@ use Rattle.std.specs.List.{AllByRecursion}
 use Rattle.std.proofs.lemmas.Bool.{and_parts, both_ways, ltb-false}
 use Rattle.vms_model.specs.Ids.{Id}
 use Rattle.vms_model.specs.Keys.{Key, End}
+use Rattle.vms_model.specs.Limits.{lock_limit}
 use Rattle.transcript_model.specs.Lines as line
 use Rattle.transcript_model.specs.Lines.{Line}
 use Rattle.script_model.specs.Statements.{Operation, Put, Update, Delete, Truncate, Get, Next}
@@ -19,7 +20,7 @@ use Rattle.commit_protocol.specs.World.{In}
 use Rattle.run_model.specs.Locks.{holder, not_locked}
 use Rattle.run_model.specs.World.{File, Node, Organization, Sequential, find_file, next_id, serials_of, state_of}
 use Rattle.run_model.specs.Operations.{changes_of, data_refused, delete_refused, form_refused, keys_asked, keys_found, keys_held, put_keys, count_of, update_refused, record_in, key_refused}
-use Rattle.run_model.specs.Answers.{changes_at, commit_settlement, directed, held_against, is_marked, keys_at, keys_refused, lock_limit, more_locks, operated, operation_act, silent, full_line, images_full}
+use Rattle.run_model.specs.Answers.{changes_at, commit_settlement, directed, held_against, is_marked, keys_at, keys_refused, more_locks, operated, operation_act, silent, full_line, images_full}
 use Rattle.recovery_model.specs.File.{IsOpenIn}
 use Rattle.recovery_model.specs.Room.{Full, full_of}
 use Rattle.std.specs.Option.{option_map}
@@ -114,7 +115,7 @@ working b e = go b.state (and_parts (is_active b.state) (not b.ended) e).0
     go Prepared k = let none : ⊥ = cc in absurd none
 
 marked_is : (f : File) → is_marked f ≡ None → f.recovery_units ≡ true
-marked_is f e = go f.recovery_units (not_refused (not f.recovery_units) line.NotMarked e)
+marked_is f e = go f.recovery_units (not_refused (not f.recovery_units) line.NotForUnits e)
   where
     go : (b : Bool) → not b ≡ false → b ≡ true
     go true k = refl

@@ -8,6 +8,7 @@ use Rattle.std.proofs.lemmas.Bool.{both_ways, cond_both, or_parts}
 use Rattle.vms_model.specs.Ids.{Id}
 use Rattle.vms_model.specs.Keys.{Key}
 use Rattle.vms_model.specs.Transactions.{Abort, SegFail}
+use Rattle.vms_model.specs.Limits.{branch_limit, change_limit}
 use Rattle.records_model.specs.Records.{Change}
 use Rattle.records_model.specs.History.{same_id}
 use Rattle.unit_laws.specs.Units.{has_changes}
@@ -22,7 +23,7 @@ use Rattle.log_laws.specs.Slots.{Slots, slots_after}
 use Rattle.run_model.specs.World as world
 use Rattle.run_model.specs.Locks.{is_locked}
 use Rattle.run_model.specs.World.{Durable, File, IsOfTransaction, Settlement, changed_file, directly_changed, find_file, free_place, half_undone, marked_file, recovered_file, saved_file, settled_file, settlement, tid_in, with_file, with_settlement}
-use Rattle.run_model.specs.Answers.{branch_limit, change_limit, owed_first}
+use Rattle.run_model.specs.Answers.{owed_first}
 use Rattle.world_laws.specs.Ordered.{AreFew, AreFewOver, AreInOrder, BootsKeepOrder, ChangesKeepOrder, CreatesKeepOrder, DirectsKeepOrder, FormatsInOrder, IsNoteOf, IsSettledBy, HalvesKeepOrder, IsJournalInOrder, MarksKeepOrder, RecoversKeepOrder, SavesKeepOrder, MayFollow, MayPrepare, Suits, TablesKeepOrder, is_preparing}
 use Rattle.world_laws.proofs.IdLemmas.{id_is, id_itself}
 use Rattle.world_laws.proofs.FewLemmas.{few_entered, few_from, few_in, few_more}

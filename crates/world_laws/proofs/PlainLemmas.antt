@@ -22,7 +22,7 @@ use Rattle.unit_laws.proofs.EndLemmas.{changes_keep_end, settles_keep_end}
 use Rattle.unit_laws.proofs.HistoryLaws.{aborts_one, changes_more, commits_one}
 use Rattle.unit_laws.proofs.Tests.{or_neither, or_one, or_other}
 use Rattle.run_model.specs.World.{File, FollowOneAnother, HasPlainEnd, OneMovesEndOf, Organization, Sequential, Relative, Indexed, leaving, live_leaving}
-use Rattle.run_model.specs.Operations.{changes_of, count_of, data_refused, key_put, missing, removed, standing_of, update_refused}
+use Rattle.run_model.specs.Operations.{changes_of, count_of, current_records, data_refused, key_put, missing, removed, update_refused}
 use Rattle.world_laws.proofs.IdLemmas.{id_is, id_other}
 use Rattle.world_laws.proofs.HistoryLemmas.{by_settled, by_with_changes}
 use Rattle.world_laws.proofs.FoundLemmas.{all_got, dropped, itself, sorted_in}
@@ -259,7 +259,7 @@ module _ (s : Id) (st : Map) where
 -- Operations.
 
 -- no change of an operation that nothing refuses is of the file's end
-pub changes_plain : (f : File) (op : Operation) → get (standing_of f) End ≡ None → data_refused f op ≡ None → ArePlain (changes_of f op)
+pub changes_plain : (f : File) (op : Operation) → get (current_records f) End ≡ None → data_refused f op ≡ None → ArePlain (changes_of f op)
 changes_plain f (Put number bytes) none passed = (put f.organization number, tt)
   where
     put : (o : Organization) (n : Option ℕ) → eq_by_cmp key_cmp End (key_put o (count_of f) n bytes) ≡ false
@@ -274,7 +274,7 @@ changes_plain f (Update key bytes) none passed = (false_from_ne_true _ (λ e. cl
     refused (Some old) e k = let none : ⊥ = cc in none
 
     clash : End ≡ key → ⊥
-    clash e = refused (get (standing_of f) key) (ap (get (standing_of f)) (sym e) ∙ none) passed
+    clash e = refused (get (current_records f) key) (ap (get (current_records f)) (sym e) ∙ none) passed
 changes_plain f (Delete key) none passed = (false_from_ne_true _ (λ e. clash (same_key End key e)), tt)
   where
     refused : (o : Option (List ℕ)) → o ≡ None → missing o ≡ None → ⊥
@@ -282,11 +282,11 @@ changes_plain f (Delete key) none passed = (false_from_ne_true _ (λ e. clash (s
     refused (Some old) e k = let none : ⊥ = cc in none
 
     clash : End ≡ key → ⊥
-    clash e = refused (get (standing_of f) key) (ap (get (standing_of f)) (sym e) ∙ none) passed
+    clash e = refused (get (current_records f) key) (ap (get (current_records f)) (sym e) ∙ none) passed
 changes_plain f (Truncate number) none passed = go (drop (number - 1) (entries m)) (all_got m (drop (number - 1) (entries m)) (dropped (λ x. find key_cmp x.0 (entries m) ≡ Some x.1) (number - 1) (entries m) (sorted_in (entries m) (entries_sorted m))))
   where
     m : Records
-    m = standing_of f
+    m = current_records f
 
     go : (es : List (Key × List ℕ)) → AllByRecursion (λ (x : Key × List ℕ). get m x.0 ≡ Some x.1) es → ArePlain (map removed es)
     go [] h = tt

@@ -3,12 +3,13 @@ use Rattle.std.proofs.Common.{◌≡◌, ◌≤◌, ℕ, suc, ◌+◌, ◌-◌, 
 use Rattle.std.specs.Prelude.{is_some, nat_lt}
 use Rattle.std.proofs.lemmas.Bool.{both_ways, ltb-false}
 use Rattle.vms_model.specs.Ids.{Id}
+use Rattle.vms_model.specs.Limits.{change_limit}
 use Rattle.transcript_model.specs.Lines as line
 use Rattle.records_model.specs.History.{same_id}
 use Rattle.unit_laws.specs.Journal.{RecoveryUnit, entries_size, find_unit, owed, units_in}
 use Rattle.commit_protocol.specs.Table.{Branch}
 use Rattle.run_model.specs.World.{changes_made, serials_of}
-use Rattle.run_model.specs.Answers.{change_limit, free_journal, journal_need}
+use Rattle.run_model.specs.Answers.{free_journal, journal_need}
 use Rattle.commit_protocol.specs.World.{In}
 use Rattle.world_laws.specs.Room.{ChangesHaveRoom, UnitsHaveRoom}
 use Rattle.world_laws.proofs.IdLemmas.{id_itself}

@@ -4,6 +4,7 @@ use Rattle.std.specs.Prelude.{is_some, map}
 use Rattle.std.specs.List.{AllByRecursion}
 use Rattle.vms_model.specs.Ids.{Id}
 use Rattle.vms_model.specs.Transactions.{Outcome, Reason}
+use Rattle.vms_model.specs.Limits.{lock_limit}
 use Rattle.records_model.specs.History.{same_id, changed_it}
 use Rattle.unit_laws.specs.Journal.{JournalEntry, serial_in, RecoveryUnit, find_unit, units_in}
 use Rattle.unit_laws.specs.JournalLaws.{is_unit}
@@ -23,7 +24,7 @@ use Rattle.commit_protocol.proofs.Within.{ActWithin, ActsWithin, act_within}
 use Rattle.log_laws.specs.Slots.{AllTell, LogTells, slots_after}
 use Rattle.run_model.specs.Locks.{Lock, released}
 use Rattle.run_model.specs.World.{Node, Settlement, Shared, Tables, acted, next_moment, serials_of, settlement, shared_after, tm_of, settled_file, find_file, Durable, File}
-use Rattle.run_model.specs.Answers.{table_rows, lock_limit}
+use Rattle.run_model.specs.Answers.{table_rows}
 use Rattle.recovery_model.specs.Journal as image
 use Rattle.world_laws.specs.Running.{AllFound, FileImages, LeavesOpen, TellImages, IsDrawn, no_history, history_in, history_of}
 use Rattle.world_laws.proofs.FileLemmas.{found_mapped}

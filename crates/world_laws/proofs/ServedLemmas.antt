@@ -7,6 +7,7 @@ use Rattle.std.specs.Option.{option_map}
 use Rattle.std.proofs.lemmas.Bool.{and_from, both_ways, false_from_ne_true, leb-false, ltb-false}
 use Rattle.vms_model.specs.Ids.{Id}
 use Rattle.vms_model.specs.Keys.{End}
+use Rattle.vms_model.specs.Limits.{branch_limit}
 use Rattle.transcript_model.specs.Lines as line
 use Rattle.transcript_model.specs.Lines.{Line}
 use Rattle.script_model.specs.Statements.{Form, Images, NoImages, NoRecoveryUnits, Recovery, RecoveryUnits, Setting}
@@ -29,11 +30,11 @@ use Rattle.commit_protocol.proofs.Serials.{there_serial, unique_of}
 use Rattle.commit_protocol.proofs.StandingRows.{rows_stand}
 use Rattle.commit_protocol.proofs.Within.{ActsWithin}
 use Rattle.commit_protocol.proofs.WithinRows.{row_within}
-use Rattle.log_laws.specs.Slots.{AllTell, IsFresh, size, begun}
+use Rattle.log_laws.specs.Slots.{AllTell, IsFresh, size, branches_added}
 use Rattle.log_laws.proofs.RowSlots.{row_size, row_tells}
 use Rattle.run_model.specs.World.{Act, BeginsImages, Creates, Draws, EndsImages, File, ForUnits, Mark, Marks, Node, Recovers, Saves, buckets_loaded, state_of, Shared, Tables, acted, find_file, free_place, lowest_free, next_id, next_moment, serials_of, shared_after, tm_of}
 use Rattle.run_model.specs.Operations.{refused_if}
-use Rattle.run_model.specs.Answers.{Row, blocks_for, blocks_of, blocks_recovered, branch_limit, created, creates, more_branches, new_file, of_file, on_free, records_recovered, recovers, recovery_refused, refusal_line, sets, silent, start_of, to_file, way_of, table_rows, there_is_file, unchanged_file}
+use Rattle.run_model.specs.Answers.{Row, blocks_for, blocks_of, blocks_recovered, created, creates, more_branches, new_file, of_file, on_free, records_recovered, recovers, recovery_refused, refusal_line, sets, silent, start_of, to_file, way_of, table_rows, there_is_file, unchanged_file}
 use Rattle.run_model.specs.Steps.{node_after_rows}
 use Rattle.world_laws.specs.Running.{AllFound, FileImages, LeavesOpen, IsDrawn}
 use Rattle.world_laws.proofs.KeptImages.{keeps_created}
@@ -83,7 +84,7 @@ begins_fresh tm (rows.LinkDown x) b = tt
 begins_fresh tm rows.RunDown b = tt
 begins_fresh tm (rows.InquireBranch s) b = tt
 
-begins_none : (e : Event) → BeginsNothing e → begun e ≡ 0
+begins_none : (e : Event) → BeginsNothing e → branches_added e ≡ 0
 begins_none (rows.Start t due) b = absurd b
 begins_none (rows.Begin t s bid) b = absurd b
 begins_none (rows.Authorise t bid) b = refl
@@ -151,7 +152,7 @@ module _ (n : Node) (s : Shared) (h : IsUp n) (room : IsRoomy n) (refused : more
           go true e = refl
           go false e = absurd (let k = ltb-false a b e in omega (arith, k, l))
 
-  pub begin_keeps : (b : Branch) (e : Event) → b.key.serial ≡ next_id n → is_prepared b.state ≡ false → b.changed ≡ false → IsFresh (tm_of n) e → (more : List table.Act) → row (tm_of n) e ≡ Notes b ∷ more → allowed (tm_of n) e ≡ true → begun e ≡ 1 →
+  pub begin_keeps : (b : Branch) (e : Event) → b.key.serial ≡ next_id n → is_prepared b.state ≡ false → b.changed ≡ false → IsFresh (tm_of n) e → (more : List table.Act) → row (tm_of n) e ≡ Notes b ∷ more → allowed (tm_of n) e ≡ true → branches_added e ≡ 1 →
       ((m : Node) (r : Shared) → IsUp m → AreUp (table_rows more r m) m) → RowsKeep (table_rows (row (tm_of n) e) s (acted Draws n)) (acted Draws n)
   begin_keeps b e is state changed free more shape a one rest =
       let m = acted Draws n in
@@ -164,10 +165,10 @@ module _ (n : Node) (s : Shared) (h : IsUp n) (room : IsRoomy n) (refused : more
       let unsettled : AllFound (FileImages (LeavesOpen b.key.serial)) n.durable.directory =
       undrawn_open n.name n.durable.boot n.volatile.drawn b.key.serial n.durable.directory (λ y d e. undrawn n y d (e ∙ is)) h.running.images.drawn in
       let not_in : In b.key.serial (branch_serials n.volatile.branches ++ record_serials n.volatile.records) → ⊥ = λ i. fresh (subst (λ y. In y (branch_serials n.volatile.branches ++ record_serials n.volatile.records)) is i) in
-      let begun = begun_up m (next_moment m) up b (none_find b.key n.volatile.branches (λ i. not_in (in_left b.key.serial (branch_serials n.volatile.branches) (record_serials n.volatile.records) i))) state changed other unsettled not_in
+      let branches_added = begun_up m (next_moment m) up b (none_find b.key n.volatile.branches (λ i. not_in (in_left b.key.serial (branch_serials n.volatile.branches) (record_serials n.volatile.records) i))) state changed other unsettled not_in
       (subst (IsDrawn n.name n.durable.boot (n.volatile.drawn + 1)) (sym is) (refl, inr (refl, omega arith))) (subst (λ acts. AllTell acts (tm_of n) n.durable.log) shape told).0 (subst (ActsWithin (tm_of n)) shape within).0 in
       record {
-        up = subst (λ acts. AreUp (table_rows acts s m) m) (sym shape) (up, rest (acted (Tables (Notes b) (next_moment m)) m) (shared_after (Tables (Notes b) (next_moment m)) s) begun);
+        up = subst (λ acts. AreUp (table_rows acts s m) m) (sym shape) (up, rest (acted (Tables (Notes b) (next_moment m)) m) (shared_after (Tables (Notes b) (next_moment m)) s) branches_added);
         room =
             let tm = ap size (rows_tm (row (tm_of n) e) s m) in
             let slots = rows_slots (row (tm_of n) e) s m in

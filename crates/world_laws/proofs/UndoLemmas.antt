@@ -7,6 +7,7 @@ use Rattle.std.proofs.lemmas.Bool.{both_ways, cond_both, false_from_ne_true}
 use Rattle.vms_model.specs.Ids.{Id}
 use Rattle.vms_model.specs.Keys.{Key}
 use Rattle.vms_model.specs.Transactions.{Abort, SegFail, Outcome}
+use Rattle.vms_model.specs.Limits.{lock_limit}
 use Rattle.records_model.specs.History.{changes_by, changes_key, same_id, settled_at}
 use Rattle.unit_laws.specs.Units.{moves_end}
 use Rattle.unit_laws.specs.Journal.{ChangeEntry, Journal, JournalEntry, PreparedEntry, RecoveryUnit, SettledEntry, active_units, find_unit, is_settled_in, is_settling, serial_in, trimmed, units_in, units_onto, with_entries, with_one_change, with_prepared, with_settled, without_unit}
@@ -17,7 +18,7 @@ use Rattle.commit_protocol.specs.World.{In, undo_all}
 use Rattle.log_laws.specs.Slots.{prepared_of, records_in}
 use Rattle.run_model.specs.Locks.{Lock}
 use Rattle.run_model.specs.World.{Boots, Durable, File, IsLogInOrder, IsOfTransaction, IsReached, Node, Settlement, Shared, acted, booted, find_file, next_moment, prepared_left, relocked, relocked_by, settled_file, settlement, without_units}
-use Rattle.run_model.specs.Answers.{boot_rows, left_active, lock_limit, table_rows, unit_key}
+use Rattle.run_model.specs.Answers.{boot_rows, left_active, table_rows, unit_key}
 use Rattle.world_laws.specs.Running.{history_of, no_history}
 use Rattle.world_laws.proofs.MomentLemmas.{next_later}
 use Rattle.world_laws.proofs.IdLemmas.{id_is}

@@ -4,6 +4,7 @@ use Rattle.std.specs.FinMap.{get}
 use Rattle.std.specs.List.{AllByRecursion}
 use Rattle.vms_model.specs.Ids.{Id}
 use Rattle.vms_model.specs.Keys.{Key, End}
+use Rattle.vms_model.specs.Limits.{lock_limit}
 use Rattle.records_model.specs.Records.{Change, Records}
 use Rattle.records_model.specs.History.{LiveChanges, same_id, changes_by, settled_at, changed_with, changed_it}
 use Rattle.unit_laws.specs.Units.{moves_end}
@@ -20,7 +21,6 @@ use Rattle.commit_protocol.proofs.Lists.{in_left}
 use Rattle.commit_protocol.proofs.Serials.{keyed, parts_apart}
 use Rattle.run_model.specs.Locks.{Lock, not_locked, with_locks, is_locked}
 use Rattle.run_model.specs.World.{Changes, Creates, Declares, Directs, Draws, File, Holds, IsPreparedUnit, Mark, Marks, Saves, Recovers, Node, Sequential, Settlement, acted, find_file, serials_of, tm_of, with_changed, Durable, Volatile, directly_changed, changed_file, marked_file, recovered_file, saved_file, with_file, with_images}
-use Rattle.run_model.specs.Answers.{lock_limit}
 use Rattle.recovery_model.specs.Journal as image
 use Rattle.std.specs.Prelude.{slice_set}
 use Rattle.world_laws.specs.Running.{AllImages, FileImages, IsDrawn, TellTable, no_history, IsFileHeld}

@@ -9,7 +9,7 @@ use Rattle.script_model.specs.Statements.{Operation}
 use Rattle.records_model.specs.Records.{key_cmp}
 use Rattle.run_model.specs.Locks.{Lock, is_locked, released, with_locks}
 use Rattle.run_model.specs.World.{File}
-use Rattle.run_model.specs.Operations.{keys_held, standing_of}
+use Rattle.run_model.specs.Operations.{current_records, keys_held}
 
 -- no two of these keys are one
 abbrev pub KeysDiffer : List Key → Type 0
@@ -31,4 +31,4 @@ FewerLocksDiffer = (serial : Id) (ls : List Lock) → LocksDiffer ls → LocksDi
 
 -- The keys that it holds for an operation are such, where no record of the file stands at its end.
 abbrev pub HeldKeysDiffer : Type 0
-HeldKeysDiffer = (f : File) (op : Operation) → get (standing_of f) End ≡ None → KeysDiffer (keys_held f op)
+HeldKeysDiffer = (f : File) (op : Operation) → get (current_records f) End ≡ None → KeysDiffer (keys_held f op)

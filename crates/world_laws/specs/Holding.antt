@@ -3,12 +3,12 @@ use Rattle.std.specs.Prelude.{◌≡◌, ◌≤◌, ℕ, List, true, Some, lengt
 use Rattle.std.specs.List.{AllByRecursion}
 use Rattle.vms_model.specs.Ids.{Id}
 use Rattle.vms_model.specs.Keys.{End}
+use Rattle.vms_model.specs.Limits.{branch_limit, lock_limit}
 use Rattle.records_model.specs.History.{changes_by}
 use Rattle.unit_laws.specs.Units.{moves_end}
 use Rattle.commit_protocol.specs.World.{In}
 use Rattle.run_model.specs.Locks.{Lock, holder}
 use Rattle.run_model.specs.World.{File, Node, Sequential, find_file, serials_of}
-use Rattle.run_model.specs.Answers.{branch_limit, lock_limit}
 use Rattle.world_laws.specs.Restarts.{AreHeld}
 
 -- an unsettled branch that moved the end of a sequential file holds that end

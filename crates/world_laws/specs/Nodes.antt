@@ -4,12 +4,13 @@ use Rattle.std.specs.FinMap.{get}
 use Rattle.std.specs.List.{AllByRecursion}
 use Rattle.vms_model.specs.Ids.{Id}
 use Rattle.vms_model.specs.Keys.{End}
+use Rattle.vms_model.specs.Limits.{lock_limit, slot_limit}
 use Rattle.records_model.specs.History.{History, changes_by, current}
 use Rattle.unit_laws.specs.Journal.{JournalEntry, serial_in}
 use Rattle.log_laws.specs.Slots.{size}
 use Rattle.recovery_model.specs.Journal as image
 use Rattle.run_model.specs.World.{Act, ComesUp, DiskCounts, Durable, File, FollowOneAnother, IsLogInOrder, IsPlainCarried, KeepsImages, Node, OneMovesEndOf, Shared, acted, booted, durable_after, find_file, find_node, is_durable, tm_of}
-use Rattle.run_model.specs.Answers.{Row, Task, boot_rows, lock_limit, refused_before_reading, task_service}
+use Rattle.run_model.specs.Answers.{Row, Task, boot_rows, refused_before_reading, task_service}
 use Rattle.run_model.specs.Steps.{NodeStep, node_after, node_after_rows}
 use Rattle.run_model.specs.Transcript.{InAllRuns}
 use Rattle.transcript_model.specs.Lines.{Line}
@@ -65,7 +66,7 @@ pub record IsFiled (name : List ℕ) (d : Durable) : Type 0 where
 -- what holds of a node that is up, also behind each act of a row
 pub record IsUp (n : Node) : Type 0 where
   pub filed : IsFiled n.name n.durable
-  pub slots : length n.durable.log ≤ 512
+  pub slots : length n.durable.log ≤ slot_limit
   pub table : TellTable n
   pub running : IsRunning n
   pub holding : IsHolding n

@@ -3,6 +3,7 @@ use Rattle.std.specs.Prelude.{◌≡◌, ◌≤◌, ◌<◌, ◌^◌, ℕ, ◌+�
 use Rattle.std.specs.List.{AllByRecursion, list_any}
 use Rattle.vms_model.specs.Ids.{Id}
 use Rattle.vms_model.specs.Keys.{Key, Number, Text}
+use Rattle.vms_model.specs.Limits.{branch_limit, change_limit}
 use Rattle.records_model.specs.Records.{Change, Records}
 use Rattle.records_model.specs.History.{same_id}
 use Rattle.unit_laws.specs.Units.{Map, has_changes}
@@ -12,7 +13,7 @@ use Rattle.commit_protocol.specs.Table as table
 use Rattle.commit_protocol.specs.Table.{Key as BranchKey, Prepares, Undoes}
 use Rattle.run_model.specs.World.{Durable, Volatile, File, IsOfTransaction, Organization, Sequential, Relative, Indexed, Settlement, Mark, Boots, Changes, Creates, Directs, Formats, Marks, Saves, Recovers, Tables, changes_made, durable_after, find_file, free_place, tid_in, with_half}
 use Rattle.run_model.specs.Operations.{key_within}
-use Rattle.run_model.specs.Answers.{branch_limit, change_limit, owed_first}
+use Rattle.run_model.specs.Answers.{owed_first}
 
 -- a key is of the form that an organization has: a position, the number of a cell, both of 32 bits, or as many bytes as a key has
 abbrev pub IsKeyOf : Organization → Key → Type 0

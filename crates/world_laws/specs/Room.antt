@@ -1,13 +1,14 @@
 -- What is left to a branch that no quota refuses: its changes may be entered.
 use Rattle.std.specs.Prelude.{◌≡◌, ◌≤◌, ◌<◌, ℕ, ◌+◌, ◌*◌, List, true, false, None, length}
 use Rattle.vms_model.specs.Ids.{Id}
+use Rattle.vms_model.specs.Limits.{branch_limit, change_limit}
 use Rattle.records_model.specs.Records.{Change}
 use Rattle.unit_laws.specs.Units.{has_changes}
 use Rattle.unit_laws.specs.Journal.{entries_for, entries_size, find_unit, owed, units_in}
 use Rattle.unit_laws.specs.JournalLaws.{is_unit}
 use Rattle.commit_protocol.specs.Table.{Branch}
 use Rattle.run_model.specs.World.{Node, changes_made, serials_of}
-use Rattle.run_model.specs.Answers.{branch_limit, change_limit, journal_full, more_changes, owed_first}
+use Rattle.run_model.specs.Answers.{journal_full, more_changes, owed_first}
 use Rattle.commit_protocol.specs.World.{In}
 use Rattle.world_laws.specs.Ordered.{IsJournalInOrder}
 

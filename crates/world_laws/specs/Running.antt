@@ -4,6 +4,7 @@ use Rattle.std.specs.List.{AllByRecursion}
 use Rattle.std.specs.FinMap.{empty}
 use Rattle.vms_model.specs.Ids.{Id}
 use Rattle.vms_model.specs.Keys.{Key}
+use Rattle.vms_model.specs.Limits.{lock_limit}
 use Rattle.records_model.specs.History.{History, LiveChanges, changes_by, changes_key, same_id}
 use Rattle.unit_laws.specs.Journal.{Journal, JournalEntry, RecoveryUnit, find_unit, is_settled_in, serial_in, units_in}
 use Rattle.unit_laws.specs.JournalLaws.{HasNotes, is_unit}
@@ -17,7 +18,6 @@ use Rattle.run_model.specs.Locks.{Lock, holder}
 use Rattle.recovery_model.specs.Journal as image
 use Rattle.recovery_model.specs.File.{all_of}
 use Rattle.run_model.specs.World.{Carried, File, IsOfTransaction, IsPreparedUnit, Node, find_file, serial_of_image, serials_of, tm_of}
-use Rattle.run_model.specs.Answers.{lock_limit}
 use Rattle.world_laws.specs.Ordered.{is_prepared_in}
 use Rattle.world_laws.specs.Holding.{IsEndHeld}
 

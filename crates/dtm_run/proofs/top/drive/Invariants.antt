@@ -4,7 +4,7 @@ use Rattle.run_model.specs.World.{Node}
 use Rattle.run_model.specs.Transcript.{AreOpening}
 use Rattle.run_nodes.specs.Held.{AreNodes, kept_all, names_of}
 use Rattle.run_nodes.specs.Together.{disks_of, said_together}
-use Rattle.dtm_run.specs.Headline.{AllGo, StandOn}
+use Rattle.dtm_run.specs.Headline.{AllGo, DisksRepresent}
 use Rattle.dtm_run.proofs.Driving.{Going}
 use Rattle.dtm_run.proofs.Telling.{Telling}
 use Rattle.dtm_run.proofs.top.drive.Given as goal
@@ -20,7 +20,7 @@ invariant-loop-number g l = record {
   failed : l.out.failed ≡ false;
   read_count : g.S.Source.faults l.fn.source ≤ g.S.Source.faults l.source;
   write_count : g.K.Sink.faults l.fn.out.sink.now ≤ g.K.Sink.faults l.out.sink.now;
-  going : (said : List Node) → AreOpening said → StandOn (names_of l.fn.nodes) (disks_of (kept_all g.D.Disk.state g.U.RecoveryUnits.state l.fn.nodes)) said →
+  going : (said : List Node) → AreOpening said → DisksRepresent (names_of l.fn.nodes) (disks_of (kept_all g.D.Disk.state g.U.RecoveryUnits.state l.fn.nodes)) said →
       Going (names_of l.fn.nodes) (record { nodes = said; disks = disks_of (kept_all g.D.Disk.state g.U.RecoveryUnits.state l.fn.nodes) }) (lines_ahead l.fn.reader (g.S.Source.left l.fn.source)) (lines_ahead l.reader (g.S.Source.left l.source)) (g.K.Sink.shown l.fn.out.sink.now) (g.K.Sink.shown l.out.sink.now)
       l.number (taken_bytes l.reader) (kept_all g.D.Disk.state g.U.RecoveryUnits.state l.nodes) l.shared;
   telling : Telling (names_of l.fn.nodes) (disks_of (kept_all g.D.Disk.state g.U.RecoveryUnits.state l.fn.nodes)) (lines_ahead l.fn.reader (g.S.Source.left l.fn.source)) (lines_ahead l.reader (g.S.Source.left l.source)) (g.K.Sink.shown l.fn.out.sink.now) (g.K.Sink.shown l.out.sink.now)

@@ -3,7 +3,7 @@ use Rattle.std.specs.FinMap.{contains_key}
 use Rattle.vms_model.specs.Keys as key
 use Rattle.reference_world.specs.declared.line.Line.TheVariants as line
 use Rattle.run_model.specs.Operations as operations
-use Rattle.run_model.specs.Operations.{standing_of}
+use Rattle.run_model.specs.Operations.{current_records}
 use Rattle.reference_index.specs.Standing.{lent_value}
 use Rattle.reference_world.specs.Standing.{file_of, line_of, organization_of}
 use Rattle.reference_world.specs.declared.world.Organization.{Organization}
@@ -15,14 +15,14 @@ held (Some b) x e = ap is_some e
 
 pub returns-in-Some : goal.returns-in-Some
 returns-in-Some c =
-    let m = standing_of (file_of c.args.f.now) in
+    let m = current_records (file_of c.args.f.now) in
     subst (λ (o : Option ℕ). option_map line_of c.refused_if.result ≡ operations.put_refused (organization_of c.args.f.now.organization) m o c.args.bytes.now) (sym c.in-Some.is)
     (c.refused_if.ensures ∙ ap (λ (t : Bool). operations.refused_if t (line_of line.RecordExists)) (c.is_some.ensures ∙ held _ _ c.record_in-found.ensures)
     ∙ ap (λ (n : ℕ). operations.refused_if (contains_key m (key.Number n)) (line_of line.RecordExists)) c.from.ensures)
 
 pub returns-in-Indexed : goal.returns-in-Indexed
 returns-in-Indexed c =
-    let m = standing_of (file_of c.args.f.now) in
+    let m = current_records (file_of c.args.f.now) in
     subst (λ (o : Option ℕ). option_map line_of c.refused_if-in-Indexed.result ≡ operations.put_refused (organization_of c.args.f.now.organization) m o c.args.bytes.now) (sym c.in_default.is)
     (subst (λ (x : Organization). option_map line_of c.refused_if-in-Indexed.result ≡ operations.put_refused (organization_of x) m None c.args.bytes.now) (sym c.in-Indexed.is)
     (c.refused_if-in-Indexed.ensures ∙ ap (λ (t : Bool). operations.refused_if t (line_of line.KeyExists)) (c.is_some-in-Indexed.ensures ∙ held _ _ c.record_in-found-in-Indexed.ensures)

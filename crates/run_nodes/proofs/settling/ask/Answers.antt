@@ -11,7 +11,7 @@ use Rattle.statement_steps.specs.Settling.{question_in}
 use Rattle.statement_steps.proofs.Rising.{up_at}
 use Rattle.run_nodes.specs.Held.{kept_all, names_of}
 use Rattle.run_nodes.specs.Names.{AreApart, is_among}
-use Rattle.node_standing.specs.Standing.{Kept}
+use Rattle.node_standing.specs.Standing.{NodeState}
 use Rattle.run_nodes.specs.Told.{TurnOver, TurnTold, kept_names}
 use Rattle.run_nodes.specs.Phases.{AskedOne}
 use Rattle.run_nodes.specs.Tasks.{DoesTask}

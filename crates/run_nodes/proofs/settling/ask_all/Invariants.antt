@@ -4,7 +4,7 @@ use Rattle.emitter_model.specs.Emitting.{Since}
 use Rattle.run_model.specs.World.{World}
 use Rattle.statement_steps.specs.Settling.{AreUp, asks_of}
 use Rattle.run_nodes.specs.Held.{AreNodes, kept_all, names_of}
-use Rattle.run_nodes.specs.Phases.{Enters, Goes}
+use Rattle.run_nodes.specs.Phases.{Enters, PartsDone}
 use Rattle.run_nodes.specs.Told.{TurnTold}
 use Rattle.run_nodes.proofs.settling.ask_all.Given as goal
 
@@ -17,5 +17,5 @@ invariant-loop-place g l = record {
   since : Since (g.E.Emit.shows l.fn.out) (g.E.Emit.shows l.out);
   told : TurnTold (names_of l.fn.nodes) (kept_all g.D.Disk.state g.U.RecoveryUnits.state l.fn.nodes) l.fn.shared (g.E.Emit.shows l.fn.out) (g.E.Emit.shows l.out) (kept_all g.D.Disk.state g.U.RecoveryUnits.state l.nodes) l.shared;
   goes : (logs : List CallLog) (w u : World) → Enters logs w u (kept_all g.D.Disk.state g.U.RecoveryUnits.state l.fn.nodes) l.fn.shared → AreUp u.nodes →
-      (h : Goes asks_of logs w u l.place (g.E.Emit.shows l.fn.out) (g.E.Emit.shows l.out) (kept_all g.D.Disk.state g.U.RecoveryUnits.state l.nodes) l.shared) × AreUp h.world.nodes;
+      (h : PartsDone asks_of logs w u l.place (g.E.Emit.shows l.fn.out) (g.E.Emit.shows l.out) (kept_all g.D.Disk.state g.U.RecoveryUnits.state l.nodes) l.shared) × AreUp h.world.nodes;
 }

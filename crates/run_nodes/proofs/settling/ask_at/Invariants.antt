@@ -5,7 +5,7 @@ use Rattle.emitter_model.specs.Emitting.{Shown, Since}
 use Rattle.run_model.specs.World.{Node, World}
 use Rattle.statement_steps.specs.Settling.{AreUp, asks_of, doubts_of}
 use Rattle.run_nodes.specs.Held.{AreNodes, kept_all, names_of}
-use Rattle.run_nodes.specs.Phases.{AskingAt, Goes}
+use Rattle.run_nodes.specs.Phases.{AskingAt, PartsDone}
 use Rattle.run_nodes.specs.Told.{TurnTold}
 use Rattle.run_nodes.proofs.settling.ask_at.Given as goal
 
@@ -18,6 +18,6 @@ invariant-loop-number g l = record {
   since : Since (g.E.Emit.shows l.fn.out) (g.E.Emit.shows l.out);
   few : l.unanswered ≤ l.number;
   told : TurnTold (names_of l.fn.nodes) (kept_all g.D.Disk.state g.U.RecoveryUnits.state l.fn.nodes) l.fn.shared (g.E.Emit.shows l.fn.out) (g.E.Emit.shows l.out) (kept_all g.D.Disk.state g.U.RecoveryUnits.state l.nodes) l.shared;
-  asking : (logs : List CallLog) (w u : World) (a : Shown) (h : Goes asks_of logs w u l.fn.place a (g.E.Emit.shows l.fn.out) (kept_all g.D.Disk.state g.U.RecoveryUnits.state l.fn.nodes) l.fn.shared) → AreUp h.world.nodes → (n : Node) → slice_get h.world.nodes l.fn.place ≡ Some n →
+  asking : (logs : List CallLog) (w u : World) (a : Shown) (h : PartsDone asks_of logs w u l.fn.place a (g.E.Emit.shows l.fn.out) (kept_all g.D.Disk.state g.U.RecoveryUnits.state l.fn.nodes) l.fn.shared) → AreUp h.world.nodes → (n : Node) → slice_get h.world.nodes l.fn.place ≡ Some n →
       AskingAt logs w h.world l.fn.place n.name (doubts_of n) l.number l.unanswered (g.E.Emit.shows l.fn.out) (g.E.Emit.shows l.out) (kept_all g.D.Disk.state g.U.RecoveryUnits.state l.nodes) l.shared;
 }

@@ -4,7 +4,7 @@ use Rattle.emitter_model.proofs.EmittingLemmas.{since_on, since_same}
 use Rattle.script_model.specs.Statements.{Settle}
 use Rattle.run_model.specs.Statements.{begun_with}
 use Rattle.statement_steps.specs.Settling.{restart_of}
-use Rattle.node_standing.specs.Standing.{Kept, is_up}
+use Rattle.node_standing.specs.Standing.{NodeState, is_up}
 use Rattle.run_nodes.specs.Held.{kept_all}
 use Rattle.run_nodes.specs.Names.{AreApart}
 use Rattle.run_nodes.specs.Told.{RestartsTold, kept_names}
@@ -49,7 +49,7 @@ loop-place-preserved-then-is_up g c =
     let apart_now : AreApart (kept_names ms) = subst AreApart now (subst AreApart (sym i.names) c.requires.apart) in
     let within : c.loop-place.place < length (kept_names ks) = subst (λ xs. c.loop-place.place < length xs) same (omega (arith, c.loop-place-test.true, c.len-place-end.ensures)) in
     let a = g.E.Emit.shows c.loop-place.out in
-    let up : (k : Kept) → slice_get ms c.loop-place.place ≡ Some k → is_up k.place ≡ true = λ k e. sym (c.is_up.ensures k e) ∙ c.if-is_up.true in
+    let up : (k : NodeState) → slice_get ms c.loop-place.place ≡ Some k → is_up k.place ≡ true = λ k e. sym (c.is_up.ensures k e) ∙ c.if-is_up.true in
     record {
       names = i.names;
       nodes = i.nodes;

@@ -1,7 +1,7 @@
 use Rattle.std.proofs.Common.{◌<◌, ℕ, List, [], Option, Some, None, IfSome, map, refl, subst, sym, ◌∙◌, arith}
 use Rattle.journal_format.specs.Heads.{entry_of}
 use Rattle.journal_store.specs.Reading.{ReadsAt}
-use Rattle.ru_journal.specs.Told.{Told}
+use Rattle.ru_journal.specs.Told.{JournalScan}
 use Rattle.tm_types.specs.Parts.{log_record_of}
 use Rattle.unit_table.specs.Units.{Units, begun, no_units}
 use Rattle.unit_entries.specs.Opening.{AreAlike, AreFiledOf, AscendWithin, BeginWithin, HasOpened}
@@ -17,7 +17,7 @@ pub loop-position-init : goal.loop-position-init
 loop-position-init g c = record {
   stays = stays_so c.args.store.now;
   behind = omega arith;
-  alike = λ w. subst (λ (x : Units). AreAlike c.clear.new.self.units (begun x)) (sym c.clear-2.ensures) (subst (λ (t : Told). AreAlike t.units (begun no_units)) (sym c.clear.ensures) tt);
+  alike = λ w. subst (λ (x : Units). AreAlike c.clear.new.self.units (begun x)) (sym c.clear-2.ensures) (subst (λ (t : JournalScan). AreAlike t.units (begun no_units)) (sym c.clear.ensures) tt);
   within = λ w. subst (λ (x : Units). BeginWithin c.args.span.now (begun x)) (sym c.clear-2.ensures) tt;
   ascends = λ w. subst (λ (x : Units). AscendWithin c.args.span.now.first c.args.span.now.first (begun x)) (sym c.clear-2.ensures) tt;
   read = of_any c.args.store.now.current (λ x es journal. (
@@ -27,7 +27,7 @@ loop-position-init g c = record {
   filed = of_any c.args.store.now.current (λ x w. subst (λ (y : Units). AreFiledOf c.args.span.now x (begun y)) (sym c.clear-2.ensures) tt);
   opened = of_any c.args.store.now.current (λ x es journal w.
       subst (λ (y : Units). HasOpened c.args.span.now es c.args.span.now.first c.clear.new.self (begun y)) (sym c.clear-2.ensures)
-      (subst (λ (t : Told). HasOpened c.args.span.now es c.args.span.now.first t (begun no_units)) (sym c.clear.ensures) (nothing_opened x c.args.span.now es journal)));
+      (subst (λ (t : JournalScan). HasOpened c.args.span.now es c.args.span.now.first t (begun no_units)) (sym c.clear.ensures) (nothing_opened x c.args.span.now es journal)));
   voting = none_voted c.args.store.now.current c.args.span.now (map log_record_of c.args.rest.now.items) (map log_record_of c.args.out.now.items);
   count = refl;
   room = omega arith;

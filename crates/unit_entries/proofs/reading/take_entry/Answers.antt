@@ -1,7 +1,7 @@
 use Rattle.std.proofs.Common.{◌≡◌, [], ℕ, ◌==◌, false, Option, Some, None, IfSome, Result, Ok, Err, OnOk, refl, sym, subst, ap, ◌∙◌}
 use Rattle.std.specs.Prelude.{is_err}
 use Rattle.journal_format.specs.Heads.{entry_of}
-use Rattle.ru_journal.specs.Told.{Told, after, is_out_of_order}
+use Rattle.ru_journal.specs.Told.{JournalScan, after, is_out_of_order}
 use Rattle.unit_table.specs.Units.{OpenUnit, begun, first_that, is_of}
 use Rattle.vms_base.specs.Ids.{serial_of}
 use Rattle.unit_entries.specs.Opening.{AreAlike}
@@ -35,6 +35,6 @@ returns-clause-alike c = λ _.
     let e = entry_of c.args.e.now [] in
     let may : is_out_of_order e c.args.state.now ≡ false = sym c.take.ensures.order ∙ sym c.is_err.ensures.value ∙ c.if-is_err.false in
     let took = of_ok c.take.result (sym c.is_err.ensures.value ∙ c.if-is_err.false) c.take.ensures.takes in
-    subst (λ (t : Told). AreAlike t.units (begun c.follow_entry.new.units)) (sym took)
+    subst (λ (t : JournalScan). AreAlike t.units (begun c.follow_entry.new.units)) (sym took)
     (subst (AreAlike (after c.args.position e c.args.state.now).units) (sym c.follow_entry.ensures)
     (alike_after c.args.position e c.args.state.now (begun c.args.units.now) (prepared_kind c.args.e.now.kind) (c.requires.alike c.if-not-whole.false) may))

@@ -5,7 +5,7 @@ use Rattle.run_shared.specs.Sharing.{SharedState}
 use Rattle.dtm_node.specs.Causes.{cause_of}
 use Rattle.dtm_node.specs.Nodes.{kept_of, place_of}
 use Rattle.dtm_node.specs.Opening.{ComesTo}
-use Rattle.node_standing.specs.Standing.{Kept}
+use Rattle.node_standing.specs.Standing.{NodeState}
 use Rattle.dtm_node.proofs.BootPlaces.{left_place}
 use Rattle.dtm_node.proofs.Going.{same_moment}
 use Rattle.dtm_node.proofs.Boots.{ended_comes, opens_fell, opens_lacks, opens_open, opens_refused, up_comes}
@@ -17,7 +17,7 @@ returns-in-Up-clause-comes g c =
     let q = (kept_of g.D.Disk.state g.U.RecoveryUnits.state c.rise.new.self).place in
     let a = g.E.Emit.shows c.args.out.now in
     let b = g.E.Emit.shows c.rise.new.out in
-    subst (λ (l : Kept). ComesTo k c.args.shared.now c.rise.result a b l c.occupy.new.self) (sym c.rise.ensures.kept)
+    subst (λ (l : NodeState). ComesTo k c.args.shared.now c.rise.result a b l c.occupy.new.self) (sym c.rise.ensures.kept)
     (subst (λ (t : SharedState). ComesTo k c.args.shared.now c.rise.result a b (record k { place = q }) t) (sym c.occupy.ensures)
     (up_comes c.the_laws.ensures k (place_of g.D.Disk.state g.U.RecoveryUnits.state c.replace_with.new.dest) q c.rise.result c.args.shared.now a b c.requires.made c.requires.down (c.in-Up.ensures.1 c.args.self.now.clock.0) c.rise.ensures.reopens))
 
@@ -49,8 +49,8 @@ emit-requires-in-Refused g c = (opens_refused (record (kept_of g.D.Disk.state g.
 
 pub returns-in-Up-clause-keeps : goal.returns-in-Up-clause-keeps
 returns-in-Up-clause-keeps g c = record {
-  name = ap (λ (k : Kept). k.name) c.rise.ensures.kept;
-  clock = same_moment _ _ (ap (λ (k : Kept). k.clock) c.rise.ensures.kept);
+  name = ap (λ (k : NodeState). k.name) c.rise.ensures.kept;
+  clock = same_moment _ _ (ap (λ (k : NodeState). k.clock) c.rise.ensures.kept);
   in_use = λ used. ap (λ (t : SharedState). t.in_use) c.occupy.ensures;
   node = λ count h. c.rise.ensures.node count c.occupy.new.self (ap (λ (t : SharedState). t.in_use) c.occupy.ensures) c.requires.made;
 }

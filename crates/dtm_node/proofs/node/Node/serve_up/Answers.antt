@@ -3,7 +3,7 @@ use Rattle.emitter_model.proofs.EmittingLemmas.{since_on}
 use Rattle.script_lang.specs.Statements.{request_of}
 use Rattle.node_table.specs.Code.{up_of}
 use Rattle.node_requests.specs.Requests.{AnswersRequest}
-use Rattle.node_standing.specs.Standing.{Kept}
+use Rattle.node_standing.specs.Standing.{NodeState}
 use Rattle.dtm_node.proofs.Going.{same_keeps, same_moment}
 use Rattle.dtm_node.proofs.NodeEvents.{fall_shown}
 use Rattle.dtm_node.proofs.NodeRequests.{broken_falls, broken_performs, broken_tells, lacking_node, lacking_performs, lacking_tells, lacking_use, may_serve_node, refused_performs, refused_tells, request_use, served_node, served_performs, served_tells}
@@ -91,8 +91,8 @@ go_down-requires g c = record {
 
 pub returns-in-Err-clause-keeps : goal.returns-in-Err-clause-keeps
 returns-in-Err-clause-keeps g c = record {
-  name = ap (λ (k : Kept). k.name) c.go_down.ensures.kept;
-  clock = same_moment _ _ (ap (λ (k : Kept). k.clock) c.go_down.ensures.kept);
+  name = ap (λ (k : NodeState). k.name) c.go_down.ensures.kept;
+  clock = same_moment _ _ (ap (λ (k : NodeState). k.clock) c.go_down.ensures.kept);
   in_use = λ used. request_use _ _ _ _ _ _ _ c.requires.asks c.in-Err.ensures.does.says used;
   node = λ count h. c.go_down.ensures.node (count + 1) c.serve_up.new.shared h.clock;
 }

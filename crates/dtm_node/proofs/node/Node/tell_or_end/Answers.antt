@@ -1,5 +1,5 @@
 use Rattle.run_shared.specs.Sharing.{SharedState}
-use Rattle.node_standing.specs.Standing.{Kept}
+use Rattle.node_standing.specs.Standing.{NodeState}
 use Rattle.std.proofs.Common.{false, ap, ◌∙◌}
 use Rattle.tm_types.specs.Events.{event_of}
 use Rattle.dtm_node.proofs.NodeEvents.{fall_shown, node_done, node_down, node_failed}
@@ -21,8 +21,8 @@ returns-in-Down-clause-does g c =
 
 pub returns-in-Err-clause-keeps : goal.returns-in-Err-clause-keeps
 returns-in-Err-clause-keeps g c = record {
-  name = ap (λ (k : Kept). k.name) c.go_down.ensures.kept;
-  clock = same_moment _ _ (ap (λ (k : Kept). k.clock) c.go_down.ensures.kept);
+  name = ap (λ (k : NodeState). k.name) c.go_down.ensures.kept;
+  clock = same_moment _ _ (ap (λ (k : NodeState). k.clock) c.go_down.ensures.kept);
   in_use = λ used. ap (λ (s : SharedState). s.in_use) c.in-Err.ensures.keeps.work.shared ∙ used;
   node = λ count h. c.go_down.ensures.node count c.tell.new.shared h.clock;
 }

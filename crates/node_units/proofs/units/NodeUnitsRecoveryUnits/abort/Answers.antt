@@ -21,7 +21,7 @@ use Rattle.rms_units.specs.Voting.{AbortsPrepared, AbortsPreparedNot}
 use Rattle.log_laws.specs.Slots.{Slots}
 use Rattle.node_units.specs.declared.begun.BegunUnit.{BegunUnit}
 use Rattle.node_units.specs.Seen.{seen}
-use Rattle.node_units.specs.Tokens.{StandFor, is_of, place_in}
+use Rattle.node_units.specs.Tokens.{TokensRepresent, is_of, place_in}
 use Rattle.node_units.proofs.Aborting.{aborts_not, aborts_ok}
 use Rattle.node_units.proofs.Giving.{gives_not, gives_ok}
 use Rattle.node_units.proofs.Handling.{Handles, by_kind, gone_aborted, may_settle, order_of, order_then, own_at, slots_else, slots_if, stand_without}
@@ -122,7 +122,7 @@ invariant_of-self g c =
     let active : own.unit.prepared ≡ false → AbortsNot (place_in b.token) own.unit reason clock s v t w = λ e. c.in-Err.ensures.active_err (active_of b.token own.held (sym own.prepared ∙ e)) own.unit own.there in
     let waiting : own.unit.prepared ≡ true → AbortsPreparedNot (place_in b.token) own.unit reason clock s log v t us w = λ e. c.in-Err.ensures.waiting_err (sym own.prepared ∙ e) own.unit own.there in
     let spent = by_kind own.unit.prepared (λ e. (waiting e).spent) (λ e. (active e).spent) in
-    (subst (λ (zs : List BegunUnit). StandFor zs t) (sym c.remove-tid.ensures.items) (stand_without ts s log v x i b was clock k t spent), (let more = c.remove-tid.ensures.capacity in let room = c.self.invariant.1 in omega (arith, more, room)))
+    (subst (λ (zs : List BegunUnit). TokensRepresent zs t) (sym c.remove-tid.ensures.items) (stand_without ts s log v x i b was clock k t spent), (let more = c.remove-tid.ensures.capacity in let room = c.self.invariant.1 in omega (arith, more, room)))
 
 pub returns-in-Err-clause-err : goal.returns-in-Err-clause-err
 returns-in-Err-clause-err g c =
@@ -201,7 +201,7 @@ invariant_of-self-in-Ok g c =
     let active : own.unit.prepared ≡ false → (us ≡ log) × A told.tid told.serial told.moment = λ e. (let r = c.in-Ok.ensures.active (active_of b.token own.held (sym own.prepared ∙ e)) in (r.0, as_told A (r.1 own.unit own.there))) in
     let waiting : own.unit.prepared ≡ true → B told.tid told.serial told.moment = λ e. as_told B (c.in-Ok.ensures.waiting (sym own.prepared ∙ e) own.unit own.there) in
     let spent = by_kind own.unit.prepared (λ e. (waiting e).spent) (λ e. (active e).1.spent) in
-    (subst (λ (zs : List BegunUnit). StandFor zs c.told_above.new.units) (sym c.remove-tid.ensures.items) (stand_without ts s log v x i b was clock k c.told_above.new.units (c.told_above.ensures.same ∙ spent)), (let more = c.remove-tid.ensures.capacity in let room = c.self.invariant.1 in omega (arith, more, room)))
+    (subst (λ (zs : List BegunUnit). TokensRepresent zs c.told_above.new.units) (sym c.remove-tid.ensures.items) (stand_without ts s log v x i b was clock k c.told_above.new.units (c.told_above.ensures.same ∙ spent)), (let more = c.remove-tid.ensures.capacity in let room = c.self.invariant.1 in omega (arith, more, room)))
 
 pub returns-in-Ok-clause-units : goal.returns-in-Ok-clause-units
 returns-in-Ok-clause-units g c =

@@ -6,7 +6,7 @@ use Rattle.recovery_units.specs.State.{UnitsState, with_begun}
 use Rattle.node_units.specs.declared.begun.BegunUnit.{BegunUnit}
 use Rattle.rms_units.specs.State as rms
 use Rattle.node_units.specs.Seen.{seen}
-use Rattle.node_units.specs.Tokens.{StandFor, place_in}
+use Rattle.node_units.specs.Tokens.{TokensRepresent, place_in}
 use Rattle.node_units.proofs.TokenLemmas.{begun_more, stand_long, stand_more}
 use Rattle.node_units.proofs.units.NodeUnitsRecoveryUnits.begin.Goals as goal
 
@@ -23,7 +23,7 @@ invariant_of-self c =
     let ts = c.self.inside.begun.items in
     let t : BegunUnit = record { tid = c.args.tid; serial = c.args.serial; token = c.begin_unit-token.result } in
     let more = stand_more ts s c.self.invariant.0 c.stand_in_order.ensures (place_in c.begin_unit-token.result) t c.begin_unit-token.ensures.below c.begin_unit-token.ensures.free refl c.begin_unit-token.ensures.active in (
-      subst (λ (xs : List BegunUnit). StandFor xs c.begin_unit-token.new.units) (sym c.push_reserved.ensures.items) (subst (StandFor (ts ++ t ∷ [])) (sym c.begin_unit-token.ensures.begun) more),
+      subst (λ (xs : List BegunUnit). TokensRepresent xs c.begin_unit-token.new.units) (sym c.push_reserved.ensures.items) (subst (TokensRepresent (ts ++ t ∷ [])) (sym c.begin_unit-token.ensures.begun) more),
       (let roomy = c.push_reserved.ensures.capacity in let room = c.self.invariant.1 in omega (arith, roomy, room)),
     )
 

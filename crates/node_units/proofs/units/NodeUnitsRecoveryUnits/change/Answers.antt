@@ -17,7 +17,7 @@ use Rattle.rms_units.specs.State.{unit_of}
 use Rattle.volume.specs.State.{SameVolume}
 use Rattle.node_units.specs.declared.begun.BegunUnit.{BegunUnit}
 use Rattle.node_units.specs.Seen.{seen}
-use Rattle.node_units.specs.Tokens.{StandFor, is_of, place_in}
+use Rattle.node_units.specs.Tokens.{TokensRepresent, is_of, place_in}
 use Rattle.node_units.proofs.Answering.{both_with, err_as, ok_and, ok_of, ok_with, refused_same}
 use Rattle.node_units.proofs.Changing.{change_err, change_ok, start_kept}
 use Rattle.node_units.proofs.Seeing.{early_unseen, order_seen, order_unseen}
@@ -78,12 +78,12 @@ module _ (g : _) (c : After-stand_in_order-2 g) where
   place_below = (position-Some (is_of x) c.self.inside.begun.items c.in-Some.place c.index_mut-begun.result.now (sym (ap (position (is_of x)) c.deref.ensures.value) ∙ sym c.place_of.ensures ∙ c.in-Some.is)).0
 
   -- the tokens stand for the units then
-  stand : StandFor c.self.inside.begun.items t
+  stand : TokensRepresent c.self.inside.begun.items t
   stand =
-      both_with _ _ (StandFor c.self.inside.begun.items t) c.change_held-done.result
+      both_with _ _ (TokensRepresent c.self.inside.begun.items t) c.change_held-done.result
       (λ position d. stand_changes c.self.inside.begun.items s t (place_in c.index_mut-begun.result.now.token) own.unit c.requires.file.0 c.args.op.now c.args.bytes.now position c.args.volume.now c.change_held-done.new.volume c.self.invariant.0 c.stand_in_order.ensures own.there
       (d own.unit c.requires.file.0 own.there c.requires.file.1))
-      (λ e k. subst (StandFor c.self.inside.begun.items) (sym (k own.unit c.requires.file.0 own.there c.requires.file.1).0) c.self.invariant.0) c.change_held-done.ensures.done c.change_held-done.ensures.err
+      (λ e k. subst (TokensRepresent c.self.inside.begun.items) (sym (k own.unit c.requires.file.0 own.there c.requires.file.1).0) c.self.invariant.0) c.change_held-done.ensures.done c.change_held-done.ensures.err
 
 pub invariant_of-self : goal.invariant_of-self
 invariant_of-self g c =

@@ -19,7 +19,7 @@ use Rattle.rms_units.specs.State as rms
 use Rattle.rms_units.specs.Voting.{CommitsLogged, CommitsLoggedNot, commit_of}
 use Rattle.node_units.specs.declared.begun.BegunUnit.{BegunUnit}
 use Rattle.node_units.specs.Seen.{seen}
-use Rattle.node_units.specs.Tokens.{StandFor, is_of, place_in}
+use Rattle.node_units.specs.Tokens.{TokensRepresent, is_of, place_in}
 use Rattle.node_units.proofs.Committing.{commits_not, commits_ok}
 use Rattle.node_units.proofs.Handling.{Handles, gone_with, may_settle, order_of, order_then, own_at, stand_without}
 use Rattle.node_units.proofs.Writing.{logged_start, may_have, parts_of, set_long}
@@ -147,7 +147,7 @@ invariant_of-self g c =
     let us = c.commit_held.new.log in
     let w = c.commit_held.new.volume in
     let fails : CommitsLoggedNot (place_in b.token) own.unit rec clock s log v t us w = c.in-Err.ensures.err own.unit own.there in
-    (subst (λ (zs : List BegunUnit). StandFor zs t) (sym c.remove-tid.ensures.items) (stand_without ts s log v x i b was clock k t fails.spent), (let more = c.remove-tid.ensures.capacity in let room = c.self.invariant.1 in omega (arith, more, room)))
+    (subst (λ (zs : List BegunUnit). TokensRepresent zs t) (sym c.remove-tid.ensures.items) (stand_without ts s log v x i b was clock k t fails.spent), (let more = c.remove-tid.ensures.capacity in let room = c.self.invariant.1 in omega (arith, more, room)))
 
 pub returns-in-Err-clause-err : goal.returns-in-Err-clause-err
 returns-in-Err-clause-err g c = λ reason.
@@ -219,7 +219,7 @@ invariant_of-self-in-Ok g c =
     let done : P told.tid told.serial told.moment = subst (λ (y : Tid). P y told.serial told.moment) (sym same.0)
     (subst (λ (y : Serial). P c.in-Ok.settled.tid y told.moment) (sym same.1)
     (subst (λ (y : Moment). P c.in-Ok.settled.tid c.in-Ok.settled.serial y) (sym same.2) (c.in-Ok.ensures.done own.unit own.there))) in
-    (subst (λ (zs : List BegunUnit). StandFor zs c.told_above.new.units) (sym c.remove-tid.ensures.items) (stand_without ts s log v x i b was clock k c.told_above.new.units (c.told_above.ensures.same ∙ done.spent)), (let more = c.remove-tid.ensures.capacity in let room = c.self.invariant.1 in omega (arith, more, room)))
+    (subst (λ (zs : List BegunUnit). TokensRepresent zs c.told_above.new.units) (sym c.remove-tid.ensures.items) (stand_without ts s log v x i b was clock k c.told_above.new.units (c.told_above.ensures.same ∙ done.spent)), (let more = c.remove-tid.ensures.capacity in let room = c.self.invariant.1 in omega (arith, more, room)))
 
 pub returns-in-Ok-clause-units : goal.returns-in-Ok-clause-units
 returns-in-Ok-clause-units g c =

@@ -14,7 +14,7 @@ use Rattle.rms_units.specs.State.{unit_of}
 use Rattle.node_units.specs.declared.begun.BegunUnit.{BegunUnit}
 use Rattle.node_units.specs.declared.begun.Token.{Token}
 use Rattle.node_units.specs.Seen.{seen}
-use Rattle.node_units.specs.Tokens.{StandFor, is_of, place_in}
+use Rattle.node_units.specs.Tokens.{TokensRepresent, is_of, place_in}
 use Rattle.node_units.proofs.Ending.{leaves, order_left}
 use Rattle.node_units.proofs.TokenLemmas.{HasUnit, active_is, active_of, begun_some, is_found, own_unit, seen_less, stand_then}
 use Rattle.node_units.proofs.units.NodeUnitsRecoveryUnits.leave.Goals as goal
@@ -61,10 +61,10 @@ module _ (c : After-stand_in_order-2) where
   spent = of_some (λ (u : OpenUnit). t ≡ rms.without_place c.in-Active.unit u.serial s) (unit_of c.in-Active.unit s) own.unit there c.lose_active.ensures
       ∙ ap (λ (k : Token). rms.without_place (place_in k) own.unit.serial s) (sym c.in-Active.is)
 
-  stand : StandFor c.remove-tid.new.self.items t
+  stand : TokensRepresent c.remove-tid.new.self.items t
   stand =
-      subst (λ ts. StandFor ts t) (sym c.remove-tid.ensures.items)
-      (subst (StandFor (remove c.self.inside.begun.items c.in-Some.place)) (sym spent) (stand_then c.self.inside.begun.items s c.self.invariant.0 c.stand_in_order.ensures x c.in-Some.place b found c.remove-tid.ensures.value own.unit.serial own.serial))
+      subst (λ ts. TokensRepresent ts t) (sym c.remove-tid.ensures.items)
+      (subst (TokensRepresent (remove c.self.inside.begun.items c.in-Some.place)) (sym spent) (stand_then c.self.inside.begun.items s c.self.invariant.0 c.stand_in_order.ensures x c.in-Some.place b found c.remove-tid.ensures.value own.unit.serial own.serial))
 
   gone : seen t c.self.inside.log ≡ without_begun x c.args.self.now
   gone =

@@ -20,7 +20,7 @@ use Rattle.rms_units.specs.declared.tokens.Vote.{Vote}
 use Rattle.node_units.specs.declared.begun.BegunUnit.{BegunUnit}
 use Rattle.node_units.specs.declared.begun.Token.TheVariants as token
 use Rattle.node_units.specs.Seen.{seen}
-use Rattle.node_units.specs.Tokens.{StandFor, is_of, place_in}
+use Rattle.node_units.specs.Tokens.{TokensRepresent, is_of, place_in}
 use Rattle.node_units.proofs.Writing.{remove_set, set_long, set_twice, vote_start, votes_same}
 use Rattle.node_units.proofs.Seeing.{early_unseen, order_seen}
 use Rattle.node_units.proofs.TokenLemmas.{begun_some, is_found, prepared_begun, prepared_then, stand_then}
@@ -204,7 +204,7 @@ invariant_of-self g c =
     let fails : VotesNot c.in-Active.unit own.unit rms_are s log v t us w = c.in-Err.ensures.err own.unit there in
     let spent : t ≡ rms.without_place (place_in b.token) own.unit.serial s = fails.spent ∙ ap (λ (q : ℕ). rms.without_place q own.unit.serial s) (sym place_is) in
     let y : BegunUnit = record { tid = b.tid; serial = b.serial; token = c.replace.new.dest } in
-    (subst (λ (zs : List BegunUnit). StandFor zs t) (sym (c.remove.ensures.items ∙ remove_set ts i y)) (subst (StandFor (remove ts i)) (sym spent) (stand_then ts s k.stand k.places x i b k.found k.at own.unit.serial own.serial)), (let more = c.remove.ensures.capacity in let room = c.self.invariant.1 in omega (arith, more, room)))
+    (subst (λ (zs : List BegunUnit). TokensRepresent zs t) (sym (c.remove.ensures.items ∙ remove_set ts i y)) (subst (TokensRepresent (remove ts i)) (sym spent) (stand_then ts s k.stand k.places x i b k.found k.at own.unit.serial own.serial)), (let more = c.remove.ensures.capacity in let room = c.self.invariant.1 in omega (arith, more, room)))
 
 pub invariant_of-self-in-Ok-Yes : goal.invariant_of-self-in-Ok-Yes
 invariant_of-self-in-Ok-Yes g c =
@@ -242,7 +242,7 @@ invariant_of-self-in-Ok-Yes g c =
     let z : BegunUnit = record { tid = again.tid; serial = again.serial; token = token.Prepared c.in-Ok-Yes.unit } in
     let placed_at : c.in-Ok-Yes.unit ≡ c.in-Active.unit = subst (λ (q : Vote). IfYes q (λ p. p ≡ c.in-Active.unit)) c.in-Ok-Yes.field-0-is c.in-Ok-Yes.ensures.place in
     let same : again ≡ y = c.index_mut-in-Ok-Yes.ensures.value ∙ get_or-set_same ts i y again (voter_below ts s log v x i b c.args.self.now c.index.result.now rms_are k) in (
-      subst (λ (zs : List BegunUnit). StandFor zs t) (sym (set_twice ts i y z)) (subst (StandFor (slice_set ts i z)) (sym placed)
+      subst (λ (zs : List BegunUnit). TokensRepresent zs t) (sym (set_twice ts i y z)) (subst (TokensRepresent (slice_set ts i z)) (sym placed)
           (prepared_then ts s k.stand k.places x i b k.found k.at own.unit own.there z (placed_at ∙ sym place_is) (ap (λ (q : BegunUnit). tid_of q.tid) same ∙ sym own.tid) (ap (λ (q : BegunUnit). serial_of q.serial) same ∙ voter_serial ts s log v x i b c.args.self.now c.index.result.now rms_are k ∙ sym own.serial) refl refl)),
       c.self.invariant.1,
     )

@@ -20,7 +20,7 @@ use Rattle.recovery_units.specs.declared.settled.SettledUnit.{SettledUnit}
 use Rattle.rms_units.specs.State as rms
 use Rattle.node_units.specs.declared.begun.BegunUnit.{BegunUnit}
 use Rattle.node_units.specs.Told.{unit_settled}
-use Rattle.node_units.specs.Tokens.{StandFor, tokens_for}
+use Rattle.node_units.specs.Tokens.{TokensRepresent, tokens_for}
 use Rattle.node_units.proofs.Answering.{images_since}
 use Rattle.node_units.proofs.Beginning.{begins_few, of_records}
 use Rattle.node_units.proofs.Handing.{few_committed, no_tokens, places_many, stand_returned}
@@ -148,7 +148,7 @@ module _ (g : _) (c : After-hold_prepared g) where
 
 pub invariant_of-self-2 : goal.invariant_of-self-2
 invariant_of-self-2 g c = (
-  subst (λ (ts : List BegunUnit). StandFor ts (s g c)) (sym (tokens g c))
+  subst (λ (ts : List BegunUnit). TokensRepresent ts (s g c)) (sym (tokens g c))
       (stand_returned c.args.clock.0 (x g c) (w g c) (found g c) (log g c) (s g c).units (s g c).locks (told g c) (restarts g c) c.stand_in_order-2.ensures),
   (let room = c.self.invariant.1 in let more = c.hold_prepared.ensures.room in omega (arith, room, more)),
 )

@@ -1,7 +1,7 @@
 -- A file is truncated for a unit: refused, or gone down while that was looked at or under way.
 use Rattle.std.proofs.Common.{◌≡◌, Some, None, IfErr, refl, sym, ap, subst, ◌∙◌, inl, ◌≤◌, ◌+◌, ◌^◌, OnOk, ℕ, List, length, IfSome}
 use Rattle.careful_write.specs.State.{content}
-use Rattle.unit_journal.specs.Groups.{Caused, Goes, Grows}
+use Rattle.unit_journal.specs.Groups.{Caused, DiskAdvances, Grows}
 use Rattle.unit_journal.specs.Leaving.{FellIn}
 use Rattle.unit_journal.proofs.Breaking.{fell_old}
 use Rattle.unit_journal.proofs.Falling.{fell_caused, fell_goes, same_goes}
@@ -9,7 +9,7 @@ use Rattle.unit_journal.proofs.Growing.{fell_grows, grows_nowhere}
 use Rattle.unit_table.specs.Units.{OpenUnit, has_changed, with_unit}
 use Rattle.volume.specs.State.{SameVolume, VolumeState}
 use Rattle.rms_units.specs.State.{UnitsState, unit_of, ImagesGrow}
-use Rattle.rms_units.specs.Truncating.{ChangesCutErr, CutBroke, CutRefused, cut_early, ChangesCut, cut_asked, with_positions}
+use Rattle.rms_units.specs.Truncating.{ChangesCutErr, CutBroke, CutRefused, cut_refused_before_reading, ChangesCut, cut_asked, with_positions}
 use Rattle.unit_cuts.specs.Truncating.{AllTold, begins_at, entry_sizes, keys_cut}
 use Rattle.unit_cuts.proofs.CutFrames.{told_none}
 use Rattle.unit_cuts.proofs.CutSofar.{leaves_told}
@@ -48,7 +48,7 @@ returns-in-Err-clause-refused g c =
     let s : UnitsState = record { units = c.self.inside.table; locks = c.self.inside.locks.locks } in
     let one = the_one (unit_of c.args.place c.args.self.now) c.requires.unit in
     let at : unit_of c.args.place s ≡ Some one.0 = ap (unit_of c.args.place) c.self.view_is ∙ one.1 in
-    refused_so c.in-Err.e (λ cause. CutRefused one.0 a.file a.head a.from cause s v × SameVolume v w) (λ cause. SameVolume v w) (λ down. (cut_early one.0 a.file a.head a.from s.locks ≡ None) × FellIn down v w) (λ down. Unit {0}) (c.in-Err.ensures.err one.0 at) (λ cause p. p.1) (λ down q. tt)
+    refused_so c.in-Err.e (λ cause. CutRefused one.0 a.file a.head a.from cause s v × SameVolume v w) (λ cause. SameVolume v w) (λ down. (cut_refused_before_reading one.0 a.file a.head a.from s.locks ≡ None) × FellIn down v w) (λ down. Unit {0}) (c.in-Err.ensures.err one.0 at) (λ cause p. p.1) (λ down q. tt)
 
 pub returns-in-Err-clause-grows : goal.returns-in-Err-clause-grows
 returns-in-Err-clause-grows g c =
@@ -58,7 +58,7 @@ returns-in-Err-clause-grows g c =
     let s : UnitsState = record { units = c.self.inside.table; locks = c.self.inside.locks.locks } in
     let one = the_one (unit_of c.args.place c.args.self.now) c.requires.unit in
     let at : unit_of c.args.place s ≡ Some one.0 = ap (unit_of c.args.place) c.self.view_is ∙ one.1 in
-    either_way c.in-Err.e (λ cause. CutRefused one.0 a.file a.head a.from cause s v × SameVolume v w) (λ down. (cut_early one.0 a.file a.head a.from s.locks ≡ None) × FellIn down v w) (λ o. Grows 0 0 v w) (c.in-Err.ensures.err one.0 at)
+    either_way c.in-Err.e (λ cause. CutRefused one.0 a.file a.head a.from cause s v × SameVolume v w) (λ down. (cut_refused_before_reading one.0 a.file a.head a.from s.locks ≡ None) × FellIn down v w) (λ o. Grows 0 0 v w) (c.in-Err.ensures.err one.0 at)
     (λ cause p. grows_nowhere 0 0 v w (ap (λ (x : VolumeState). x.catalog) p.1)) (λ down q. fell_grows 0 0 down v w q.1)
 
 pub returns-in-Err-clause-goes : goal.returns-in-Err-clause-goes
@@ -69,7 +69,7 @@ returns-in-Err-clause-goes g c =
     let s : UnitsState = record { units = c.self.inside.table; locks = c.self.inside.locks.locks } in
     let one = the_one (unit_of c.args.place c.args.self.now) c.requires.unit in
     let at : unit_of c.args.place s ≡ Some one.0 = ap (unit_of c.args.place) c.self.view_is ∙ one.1 in
-    either_way c.in-Err.e (λ cause. CutRefused one.0 a.file a.head a.from cause s v × SameVolume v w) (λ down. (cut_early one.0 a.file a.head a.from s.locks ≡ None) × FellIn down v w) (λ o. Goes v.store.disk w.store.disk) (c.in-Err.ensures.err one.0 at)
+    either_way c.in-Err.e (λ cause. CutRefused one.0 a.file a.head a.from cause s v × SameVolume v w) (λ down. (cut_refused_before_reading one.0 a.file a.head a.from s.locks ≡ None) × FellIn down v w) (λ o. DiskAdvances v.store.disk w.store.disk) (c.in-Err.ensures.err one.0 at)
     (λ cause p. same_goes v w p.1) (λ down q. fell_goes down v w q.1)
 
 pub returns-in-Err-clause-cause : goal.returns-in-Err-clause-cause
@@ -80,7 +80,7 @@ returns-in-Err-clause-cause g c =
     let s : UnitsState = record { units = c.self.inside.table; locks = c.self.inside.locks.locks } in
     let one = the_one (unit_of c.args.place c.args.self.now) c.requires.unit in
     let at : unit_of c.args.place s ≡ Some one.0 = ap (unit_of c.args.place) c.self.view_is ∙ one.1 in
-    either_way c.in-Err.e (λ cause. CutRefused one.0 a.file a.head a.from cause s v × SameVolume v w) (λ down. (cut_early one.0 a.file a.head a.from s.locks ≡ None) × FellIn down v w) (λ o. Caused o v.store.disk w.store.disk) (c.in-Err.ensures.err one.0 at)
+    either_way c.in-Err.e (λ cause. CutRefused one.0 a.file a.head a.from cause s v × SameVolume v w) (λ down. (cut_refused_before_reading one.0 a.file a.head a.from s.locks ≡ None) × FellIn down v w) (λ o. Caused o v.store.disk w.store.disk) (c.in-Err.ensures.err one.0 at)
     (λ cause p. tt) (λ down q. fell_caused down v w q.1)
 
 pub returns-in-Err-clause-pool : goal.returns-in-Err-clause-pool
@@ -91,7 +91,7 @@ returns-in-Err-clause-pool g c =
     let s : UnitsState = record { units = c.self.inside.table; locks = c.self.inside.locks.locks } in
     let one = the_one (unit_of c.args.place c.args.self.now) c.requires.unit in
     let at : unit_of c.args.place s ≡ Some one.0 = ap (unit_of c.args.place) c.self.view_is ∙ one.1 in
-    either_way c.in-Err.e (λ cause. CutRefused one.0 a.file a.head a.from cause s v × SameVolume v w) (λ down. (cut_early one.0 a.file a.head a.from s.locks ≡ None) × FellIn down v w) (λ o. w.store.pool ≡ v.store.pool) (c.in-Err.ensures.err one.0 at)
+    either_way c.in-Err.e (λ cause. CutRefused one.0 a.file a.head a.from cause s v × SameVolume v w) (λ down. (cut_refused_before_reading one.0 a.file a.head a.from s.locks ≡ None) × FellIn down v w) (λ o. w.store.pool ≡ v.store.pool) (c.in-Err.ensures.err one.0 at)
     (λ cause p. ap (λ (x : VolumeState). x.store.pool) p.1) (λ down q. ap (λ (x : VolumeState). x.store.pool) q.1)
 
 pub returns-in-Err-clause-err : goal.returns-in-Err-clause-err
@@ -102,11 +102,11 @@ returns-in-Err-clause-err g c = λ u is.
     let s : UnitsState = record { units = c.self.inside.table; locks = c.self.inside.locks.locks } in
     let at : unit_of c.args.place s ≡ Some u = ap (unit_of c.args.place) c.self.view_is ∙ is in (
       c.self.view_is,
-      refused_so c.in-Err.e (λ cause. CutRefused u a.file a.head a.from cause s v × SameVolume v w) (λ cause. CutRefused u a.file a.head a.from cause c.args.self.now v × SameVolume v w) (λ down. (cut_early u a.file a.head a.from s.locks ≡ None) × FellIn down v w)
+      refused_so c.in-Err.e (λ cause. CutRefused u a.file a.head a.from cause s v × SameVolume v w) (λ cause. CutRefused u a.file a.head a.from cause c.args.self.now v × SameVolume v w) (λ down. (cut_refused_before_reading u a.file a.head a.from s.locks ≡ None) × FellIn down v w)
           (λ down. CutBroke u a.file a.head a.from c.args.self.now v w) (c.in-Err.ensures.err u at)
           (λ cause p. (subst (λ (x : UnitsState). CutRefused u a.file a.head a.from cause x v) c.self.view_is p.0, p.1))
           (λ down q. record {
-            early = subst (λ (x : UnitsState). cut_early u a.file a.head a.from x.locks ≡ None) c.self.view_is q.0;
+            early = subst (λ (x : UnitsState). cut_refused_before_reading u a.file a.head a.from x.locks ≡ None) c.self.view_is q.0;
             breaks = inl (leaves_told (λ x. Some x ≡ content v.store) (AllTold a.head v.catalog.ru (content v.store)) w.store.disk
                 (λ x old. told_none a.head v.catalog.ru (content v.store) x old) (fell_old down v v w c.one_content.ensures c.requires.order.idle.ready refl q.1));
           }),
@@ -125,7 +125,7 @@ returns-clause-err g c =
           let at : unit_of c.args.place s ≡ Some u = ap (unit_of c.args.place) c.self.view_is ∙ is in
           let spared = e.in-Err-make_cut.ensures.spared in
           let same : t ≡ s = λ i. record { units = spared.0 i; locks = (spared.1 i).locks } in
-          let early = of_some (λ (x : OpenUnit). cut_early x a.file a.head a.from s.locks ≡ None) (unit_of c.args.place s) u at c.in-Ok.ensures.early in (
+          let early = of_some (λ (x : OpenUnit). cut_refused_before_reading x a.file a.head a.from s.locks ≡ None) (unit_of c.args.place s) u at c.in-Ok.ensures.early in (
             same ∙ c.self.view_is,
             subst (λ (y : UnitsState). CutBroke u a.file a.head a.from y v w) c.self.view_is record { early = early; breaks = breaks_cut_from v c.refuse_cut.new.volume c.in-Ok.ensures.same u a.file a.head a.from s w (e.in-Err-make_cut.ensures.breaks u at) },
           ))
@@ -171,7 +171,7 @@ returns-clause-done g c =
           let locks = ap (λ (y : LockTable). y.locks) k.in-Ok-make_cut.ensures.locks in
           subst (λ (y : UnitsState). ChangesCut c.args.place u a.file a.head a.from y v t w) c.self.view_is
           record {
-            early = of_some (λ (y : OpenUnit). cut_early y a.file a.head a.from s.locks ≡ None) (unit_of c.args.place s) u at c.in-Ok.ensures.early;
+            early = of_some (λ (y : OpenUnit). cut_refused_before_reading y a.file a.head a.from s.locks ≡ None) (unit_of c.args.place s) u at c.in-Ok.ensures.early;
             late = λ d told form laid. late_none u a.file a.head a.from s v (map_of a.head d) size (c.in-Ok.ensures.size d told form laid) fits free;
             entries = m.0;
             made = cut_from v x same u.tid u.serial a.file a.head a.from m.0 w m.1;

@@ -3,7 +3,7 @@ use Rattle.std.proofs.Common.{◌≡◌, ℕ, ◌+◌, ◌*◌, ◌<◌, ◌≤�
 use Rattle.careful_write.specs.State.{content}
 use Rattle.change_set.specs.Maps.{empty_map}
 use Rattle.record_files.specs.Any.{map_of}
-use Rattle.unit_journal.specs.Groups.{Caused, Goes, Grows}
+use Rattle.unit_journal.specs.Groups.{Caused, DiskAdvances, Grows}
 use Rattle.unit_journal.specs.Leaving.{FellIn}
 use Rattle.unit_journal.specs.Settling.{next_moment}
 use Rattle.unit_journal.proofs.Breaking.{fell_old}
@@ -14,7 +14,7 @@ use Rattle.unit_cuts.specs.Moving.{ImagesFit}
 use Rattle.unit_cuts.proofs.CutFrames.{told_none}
 use Rattle.unit_cuts.proofs.CutSofar.{leaves_told}
 use Rattle.rms_units.specs.State.{IsInOrder, UnitsState, ImagesGrow}
-use Rattle.rms_units.specs.Truncating.{DirectCutBroke, DirectCutRefused, DirectsCut, DirectsCutErr, direct_cut_early, direct_cut_late}
+use Rattle.rms_units.specs.Truncating.{DirectCutBroke, DirectCutRefused, DirectsCut, DirectsCutErr, direct_cut_refused_after_reading, direct_cut_refused_before_reading}
 use Rattle.rms_units.proofs.ChangedLemmas.{refused_caused, refused_goes, refused_grows, refused_pool}
 use Rattle.rms_units.proofs.CutOrder.{order_cut_directly}
 use Rattle.rms_units.proofs.CutReads.{breaks_direct_from, commits_cut_from}
@@ -40,25 +40,25 @@ pub returns-in-Err-clause-grows : goal.returns-in-Err-clause-grows
 returns-in-Err-clause-grows g c =
     let a = c.args.cut.now in
     let s : UnitsState = record { units = c.self.inside.table; locks = c.self.inside.locks.locks } in
-    refused_grows c.in-Err.e (λ cause. DirectCutRefused a.file a.head a.from cause s c.args.volume.now) (direct_cut_early a.file a.head a.from s.locks ≡ None) c.args.volume.now c.refuse_cut_directly.new.volume c.in-Err.ensures.err 1 c.args.clock.0
+    refused_grows c.in-Err.e (λ cause. DirectCutRefused a.file a.head a.from cause s c.args.volume.now) (direct_cut_refused_before_reading a.file a.head a.from s.locks ≡ None) c.args.volume.now c.refuse_cut_directly.new.volume c.in-Err.ensures.err 1 c.args.clock.0
 
 pub returns-in-Err-clause-goes : goal.returns-in-Err-clause-goes
 returns-in-Err-clause-goes g c =
     let a = c.args.cut.now in
     let s : UnitsState = record { units = c.self.inside.table; locks = c.self.inside.locks.locks } in
-    refused_goes c.in-Err.e (λ cause. DirectCutRefused a.file a.head a.from cause s c.args.volume.now) (direct_cut_early a.file a.head a.from s.locks ≡ None) c.args.volume.now c.refuse_cut_directly.new.volume c.in-Err.ensures.err
+    refused_goes c.in-Err.e (λ cause. DirectCutRefused a.file a.head a.from cause s c.args.volume.now) (direct_cut_refused_before_reading a.file a.head a.from s.locks ≡ None) c.args.volume.now c.refuse_cut_directly.new.volume c.in-Err.ensures.err
 
 pub returns-in-Err-clause-cause : goal.returns-in-Err-clause-cause
 returns-in-Err-clause-cause g c =
     let a = c.args.cut.now in
     let s : UnitsState = record { units = c.self.inside.table; locks = c.self.inside.locks.locks } in
-    refused_caused c.in-Err.e (λ cause. DirectCutRefused a.file a.head a.from cause s c.args.volume.now) (direct_cut_early a.file a.head a.from s.locks ≡ None) c.args.volume.now c.refuse_cut_directly.new.volume c.in-Err.ensures.err
+    refused_caused c.in-Err.e (λ cause. DirectCutRefused a.file a.head a.from cause s c.args.volume.now) (direct_cut_refused_before_reading a.file a.head a.from s.locks ≡ None) c.args.volume.now c.refuse_cut_directly.new.volume c.in-Err.ensures.err
 
 pub returns-in-Err-clause-pool : goal.returns-in-Err-clause-pool
 returns-in-Err-clause-pool g c =
     let a = c.args.cut.now in
     let s : UnitsState = record { units = c.self.inside.table; locks = c.self.inside.locks.locks } in
-    refused_pool c.in-Err.e (λ cause. DirectCutRefused a.file a.head a.from cause s c.args.volume.now) (direct_cut_early a.file a.head a.from s.locks ≡ None) c.args.volume.now c.refuse_cut_directly.new.volume c.in-Err.ensures.err
+    refused_pool c.in-Err.e (λ cause. DirectCutRefused a.file a.head a.from cause s c.args.volume.now) (direct_cut_refused_before_reading a.file a.head a.from s.locks ≡ None) c.args.volume.now c.refuse_cut_directly.new.volume c.in-Err.ensures.err
 
 pub returns-in-Err-clause-err : goal.returns-in-Err-clause-err
 returns-in-Err-clause-err g c =
@@ -67,7 +67,7 @@ returns-in-Err-clause-err g c =
     let a = c.args.cut.now in
     let s : UnitsState = record { units = c.self.inside.table; locks = c.self.inside.locks.locks } in
     subst (λ (y : UnitsState). DirectsCutErr c.args.tid c.args.clock.0 a.file a.head a.from c.in-Err.e y v w) c.self.view_is
-    (refused_so c.in-Err.e (λ cause. DirectCutRefused a.file a.head a.from cause s v × SameVolume v w) (λ cause. DirectCutRefused a.file a.head a.from cause s v × SameVolume v w) (λ down. (direct_cut_early a.file a.head a.from s.locks ≡ None) × FellIn down v w)
+    (refused_so c.in-Err.e (λ cause. DirectCutRefused a.file a.head a.from cause s v × SameVolume v w) (λ cause. DirectCutRefused a.file a.head a.from cause s v × SameVolume v w) (λ down. (direct_cut_refused_before_reading a.file a.head a.from s.locks ≡ None) × FellIn down v w)
     (λ down. DirectCutBroke c.args.tid c.args.clock.0 a.file a.head a.from s v w) c.in-Err.ensures.err (λ cause p. p)
     (λ down q. record {
       early = q.0;
@@ -120,7 +120,7 @@ returns-clause-err g c =
     let s : UnitsState = record { units = c.self.inside.table; locks = c.self.inside.locks.locks } in
     let moment = c.next_moment-moment.result.0 in
     let at : moment ≡ next_moment c.args.clock.0 v.catalog.home = c.next_moment-moment.ensures ∙ ap (next_moment c.args.clock.0) c.home.ensures ∙ ap (λ (y : VolumeState). next_moment c.args.clock.0 y.catalog.home) same in
-    let late : OfRecords a.head v (λ m. direct_cut_late a.file a.head a.from s m ≡ None) = λ b told form laid. direct_late_none a.file a.head a.from s (map_of a.head b) c.in-Ok.size (c.in-Ok.ensures.size b told form laid) c.in-Ok.ensures.rooms in
+    let late : OfRecords a.head v (λ m. direct_cut_refused_after_reading a.file a.head a.from s m ≡ None) = λ b told form laid. direct_late_none a.file a.head a.from s (map_of a.head b) c.in-Ok.size (c.in-Ok.ensures.size b told form laid) c.in-Ok.ensures.rooms in
     elim c.match-commit_cut.branch [
       | in-Err-commit_cut e ↦ subst (λ r. IfErr r (λ y. DirectsCutErr c.args.tid c.args.clock.0 a.file a.head a.from y c.args.self.now v w)) (sym e.result-is)
           (subst (λ (y : UnitsState). DirectCutBroke c.args.tid c.args.clock.0 a.file a.head a.from y v w) c.self.view_is
@@ -138,7 +138,7 @@ returns-clause-done g c =
     let s : UnitsState = record { units = c.self.inside.table; locks = c.self.inside.locks.locks } in
     let moment = c.next_moment-moment.result.0 in
     let at : moment ≡ next_moment c.args.clock.0 v.catalog.home = c.next_moment-moment.ensures ∙ ap (next_moment c.args.clock.0) c.home.ensures ∙ ap (λ (y : VolumeState). next_moment c.args.clock.0 y.catalog.home) same in
-    let late : OfRecords a.head v (λ m. direct_cut_late a.file a.head a.from s m ≡ None) = λ b told form laid. direct_late_none a.file a.head a.from s (map_of a.head b) c.in-Ok.size (c.in-Ok.ensures.size b told form laid) c.in-Ok.ensures.rooms in
+    let late : OfRecords a.head v (λ m. direct_cut_refused_after_reading a.file a.head a.from s m ≡ None) = λ b told form laid. direct_late_none a.file a.head a.from s (map_of a.head b) c.in-Ok.size (c.in-Ok.ensures.size b told form laid) c.in-Ok.ensures.rooms in
     elim c.match-commit_cut.branch [
       | in-Err-commit_cut e ↦ subst (λ r. OnOk r (DirectsCut c.args.tid c.args.clock.0 a.file a.head a.from c.args.self.now v w)) (sym e.result-is) tt
       | in-Ok-commit_cut k ↦ subst (λ r. OnOk r (DirectsCut c.args.tid c.args.clock.0 a.file a.head a.from c.args.self.now v w)) (sym k.result-is)

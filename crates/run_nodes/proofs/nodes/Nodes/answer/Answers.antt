@@ -4,7 +4,7 @@ use Rattle.run_model.proofs.NodeLists.{some_is}
 use Rattle.std.specs.Prelude.{slice_get, slice_set}
 use Rattle.std.proofs.Common.{◌≡◌, map, Some, sym, ◌∙◌, ap}
 use Rattle.dtm_node.specs.Nodes.{kept_of}
-use Rattle.node_standing.specs.Standing.{Kept}
+use Rattle.node_standing.specs.Standing.{NodeState}
 use Rattle.run_nodes.proofs.Entries.{kept_in, kept_there, node_at, put_kept, put_names, put_nodes}
 use Rattle.run_nodes.proofs.Places.{set_same}
 use Rattle.run_nodes.proofs.nodes.Nodes.answer.Goals as goal
@@ -16,7 +16,7 @@ returns-in-Some-clause-nodes g c = λ count s h.
     let es = c.args.self.now.nodes.entries in
     let n = c.in-Some.node.now in
     let at : slice_get (map (λ e. e.1) es) c.args.place ≡ Some n = sym c.in-Some.ensures.value in
-    put_nodes state units count s s es c.args.place n c.answer.new.self (λ e. e) h at (ap (λ (k : Kept). k.name) c.answer.ensures.kept) (c.answer.ensures.node count s (node_at state units count s es c.args.place n h at))
+    put_nodes state units count s s es c.args.place n c.answer.new.self (λ e. e) h at (ap (λ (k : NodeState). k.name) c.answer.ensures.kept) (c.answer.ensures.node count s (node_at state units count s es c.args.place n h at))
 
 pub returns-in-Some-clause-names : goal.returns-in-Some-clause-names
 returns-in-Some-clause-names g c = put_names g.D.Disk.state g.U.RecoveryUnits.state c.args.self.now.nodes.entries c.args.place c.answer.new.self
@@ -37,4 +37,4 @@ returns-in-Some-clause-answer g c = λ k e.
     let es = c.args.self.now.nodes.entries in
     let n = c.in-Some.node.now in
     let at : slice_get (map (λ e. e.1) es) c.args.place ≡ Some n = sym c.in-Some.ensures.value in
-    c.answer.ensures.answer ∙ ap (λ (x : Kept). answer_in_place (message_of c.args.question.now) x.place) (some_is (kept_of state units n) k (sym (kept_there state units es c.args.place n at) ∙ e))
+    c.answer.ensures.answer ∙ ap (λ (x : NodeState). answer_in_place (message_of c.args.question.now) x.place) (some_is (kept_of state units n) k (sym (kept_there state units es c.args.place n at) ∙ e))

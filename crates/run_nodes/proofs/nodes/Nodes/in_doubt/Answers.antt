@@ -3,7 +3,7 @@ use Rattle.std.proofs.Common.{sym, ◌∙◌, ap}
 use Rattle.run_model.proofs.NodeLists.{some_is}
 use Rattle.dtm_node.specs.Asking.{in_doubt_in}
 use Rattle.dtm_node.specs.Nodes.{kept_of}
-use Rattle.node_standing.specs.Standing.{Kept}
+use Rattle.node_standing.specs.Standing.{NodeState}
 use Rattle.run_nodes.proofs.Places.{get_map}
 use Rattle.run_nodes.proofs.nodes.Nodes.in_doubt.Goals as goal
 
@@ -11,4 +11,4 @@ pub returns : goal.returns
 returns g c = λ k e.
     let n = c.in_ok-node.node.now in
     let there = get_map (λ x. kept_of g.D.Disk.state g.U.RecoveryUnits.state x.1) c.args.self.now.nodes.entries c.args.place (c.in_ok-node.field-0-0.now, n) (sym c.in_ok-node.ensures.entry) in
-    c.in_doubt.ensures ∙ ap (λ (x : Kept). slice_get (in_doubt_in x.place) c.args.number) (some_is (kept_of g.D.Disk.state g.U.RecoveryUnits.state n) k (sym there ∙ e))
+    c.in_doubt.ensures ∙ ap (λ (x : NodeState). slice_get (in_doubt_in x.place) c.args.number) (some_is (kept_of g.D.Disk.state g.U.RecoveryUnits.state n) k (sym there ∙ e))

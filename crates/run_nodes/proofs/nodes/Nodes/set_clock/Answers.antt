@@ -4,7 +4,7 @@ use Rattle.script_model.specs.Statements.{Clock}
 use Rattle.run_model.specs.Answers.{Serves}
 use Rattle.node_standing.specs.Keeping.{PerformsTask}
 use Rattle.dtm_node.specs.Nodes.{kept_of}
-use Rattle.node_standing.specs.Standing.{Kept}
+use Rattle.node_standing.specs.Standing.{NodeState}
 use Rattle.run_nodes.proofs.Entries.{kept_in, kept_there, node_at, put_kept, put_names, put_nodes}
 use Rattle.run_nodes.proofs.nodes.Nodes.set_clock.Goals as goal
 
@@ -15,7 +15,7 @@ returns-in-Some-clause-nodes g c = λ count s h.
     let es = c.args.self.now.nodes.entries in
     let n = c.in-Some.node.now in
     let at : slice_get (map (λ e. e.1) es) c.args.place ≡ Some n = sym c.in-Some.ensures.value in
-    put_nodes state units count s s es c.args.place n c.set_clock.new.self (λ e. e) h at (ap (λ (k : Kept). k.name) c.set_clock.ensures.kept) (c.set_clock.ensures.node count s (node_at state units count s es c.args.place n h at))
+    put_nodes state units count s s es c.args.place n c.set_clock.new.self (λ e. e) h at (ap (λ (k : NodeState). k.name) c.set_clock.ensures.kept) (c.set_clock.ensures.node count s (node_at state units count s es c.args.place n h at))
 
 pub returns-in-Some-clause-names : goal.returns-in-Some-clause-names
 returns-in-Some-clause-names g c = put_names g.D.Disk.state g.U.RecoveryUnits.state c.args.self.now.nodes.entries c.args.place c.set_clock.new.self
@@ -31,5 +31,5 @@ returns-in-Some-clause-clocked g c = λ s.
       kept = kept_of state units n;
       here = kept_there state units es c.args.place n at;
       put = put_kept state units es c.args.place c.set_clock.new.self ∙ ap (slice_set (kept_in state units es) c.args.place) c.set_clock.ensures.kept;
-      performs = λ a. subst (λ (l : Kept). PerformsTask (Serves (Clock c.args.now.0)) false false (kept_of state units n) s a a l s) c.set_clock.ensures.kept (c.set_clock.ensures.performs s a);
+      performs = λ a. subst (λ (l : NodeState). PerformsTask (Serves (Clock c.args.now.0)) false false (kept_of state units n) s a a l s) c.set_clock.ensures.kept (c.set_clock.ensures.performs s a);
     }

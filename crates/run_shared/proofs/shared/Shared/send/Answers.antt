@@ -1,10 +1,11 @@
 use Rattle.std.proofs.Common.{◌≡◌, ◌≤◌, ◌<◌, ◌+◌, ◌∙◌, ◌++◌, ◌∷◌, [], ◌↔◌, ℕ, ap, sym, subst, refl, map, length, nat_lt, Option, Some, None, IsNone, IfSome, IfNone, OnSome, if◌then◌else◌, arith}
 use Rattle.std.proofs.lemmas.List.{length-append}
 use Rattle.std.proofs.lemmas.Bool.{false≢true}
+use Rattle.vms_model.specs.Limits.{message_limit}
 use Rattle.net_wire.specs.declared.wire.Message.{Message}
 use Rattle.net_wire.specs.Messages.{message_of}
 use Rattle.net_wire.specs.Network.{Network}
-use Rattle.run_model.specs.World.{message_limit, posted}
+use Rattle.run_model.specs.World.{posted}
 use Rattle.run_shared.specs.Sharing.{SharedState}
 use Rattle.run_shared.proofs.Posting.{kept, lost, next_number, unnumbered}
 use Rattle.run_shared.proofs.shared.Shared.send.Goals as goal
