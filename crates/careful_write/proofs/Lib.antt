@@ -7,3 +7,4 @@ mod Loading
 pub mod Reading
 pub mod Touched
 mod Written
+pub mod block_disk

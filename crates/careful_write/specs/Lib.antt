@@ -6,3 +6,4 @@ pub mod Reads
 pub mod Sizes
 pub mod State
 pub mod Steps
+pub use Rattle.block_disk.specs as block_disk

@@ -7,6 +7,7 @@ mod law;
 mod load;
 mod store;
 
+pub use block_disk::{Disk, DiskErr};
 pub use down::Down;
 pub use law::{one_content, power_keeps};
 pub use store::{Full, Group, HOME, OpenErr, Store};

@@ -1,10 +1,10 @@
 -- Changes that are applied and undone.
 use Rattle.std.proofs.Common.{◌≡◌, ℕ, Bool, true, false, List, [], ◌∷◌, Option, cond, if◌then◌else◌, refl, sym, ap, ◌∙◌}
 use Rattle.std.specs.FinMap.{get}
-use Rattle.vms_model.specs.Keys.{Key}
-use Rattle.records_model.specs.Records.{Records, Change}
-use Rattle.records_model.specs.Records as records
-use Rattle.records_model.proofs.RecordsLemmas as lemmas
+use Rattle.tree_model.specs.vms_model.Keys.{Key}
+use Rattle.tree_model.specs.records_model.Records.{Records, Change}
+use Rattle.tree_model.specs.records_model.Records as records
+use Rattle.tree_model.proofs.records_model.RecordsLemmas as lemmas
 use Rattle.change_set.specs.Maps.{Map, same_key, set_key, applied, undone, Found, UndoRestoresMaps, map_of_records, ChangesAgree}
 
 set_back : (b : Bool) (x y z : Option (List ℕ)) → (b ≡ true → x ≡ z) → (if b then x else (if b then y else z)) ≡ z

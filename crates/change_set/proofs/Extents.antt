@@ -2,9 +2,9 @@
 use Rattle.std.proofs.Common.{◌≡◌, ◌⊎◌, ⊎_elim, inl, inr, ℕ, zero, suc, ◌<◌, ◌≤◌, ◌+◌, ◌-◌, ◌*◌, ◌&&◌, Bool, true, false, List, length, nat_le, nat_lt, Option, Some, None, IfSome, MatchOption, IsSomeAnd, option_map, refl, sym, ap, subst, ◌∙◌, arith}
 use Rattle.std.proofs.lemmas.Bool.Decides.{nat_tests}
 use Rattle.std.proofs.lemmas.Nat.{mul-le}
-use Rattle.block_disk.specs.Blocks.{block_at, has_number}
-use Rattle.block_disk.specs.Disk.{DiskState}
-use Rattle.block_disk.proofs.Laid.{has_number-with_number}
+use Rattle.careful_write.specs.block_disk.Blocks.{block_at, has_number}
+use Rattle.careful_write.specs.block_disk.Disk.{DiskState}
+use Rattle.careful_write.proofs.block_disk.Laid.{has_number-with_number}
 use Rattle.careful_write.specs.Reads.{SameButReads}
 use Rattle.careful_write.specs.State.{StoreState, IsEither}
 use Rattle.careful_write.specs.Steps.{AgreesOff}

@@ -2,7 +2,7 @@
 use Rattle.std.proofs.Common.{◌≡◌, ℕ, zero, suc, ◌<◌, List, [], ◌∷◌, length, get_or, set, Option, Some, None, unwrap_or, IsSome, is_some, refl, sym, ap, subst, ◌∙◌, arith, get_or-set_same}
 use Rattle.std.proofs.lemmas.List.{set-set, set-get_or}
 use Rattle.frame_pool.specs.Pool.{IsOut}
-use Rattle.block_disk.specs.Disk.{DiskState}
+use Rattle.careful_write.specs.block_disk.Disk.{DiskState}
 use Rattle.careful_write.specs.Reads.{SameButReads, as_read_by}
 use Rattle.careful_write.specs.State.{StoreState}
 use Rattle.careful_write.proofs.Reading.{same_as, same_so}

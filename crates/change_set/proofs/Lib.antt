@@ -5,3 +5,6 @@ pub mod Frames
 pub mod Loading
 pub mod NoLayout
 pub mod NumberKeys
+pub mod careful_write
+pub mod records_model
+pub mod tree_model

@@ -3,7 +3,7 @@ use Rattle.std.proofs.Common.{◌≡◌, ℕ, Bool, List, Option, Some, None, If
 use Rattle.careful_write.specs.State.{StoreState}
 use Rattle.careful_write.specs.Steps.{AgreesOff}
 use Rattle.file_base.specs.declared.head.FileHead.{FileHead}
-use Rattle.vms_model.specs.Keys.{Key, Number, Text, End}
+use Rattle.tree_model.specs.vms_model.Keys.{Key, Number, Text, End}
 use Rattle.tree_model.specs.Layouts.{Layout, Sizes, no_layout}
 use Rattle.tree_model.specs.Setting.{layout_set, layout_back}
 use Rattle.change_set.specs.Files.{StagesIn, in_extent}

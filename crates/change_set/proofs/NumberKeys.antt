@@ -4,7 +4,7 @@ use Rattle.std.proofs.lemmas.Bool.Decides.{nat_tests}
 use Rattle.std.specs.Cmp.{unsigned_tied}
 use Rattle.std.specs.Ordering.{is_lt}
 use Rattle.std.specs.declared.cmp.Ordering.TheVariants.{Less, Equal, Greater}
-use Rattle.vms_model.specs.Keys.{Key, Number, Text, End}
+use Rattle.tree_model.specs.vms_model.Keys.{Key, Number, Text, End}
 use Rattle.change_set.specs.Maps.{same_key, key_before, is_after, StartsAt}
 
 pub same_test : (m n : ℕ) → m ≡ n → same_key (Number m) (Number n) ≡ true

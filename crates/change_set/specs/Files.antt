@@ -1,9 +1,9 @@
 -- Where a file lies, and what its calls leave of the store.
 use Rattle.std.specs.Prelude.{◌≡◌, ◌≤◌, ◌⊎◌, ℕ, ◌+◌, ◌-◌, ◌*◌, ◌/◌, ◌&&◌, Bool, true, List, [], Option, None, MatchOption, IsSomeAnd, IfSome, length, nat_lt, nat_le, option_map, Result, count_by, is_none}
-use Rattle.block_disk.specs.Blocks.{block_at, has_number}
-use Rattle.block_disk.specs.Disk.{DiskState}
-use Rattle.block_disk.specs.Sizes.{content_start, greatest_disk_size}
-use Rattle.vms_model.specs.Limits.{record_limit}
+use Rattle.careful_write.specs.block_disk.Blocks.{block_at, has_number}
+use Rattle.careful_write.specs.block_disk.Disk.{DiskState}
+use Rattle.careful_write.specs.block_disk.Sizes.{content_start, greatest_disk_size}
+use Rattle.tree_model.specs.vms_model.Limits.{record_limit}
 use Rattle.careful_write.specs.Content.{home}
 use Rattle.careful_write.specs.declared.down.Down.{Down}
 use Rattle.careful_write.specs.Down.{answered}

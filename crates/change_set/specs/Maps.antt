@@ -2,9 +2,9 @@
 use Rattle.std.specs.Prelude.{◌≡◌, ℕ, Bool, true, List, [], ◌∷◌, Option, Some, None, if◌then◌else◌}
 use Rattle.std.specs.Ordering.{eq_by_cmp, is_lt}
 use Rattle.std.specs.FinMap.{get}
-use Rattle.vms_model.specs.Keys.{Key, Number, Text, End}
-use Rattle.records_model.specs.Records.{Records, Change, key_cmp}
-use Rattle.records_model.specs.Records as records
+use Rattle.tree_model.specs.vms_model.Keys.{Key, Number, Text, End}
+use Rattle.tree_model.specs.records_model.Records.{Records, Change, key_cmp}
+use Rattle.tree_model.specs.records_model.Records as records
 
 -- what each key has: the bytes of its record, or none
 abbrev pub Map : Type 0

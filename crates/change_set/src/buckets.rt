@@ -1,7 +1,7 @@
 //! Buckets of 1 to 16 blocks, read from a store into a frame and staged from one.
 ghost use Rattle.std.specs.Prelude.{◌≡◌, ◌≤◌, ◌<◌, ◌+◌, ◌-◌, ◌*◌, ℕ, take, length, Some, None, OnOk, IfSome, slice_set, option_map};
 ghost use Rattle.frame_pool.specs.Pool.{IsOut};
-ghost use Rattle.block_disk.specs.Sizes.{content_start};
+ghost use Rattle.careful_write.specs.block_disk.Sizes.{content_start};
 ghost use Rattle.careful_write.specs.Down.{answered};
 ghost use Rattle.careful_write.specs.Reads.{SameButReads};
 ghost use Rattle.careful_write.specs.Sizes.{group_limit};
@@ -9,8 +9,7 @@ ghost use Rattle.file_base.specs.Bytes.{piece_at, spliced};
 ghost use Rattle.change_set.specs.Buckets.{frame_of, with_frame, bucket_bytes, with_bucket, with_numbers, LiesInHome, WasFree};
 ghost use Rattle.change_set.specs.Files.{free_frames};
 
-use block_disk::Disk;
-use careful_write::{Down, Store};
+use careful_write::{Disk, Down, Store};
 use file_base::splice;
 use frame_pool::Frame;
 

@@ -6,19 +6,17 @@ ghost use Rattle.careful_write.specs.Down.{Counts};
 ghost use Rattle.careful_write.specs.Reads.{SameButReads};
 ghost use Rattle.careful_write.specs.Sizes.{staged_limit};
 ghost use Rattle.file_base.specs.declared.head.FileHead.{FileHead};
-ghost use Rattle.vms_model.specs.Keys as model;
+ghost use Rattle.tree_model.specs.vms_model.Keys as model;
 ghost use Rattle.tree_model.specs.Layouts.{Layout};
 ghost use Rattle.tree_model.specs.Setting.{layout_back, layout_set};
-ghost use Rattle.vms_base.specs.Keys.{key_of};
+ghost use Rattle.file_base.specs.vms_base.Keys.{key_of};
 ghost use Rattle.change_set.specs.Maps.{Map, set_key, empty_map, IsNext, EndsAfter};
 ghost use Rattle.change_set.specs.Files.{IsPlaced, AgreesOn, free_frames, fell, StagesIn, SameFile, in_extent, AgreesOut, LeavesOut, unstaged, first_place, sizes_of};
 ghost use Rattle.change_set.specs.declared.walk.Place as declared;
 
 use crate::walk::Place;
-use block_disk::Disk;
-use careful_write::{Down, Store};
-use file_base::FileHead;
-use vms_base::{Key, Record};
+use careful_write::{Disk, Down, Store};
+use file_base::{FileHead, Key, Record};
 
 /// Says which keys are held: an indexed file keeps the room of their records, so that a change of one can be undone in
 /// place.

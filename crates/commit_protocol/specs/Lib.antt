@@ -11,3 +11,4 @@ pub mod Reasons
 pub mod Limits
 pub mod Settling
 pub mod Standing
+pub use Rattle.vms_model.specs as vms_model

@@ -7,8 +7,8 @@ use Rattle.std.proofs.lemmas.Bool.{ne_eqb, le-leb}
 use Rattle.std.proofs.lemmas.Fmt.{decimal_by_steps, decimal_nonempty, length-decimal-le}
 use Rattle.vms_model.specs.Names.{in_name, label_named, upper}
 use Rattle.vms_model.specs.Words.{number_from, number_next, number_up_to}
-use Rattle.script_model.specs.LineWords.{Between, Inside, Quoted, word_rest}
-use Rattle.script_model.specs.Operands.{to_quote}
+use Rattle.run_model.specs.script_model.LineWords.{Between, Inside, Quoted, word_rest}
+use Rattle.run_model.specs.script_model.Operands.{to_quote}
 use Rattle.day_model.proofs.Hearing.{texts_from}
 
 -- a decimal digit; and a byte that may stand in a word and between quotes

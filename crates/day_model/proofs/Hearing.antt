@@ -1,8 +1,8 @@
 -- A line that says a statement, by the texts of its words.
 use Rattle.std.proofs.Common.{◌≡◌, ℕ, ◌+◌, ◌==◌, List, [], ◌∷◌, Bool, true, false, Option, Some, None, ◌&&◌, map, refl, sym, ◌∙◌, ap, subst, if◌then◌else◌}
-use Rattle.script_model.specs.LineWords.{Word, is_empty, Place, Between, Inside, Quoted, place_after, word_rest, words_from, words_of}
-use Rattle.script_model.specs.Statements.{Reading, Says, Bad, Statement}
-use Rattle.script_model.specs.Grammar.{Shape, Ends, Then, EndsOr, ThenMore, Meaning, is_skipped, line_shape, meaning, reading, reads}
+use Rattle.run_model.specs.script_model.LineWords.{Word, is_empty, Place, Between, Inside, Quoted, place_after, word_rest, words_from, words_of}
+use Rattle.run_model.specs.script_model.Statements.{Reading, Says, Bad, Statement}
+use Rattle.run_model.specs.script_model.Grammar.{Shape, Ends, Then, EndsOr, ThenMore, Meaning, is_skipped, line_shape, meaning, reading, reads}
 
 -- the texts of the words that begin in these bytes
 abbrev pub texts_from : Place → List ℕ → List (List ℕ)

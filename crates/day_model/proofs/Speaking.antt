@@ -2,9 +2,9 @@
 use Rattle.std.proofs.Common.{◌≡◌, ℕ, zero, suc, ◌+◌, ◌/◌, ◌^◌, ◌<◌, ◌≤◌, ◌==◌, List, [], ◌∷◌, ◌++◌, Bool, true, false, Some, None, length, decimal, codes, refl, sym, ◌∙◌, ap, subst, arith, if◌then◌else◌}
 use Rattle.std.proofs.lemmas.Fmt.{decimal_nonempty, length-decimal-le}
 use Rattle.vms_model.specs.Names.{label_named, upper}
-use Rattle.script_model.specs.LineWords.{Between, Inside, Quoted, word_rest}
-use Rattle.script_model.specs.Statements.{Says, Settle, At, Init, Deliver as Delivers, StartTrans, AddBranch, StartBranch, EndBranch, EndTrans, AbortTrans, Records, Put}
-use Rattle.script_model.specs.Grammar.{reading}
+use Rattle.run_model.specs.script_model.LineWords.{Between, Inside, Quoted, word_rest}
+use Rattle.run_model.specs.script_model.Statements.{Says, Settle, At, Init, Deliver as Delivers, StartTrans, AddBranch, StartBranch, EndBranch, EndTrans, AbortTrans, Records, Put}
+use Rattle.run_model.specs.script_model.Grammar.{reading}
 use Rattle.day_model.specs.Draws.{next, below}
 use Rattle.day_model.specs.Pieces as piece
 use Rattle.day_model.specs.Pieces.{Piece, Words, changed, day, dumps, ended, ending, last_digit, makes_files, quoted, six_digits, transaction, transaction_start, transactions, words_of}

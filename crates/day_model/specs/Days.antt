@@ -1,7 +1,7 @@
 -- What is shown of a day: how its lines were answered, where it stops, and its summary. Entries stand newest first.
 use Rattle.std.specs.Prelude.{◌≡◌, ◌⊎◌, ℕ, ◌-◌, List, [], ◌∷◌, ◌++◌, Bool, true, false, ◌||◌, Option, Some, None, decimal, codes}
-use Rattle.transcript_model.specs.Lines as line
-use Rattle.transcript_model.specs.Lines.{Line, line_words}
+use Rattle.run_model.specs.transcript_model.Lines as line
+use Rattle.run_model.specs.transcript_model.Lines.{Line, line_words}
 use Rattle.emitter_model.specs.Tally.{Tally, nothing_tallied, tallied_by}
 use Rattle.run_model.specs.Transcript.{Entry}
 use Rattle.day_model.specs.Pieces.{Piece, Words, Deliver, Settle, Dump, written, day, dumps}

@@ -1,6 +1,6 @@
 -- The script of a day over two nodes, A and B: its lines, piece by piece.
 use Rattle.std.specs.Prelude.{ℕ, zero, suc, ◌+◌, ◌/◌, ◌%◌, ◌==◌, List, [], ◌∷◌, ◌++◌, true, decimal, codes, if◌then◌else◌}
-use Rattle.transcript_model.specs.Script.{ScriptLine}
+use Rattle.run_model.specs.transcript_model.Script.{ScriptLine}
 use Rattle.day_model.specs.Draws.{next, below}
 
 -- a line of the script: it has these words; the last message that was sent is delivered; all nodes settle; or a node dumps a file

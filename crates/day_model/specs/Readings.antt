@@ -1,8 +1,8 @@
 -- What the lines of a day say.
 use Rattle.std.specs.Prelude.{◌≡◌, ◌<◌, ◌≤◌, ◌^◌, ℕ, List, ◌∷◌, Bool, true, false, codes}
 use Rattle.std.specs.List.{AllByRecursion}
-use Rattle.script_model.specs.Statements.{At, Init, Says, Statement}
-use Rattle.script_model.specs.Grammar.{reading}
+use Rattle.run_model.specs.script_model.Statements.{At, Init, Says, Statement}
+use Rattle.run_model.specs.script_model.Grammar.{reading}
 use Rattle.day_model.specs.Pieces.{Piece, Words, day, words_of}
 
 -- a piece says a statement, whatever message was sent last

@@ -1,12 +1,12 @@
 -- One line of a day more: what is counted, and how far the script has come.
 use Rattle.std.proofs.Common.{◌≡◌, ℕ, zero, suc, ◌+◌, ◌*◌, ◌≤◌, ◌==◌, if◌then◌else◌, codes, decimal, List, [], ◌∷◌, ◌++◌, Bool, true, false, Option, Some, None, length, refl, sym, ◌∙◌, ap, subst, arith, length-append}
 use Rattle.std.specs.Option.{option_map}
-use Rattle.transcript_model.specs.Lines as line
-use Rattle.transcript_model.specs.Lines.{Line}
+use Rattle.emitter_model.specs.transcript_model.Lines as line
+use Rattle.emitter_model.specs.transcript_model.Lines.{Line}
 use Rattle.emitter_model.specs.Emitting.{Emits, Shown}
 use Rattle.emitter_model.specs.Tally.{Tally, tallied_by}
-use Rattle.run_model.specs.Transcript.{Entry}
-use Rattle.run_model.proofs.NodeLists.{some_is}
+use Rattle.world_laws.specs.run_model.Transcript.{Entry}
+use Rattle.world_laws.proofs.run_model.NodeLists.{some_is}
 use Rattle.day_model.specs.Draws.{below, next}
 use Rattle.day_model.specs.Pieces as piece
 use Rattle.day_model.specs.Pieces.{Piece, Words, changed, day, dumps, ended, ending, opening, transaction, transaction_start, transactions, written}

@@ -1,19 +1,19 @@
 -- Of which disks something is known, or an INIT failed: a node keeps that whatever it is asked.
 use Rattle.std.proofs.Common.{◌≡◌, ◌⊎◌, inl, inr, ℕ, List, [], ◌∷◌, Bool, true, false, Option, Some, None, take, if◌then◌else◌, refl, sym, ◌∙◌, ap, subst}
 use Rattle.std.specs.Str.{bytes_eq}
-use Rattle.transcript_model.specs.Lines.{Line, Normal}
-use Rattle.script_model.specs.Statements.{At, Bad, Blank, Deliver, LinkDown, Reading, Says, Settle, Statement}
+use Rattle.emitter_model.specs.transcript_model.Lines.{Line, Normal}
+use Rattle.script_lang.specs.script_model.Statements.{At, Bad, Blank, Deliver, LinkDown, Reading, Says, Settle, Statement}
 use Rattle.vms_model.specs.Ids.{Id}
 use Rattle.unit_laws.specs.Units.{Map}
-use Rattle.run_agreement.specs.Seen.{IsKnown}
-use Rattle.run_model.specs.World.{Act, DiskCounts, Durable, Formats, Half, Lost, Node, Outturn, Settlement, Shared, Tables, Taken, World, aborted_prepared, acted, find_node, powered, settlement_of, unpowered, with_half, with_node, with_settlement}
-use Rattle.run_model.specs.Answers.{Row, Service, powers, refused_before_reading, spoils, task_service}
-use Rattle.run_model.specs.Steps as task
-use Rattle.run_model.specs.Steps.{Choice, Cut, Unpowered, Whole, WithoutMemory, node_after, node_after_rows, ready_node, rows_to_cut, service_effect, task_effect, with_unknown_volume}
-use Rattle.run_model.specs.Statements.{Allowed, Begins, Part, PartEffect, Phase, Phases, Step, begun_with, part_effect, phases_of, refused_at_once, stops_at}
-use Rattle.run_model.specs.Transcript.{Turn}
-use Rattle.run_model.proofs.NodeLists.{some_is}
-use Rattle.run_model.proofs.PartLemmas.{Doubted, Done, EachPart, EachPhase, Idle, Missing, Way, phases_fold, way}
+use Rattle.run_laws.specs.run_agreement.Seen.{IsKnown}
+use Rattle.world_laws.specs.run_model.World.{Act, DiskCounts, Durable, Formats, Half, Lost, Node, Outturn, Settlement, Shared, Tables, Taken, World, aborted_prepared, acted, find_node, powered, settlement_of, unpowered, with_half, with_node, with_settlement}
+use Rattle.world_laws.specs.run_model.Answers.{Row, Service, powers, refused_before_reading, spoils, task_service}
+use Rattle.world_laws.specs.run_model.Steps as task
+use Rattle.world_laws.specs.run_model.Steps.{Choice, Cut, Unpowered, Whole, WithoutMemory, node_after, node_after_rows, ready_node, rows_to_cut, service_effect, task_effect, with_unknown_volume}
+use Rattle.world_laws.specs.run_model.Statements.{Allowed, Begins, Part, PartEffect, Phase, Phases, Step, begun_with, part_effect, phases_of, refused_at_once, stops_at}
+use Rattle.world_laws.specs.run_model.Transcript.{Turn}
+use Rattle.world_laws.proofs.run_model.NodeLists.{some_is}
+use Rattle.world_laws.proofs.run_model.PartLemmas.{Doubted, Done, EachPart, EachPhase, Idle, Missing, Way, phases_fold, way}
 use Rattle.world_laws.proofs.Induction.{acts_name}
 
 settled_volume : (o : Option Settlement) (d : Durable) → (with_settlement o d).volume ≡ d.volume

@@ -4,3 +4,5 @@ pub mod Reading
 pub mod Going
 pub mod Served
 pub mod Telling
+pub mod dtm_node
+pub mod run_nodes

@@ -5,22 +5,22 @@ use Rattle.std.specs.Str.{bytes_eq}
 use Rattle.std.proofs.lemmas.Bool.{le-leb}
 use Rattle.std.proofs.lemmas.Slice.Eq.{bytes_eq-Decides}
 use Rattle.block_disk.specs.Disk.{CallLog}
-use Rattle.transcript_model.specs.Lines as line
-use Rattle.transcript_model.specs.Lines.{Line}
+use Rattle.emitter_model.specs.transcript_model.Lines as line
+use Rattle.emitter_model.specs.transcript_model.Lines.{Line}
 use Rattle.emitter_model.specs.Tally.{Tally, closing_answer, tallied, tallied_by}
-use Rattle.script_model.specs.Statements.{At, Init}
-use Rattle.run_agreement.specs.Seen.{IsKnown}
-use Rattle.run_model.specs.World.{Node, Shared, World, find_node}
-use Rattle.run_model.specs.Answers.{Serves, is_volume_form, task_service}
-use Rattle.run_model.specs.Operations.{first_of, refused_if}
-use Rattle.run_model.specs.Steps as task
-use Rattle.run_model.specs.Steps.{Choice, Cut, TaskEffect, Unpowered, Whole, WithoutMemory, ready_node, task_effect}
-use Rattle.run_model.specs.Statements.{Step, stops_at}
-use Rattle.run_model.proofs.NodeLists.{some_is}
-use Rattle.run_model.proofs.PartLemmas.{turn}
-use Rattle.statement_steps.proofs.Stepping.{request_there}
+use Rattle.script_lang.specs.script_model.Statements.{At, Init}
+use Rattle.run_laws.specs.run_agreement.Seen.{IsKnown}
+use Rattle.world_laws.specs.run_model.World.{Node, Shared, World, find_node}
+use Rattle.world_laws.specs.run_model.Answers.{Serves, is_volume_form, task_service}
+use Rattle.world_laws.specs.run_model.Operations.{first_of, refused_if}
+use Rattle.world_laws.specs.run_model.Steps as task
+use Rattle.world_laws.specs.run_model.Steps.{Choice, Cut, TaskEffect, Unpowered, Whole, WithoutMemory, ready_node, task_effect}
+use Rattle.world_laws.specs.run_model.Statements.{Step, stops_at}
+use Rattle.world_laws.proofs.run_model.NodeLists.{some_is}
+use Rattle.world_laws.proofs.run_model.PartLemmas.{turn}
+use Rattle.run_nodes.proofs.statement_steps.Stepping.{request_there}
 use Rattle.world_laws.proofs.Induction.{acts_name}
-use Rattle.node_standing.specs.Standing.{NodeState}
+use Rattle.run_nodes.specs.node_standing.Standing.{NodeState}
 use Rattle.run_nodes.specs.Together.{StandAll, disks_of}
 use Rattle.day_model.specs.Days.{is_broken}
 use Rattle.day_run.specs.Serving.{AreLarge}

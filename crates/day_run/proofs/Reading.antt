@@ -1,7 +1,7 @@
 -- What a line was read to say.
 use Rattle.std.proofs.Common.{◌≡◌, ℕ, List, Option, Some, None, Ok, sym, ◌∙◌, ap, arith}
-use Rattle.script_model.specs.Statements.{At, Backward, Bad, Blank, Clock, Deliver, Forward, LinkDown, Recover, Says, Settle, Statement}
-use Rattle.script_model.specs.Grammar.{reading}
+use Rattle.script_lang.specs.script_model.Statements.{At, Backward, Bad, Blank, Clock, Deliver, Forward, LinkDown, Recover, Says, Settle, Statement}
+use Rattle.script_lang.specs.script_model.Grammar.{reading}
 use Rattle.script_lang.specs.Statements.{reading_of, statement_of}
 use Rattle.script_lang.specs.declared.literals.Literals.{Literals}
 use Rattle.script_lang.specs.declared.statement.Statement as code

@@ -2,21 +2,21 @@
 use Rattle.std.proofs.Common.{◌≡◌, ◌⊎◌, inl, inr, ℕ, ◌^◌, ◌<◌, ◌≤◌, List, [], ◌∷◌, ◌++◌, ◌||◌, Bool, true, false, Some, None, map, length, refl, sym, ◌∙◌, ap, subst, codes, arith}
 use Rattle.std.specs.List.{last_or}
 use Rattle.block_disk.specs.Disk.{CallLog}
-use Rattle.transcript_model.specs.Lines.{Normal}
+use Rattle.emitter_model.specs.transcript_model.Lines.{Normal}
 use Rattle.emitter_model.specs.Emitting.{Shown}
 use Rattle.emitter_model.specs.Tally.{Tally, tallied_by}
-use Rattle.script_model.specs.Statements.{At, Boot, Deliver, Init, LinkDown, Request, Says, Settle, Statement}
-use Rattle.script_model.specs.Grammar.{reading}
-use Rattle.run_agreement.specs.Laws.{NamesApart}
+use Rattle.script_lang.specs.script_model.Statements.{At, Boot, Deliver, Init, LinkDown, Request, Says, Settle, Statement}
+use Rattle.script_lang.specs.script_model.Grammar.{reading}
+use Rattle.run_laws.specs.run_agreement.Laws.{NamesApart}
 use Rattle.run_laws.specs.Anew.{Makes}
-use Rattle.run_model.specs.World.{DiskCounts, Node, World, find_node, opened}
-use Rattle.run_model.specs.Statements.{Step}
-use Rattle.run_model.specs.Transcript.{AreOpening, Entry, Legal, Turn}
+use Rattle.world_laws.specs.run_model.World.{DiskCounts, Node, World, find_node, opened}
+use Rattle.world_laws.specs.run_model.Statements.{Step}
+use Rattle.world_laws.specs.run_model.Transcript.{AreOpening, Entry, Legal, Turn}
 use Rattle.run_shared.specs.Sharing.{SharedState}
 use Rattle.world_laws.specs.Nodes.{NodesAreKept}
-use Rattle.statement_steps.specs.Doing.{AllKept}
-use Rattle.statement_steps.proofs.Keeping.{all_kept}
-use Rattle.node_standing.specs.Standing.{NodeState}
+use Rattle.run_nodes.specs.statement_steps.Doing.{AllKept}
+use Rattle.run_nodes.proofs.statement_steps.Keeping.{all_kept}
+use Rattle.run_nodes.specs.node_standing.Standing.{NodeState}
 use Rattle.run_nodes.specs.Names.{AreApart}
 use Rattle.run_nodes.specs.Together.{ServesTogether, StandsTogether, disks_of}
 use Rattle.run_nodes.specs.Told.{kept_names}

@@ -1,15 +1,15 @@
 -- What a day tells of the disks, line after line, whatever they have.
 use Rattle.std.proofs.Common.{◌≡◌, ◌≤◌, ℕ, List, [], ◌∷◌, ◌++◌, true, false, Some, refl, sym, ◌∙◌, ap, subst}
 use Rattle.block_disk.specs.Disk.{DiskState}
-use Rattle.transcript_model.specs.Lines.{Line}
+use Rattle.emitter_model.specs.transcript_model.Lines.{Line}
 use Rattle.emitter_model.specs.Emitting.{Shown}
 use Rattle.emitter_model.specs.Tally.{Tally, tallied_by}
-use Rattle.script_model.specs.Statements.{Says, Statement}
-use Rattle.script_model.specs.Grammar.{reading}
-use Rattle.run_said.specs.Said.{Said, nothing_said, said_here, said_of}
-use Rattle.run_model.specs.Transcript.{Entry}
+use Rattle.script_lang.specs.script_model.Statements.{Says, Statement}
+use Rattle.script_lang.specs.script_model.Grammar.{reading}
+use Rattle.run_laws.specs.run_said.Said.{Said, nothing_said, said_here, said_of}
+use Rattle.world_laws.specs.run_model.Transcript.{Entry}
 use Rattle.run_shared.specs.Sharing.{SharedState}
-use Rattle.node_standing.specs.Standing.{NodeState}
+use Rattle.run_nodes.specs.node_standing.Standing.{NodeState}
 use Rattle.run_nodes.specs.Calls.{DisksFollowLine, LineFollows}
 use Rattle.day_run.specs.Tells.{EntriesTell}
 use Rattle.run_nodes.specs.Together.{AnswersTogether, disks_of, said_together}

@@ -4,13 +4,13 @@ use Rattle.std.specs.List.{AllByRecursion}
 use Rattle.block_disk.specs.Disk.{CallLog, DiskState}
 use Rattle.block_disk.specs.Sizes.{least_disk_size}
 use Rattle.emitter_model.specs.Tally.{Tally}
-use Rattle.script_model.specs.Grammar.{reading}
-use Rattle.script_model.specs.Statements.{Says, Statement}
+use Rattle.script_lang.specs.script_model.Grammar.{reading}
+use Rattle.script_lang.specs.script_model.Statements.{Says, Statement}
 use Rattle.run_laws.specs.Anew.{Makes}
-use Rattle.run_model.specs.Transcript.{Entry, Legal}
-use Rattle.run_model.specs.World.{World}
+use Rattle.world_laws.specs.run_model.Transcript.{Entry, Legal}
+use Rattle.world_laws.specs.run_model.World.{World}
 use Rattle.run_shared.specs.Sharing.{SharedState}
-use Rattle.node_standing.specs.Standing.{NodeState}
+use Rattle.run_nodes.specs.node_standing.Standing.{NodeState}
 use Rattle.day_run.specs.Tells.{EntriesTell}
 use Rattle.run_nodes.specs.Together.{StandsTogether}
 use Rattle.day_model.specs.Pieces.{Piece, day}

@@ -3,4 +3,5 @@
 
 mod serving;
 
+pub use run_nodes::{Node, Nodes, Shared, serve_statement};
 pub use serving::serve_day;

@@ -2,12 +2,12 @@
 ghost use Rattle.std.specs.Prelude.{◌≡◌, ◌≤◌, ◌∷◌, ℕ, [], List, codes};
 ghost use Rattle.block_disk.specs.Disk.{CallLog};
 ghost use Rattle.emitter_model.specs.Tally.{nothing_tallied};
-ghost use Rattle.run_said.specs.Said.{nothing_said};
-ghost use Rattle.run_model.specs.Transcript.{AreOpening};
-ghost use Rattle.run_model.specs.World.{DiskCounts, Node, opened};
+ghost use Rattle.run_laws.specs.run_said.Said.{nothing_said};
+ghost use Rattle.world_laws.specs.run_model.Transcript.{AreOpening};
+ghost use Rattle.world_laws.specs.run_model.World.{DiskCounts, Node, opened};
 ghost use Rattle.script_lang.specs.Statements.{statement_of};
-ghost use Rattle.script_model.specs.Grammar.{reading};
-ghost use Rattle.script_model.specs.Statements.{Says, Statement as StatementSaid};
+ghost use Rattle.script_lang.specs.script_model.Grammar.{reading};
+ghost use Rattle.script_lang.specs.script_model.Statements.{Says, Statement as StatementSaid};
 ghost use Rattle.run_nodes.specs.Held.{AreNodes, kept_all, names_of};
 ghost use Rattle.run_nodes.specs.Names.{AreApart};
 ghost use Rattle.run_nodes.specs.Together.{StandsTogether, disks_of, said_together};

@@ -4,8 +4,8 @@ use Rattle.std.proofs.lemmas.List.{take_rest}
 use Rattle.emitter_model.specs.Emitting.{Puts, Shown}
 use Rattle.emitter_model.specs.Tally.{Tally}
 use Rattle.emitter_model.proofs.EmittingLemmas.{puts2, puts3}
-use Rattle.day_model.specs.Days.{counting, counts_text, numbers_text}
-use Rattle.day_model.specs.Pieces.{dumps}
+use Rattle.day_script.specs.day_model.Days.{counting, counts_text, numbers_text}
+use Rattle.day_script.specs.day_model.Pieces.{dumps}
 use Rattle.day_script.specs.Steps.{file_of, piece_of, side_of}
 use Rattle.day_script.specs.declared.steps.File.{File}
 use Rattle.day_script.specs.declared.steps.Side.{Side}

@@ -1,5 +1,5 @@
 -- The lines that the answers are by which a day may end.
-use Rattle.transcript_model.specs.Lines as model
+use Rattle.emitter_model.specs.transcript_model.Lines as model
 use Rattle.vms_base.specs.Ids.{serial_of}
 use Rattle.transcript.specs.Forms.{cause_of, quota_of}
 use Rattle.day_tally.specs.declared.answers.Answer.{Answer}

@@ -1,8 +1,8 @@
 -- The text for a day by how it ended.
 use Rattle.std.specs.Prelude.{ℕ, List}
 use Rattle.emitter_model.specs.Tally.{Tally}
-use Rattle.day_model.specs.Pieces.{dumps}
-use Rattle.day_model.specs.Days.{answer_text, summary}
+use Rattle.day_script.specs.day_model.Pieces.{dumps}
+use Rattle.day_script.specs.day_model.Days.{answer_text, summary}
 use Rattle.day_tally.specs.declared.counts.Ended.{Ended}
 use Rattle.day_tally.specs.declared.counts.Ended.TheVariants as ended
 

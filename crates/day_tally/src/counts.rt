@@ -1,7 +1,7 @@
 //! What the answers of a day come to: where it ends, and the counts of its files.
 ghost use Rattle.std.specs.Prelude.{◌≡◌, ◌≤◌, ◌+◌, ◌++◌, ℕ, [], List, length, option_to_list};
 ghost use Rattle.std.specs.Option.{option_map};
-ghost use Rattle.day_model.specs.Days.{counted, stops as stops_of};
+ghost use Rattle.day_script.specs.day_model.Days.{counted, stops as stops_of};
 ghost use Rattle.day_script.specs.Steps.{piece_of};
 ghost use Rattle.day_tally.specs.Answers.{answer_line};
 

@@ -2,7 +2,7 @@
 ghost use Rattle.std.specs.Prelude.{◌≡◌, ◌++◌, ◌∷◌, [], map};
 ghost use Rattle.transcript.specs.Emitters.{shown_by};
 ghost use Rattle.emitter_model.specs.Emitting.{Puts};
-ghost use Rattle.day_model.specs.Days.{counts_text, numbers_text};
+ghost use Rattle.day_script.specs.day_model.Days.{counts_text, numbers_text};
 ghost use Rattle.day_script.specs.Steps.{file_of, piece_of, side_of};
 ghost use Rattle.day_tally.specs.Counters.{tallied_in};
 ghost use Rattle.day_tally.specs.Ends.{end_text};

@@ -3,29 +3,29 @@ use Rattle.std.proofs.Common.{◌≡◌, ℕ, zero, suc, ◌-◌, ◌+◌, ◌*�
 use Rattle.std.specs.Option.{option_map}
 use Rattle.std.specs.FinMap.{get}
 use Rattle.std.proofs.lemmas.List.{length-map}
-use Rattle.file_base.specs.declared.head.FileHead.{FileHead}
-use Rattle.file_base.specs.declared.head.Organization.{Organization as Kept}
-use Rattle.file_base.specs.declared.head.Organization.TheVariants.{Sequential, Relative, Indexed}
-use Rattle.change_set.specs.Files.{sizes_of as head_sizes}
-use Rattle.change_set.specs.Maps.{Map, applied, map_of_records}
-use Rattle.change_set.specs.Maps as maps
-use Rattle.change_set.proofs.Changes.{agree}
-use Rattle.record_files.specs.Any.{map_of, layout_by}
-use Rattle.vms_model.specs.Ids.{Id}
-use Rattle.vms_model.specs.Keys.{Key, Number, Text, End}
-use Rattle.vms_model.specs.Transactions.{Outcome, Commit, Abort}
+use Rattle.extents.specs.file_base.declared.head.FileHead.{FileHead}
+use Rattle.extents.specs.file_base.declared.head.Organization.{Organization as Kept}
+use Rattle.extents.specs.file_base.declared.head.Organization.TheVariants.{Sequential, Relative, Indexed}
+use Rattle.file_images.specs.change_set.Files.{sizes_of as head_sizes}
+use Rattle.file_images.specs.change_set.Maps.{Map, applied, map_of_records}
+use Rattle.file_images.specs.change_set.Maps as maps
+use Rattle.file_images.proofs.change_set.Changes.{agree}
+use Rattle.file_images.specs.record_files.Any.{map_of, layout_by}
+use Rattle.records_model.specs.vms_model.Ids.{Id}
+use Rattle.records_model.specs.vms_model.Keys.{Key, Number, Text, End}
+use Rattle.records_model.specs.vms_model.Transactions.{Outcome, Commit, Abort}
 use Rattle.records_model.specs.Records.{Records, Change, Found}
 use Rattle.records_model.specs.Records as base
-use Rattle.tree_model.specs.Layouts.{Sizes, no_layout}
-use Rattle.tree_model.specs.Setting.{layout_set, layout_changed}
+use Rattle.file_images.specs.tree_model.Layouts.{Sizes, no_layout}
+use Rattle.file_images.specs.tree_model.Setting.{layout_set, layout_changed}
 use Rattle.records_model.specs.History.{current, changed_with, changes_by, settled_at}
-use Rattle.unit_laws.specs.Units.{map_in, with_before_images, IsOrderly}
-use Rattle.unit_laws.specs.Layouts.{layout_restored}
-use Rattle.unit_laws.proofs.HistoryLaws.{aborts_one, changes_more, commits_one}
-use Rattle.run_model.specs.Locks.{is_locked}
-use Rattle.run_model.specs.World.{Durable, Node, File, Settlement, AreUnitsOf, Formats, Tables, Changes, Directs, acted, key_size_of, sizes_of, changed_file, directly_changed, settled_layout, settled_file, settlement_of, with_prepared, with_settlement}
-use Rattle.commit_protocol.specs.Table as table
-use Rattle.log_laws.specs.Slots.{slots_after}
+use Rattle.file_images.specs.unit_laws.Units.{map_in, with_before_images, IsOrderly}
+use Rattle.file_images.specs.unit_laws.Layouts.{layout_restored}
+use Rattle.file_images.proofs.unit_laws.HistoryLaws.{aborts_one, changes_more, commits_one}
+use Rattle.file_images.specs.run_model.Locks.{is_locked}
+use Rattle.file_images.specs.run_model.World.{Durable, Node, File, Settlement, AreUnitsOf, Formats, Tables, Changes, Directs, acted, key_size_of, sizes_of, changed_file, directly_changed, settled_layout, settled_file, settlement_of, with_prepared, with_settlement}
+use Rattle.file_images.specs.commit_protocol.Table as table
+use Rattle.file_images.specs.log_laws.Slots.{slots_after}
 use Rattle.directory_model.specs.Files.{IsCarried, IsFile, IsPlace, AreFiles, AgreesOnCarried, IsNamed, head_at, file_at, layout_of, organized_by}
 use Rattle.directory_model.specs.Restoring.{IsRestored, IsPlaceRestored, AreRestored}
 use Rattle.directory_model.specs.Laws.{KeepsFiles, AreFree, IsChanged, SameBut, carrying, changed_buckets, directly_buckets, settled_buckets}

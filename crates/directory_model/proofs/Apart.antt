@@ -5,14 +5,14 @@ use Rattle.std.proofs.lemmas.Bool.{cases_lt}
 use Rattle.std.proofs.lemmas.Bool.Decides.{nat_tests}
 use Rattle.std.proofs.lemmas.List.{get_or-take, length-take}
 use Rattle.block_disk.specs.Blocks.{block_at}
-use Rattle.careful_write.specs.State.{EachWhole}
-use Rattle.careful_write.specs.Steps.{AgreesOff}
-use Rattle.file_base.specs.declared.head.FileHead.{FileHead}
-use Rattle.file_base.specs.declared.head.Span.{Span}
-use Rattle.change_set.specs.Files.{AgreesOn, in_extent}
+use Rattle.file_images.specs.careful_write.State.{EachWhole}
+use Rattle.file_images.specs.careful_write.Steps.{AgreesOff}
+use Rattle.extents.specs.file_base.declared.head.FileHead.{FileHead}
+use Rattle.extents.specs.file_base.declared.head.Span.{Span}
+use Rattle.file_images.specs.change_set.Files.{AgreesOn, in_extent}
 use Rattle.file_images.specs.Files.{SameRing}
-use Rattle.journal_model.specs.Ring.{KeepsOthers}
-use Rattle.save_laws.specs.Saves.{save_head}
+use Rattle.file_images.specs.journal_model.Ring.{KeepsOthers}
+use Rattle.file_images.specs.save_laws.Saves.{save_head}
 use Rattle.extents.specs.declared.extent.Extent.{Extent as Area}
 use Rattle.extents.specs.Extents.{IsFreeRun, all_extents, covers, extent, extents_of, is_used, nowhere}
 use Rattle.extents.proofs.Used.{covered, covering, free_is, used_at, not_both}

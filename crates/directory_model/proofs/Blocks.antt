@@ -2,13 +2,13 @@
 use Rattle.std.proofs.Common.{◌≡◌, ℕ, suc, ◌*◌, List, [], ◌∷◌, length, Bool, true, false, Option, Some, None, refl, sym, ap, ◌∙◌, arith}
 use Rattle.std.specs.Prelude.{◌||◌}
 use Rattle.std.proofs.lemmas.List.Folds.{list_any-append}
-use Rattle.file_base.specs.declared.head.FileHead.{FileHead}
+use Rattle.extents.specs.file_base.declared.head.FileHead.{FileHead}
 use Rattle.extents.specs.Extents.{all_extents, covers, is_used, nowhere}
 use Rattle.extents.specs.Extents as extents
 use Rattle.extents.proofs.Used.{not_behind}
-use Rattle.run_model.specs.Extents.{is_taken, in_extent}
-use Rattle.run_model.specs.World.{File, extent_of, extents_of, others_of, save_extent}
-use Rattle.recovery_model.specs.File.{Save}
+use Rattle.file_images.specs.run_model.Extents.{is_taken, in_extent}
+use Rattle.file_images.specs.run_model.World.{File, extent_of, extents_of, others_of, save_extent}
+use Rattle.file_images.specs.recovery_model.File.{Save}
 use Rattle.file_images.specs.Files.{HasSave}
 use Rattle.directory_model.specs.Files.{IsCarried, IsFile, IsPlace, head_at, file_at}
 use Rattle.directory_model.specs.Laws.{TakesBlocks}

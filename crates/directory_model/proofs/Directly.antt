@@ -1,10 +1,10 @@
 -- A file that no unsettled branch changed, after changes that were committed at once.
 use Rattle.std.proofs.Common.{◌≡◌, ℕ, List, [], ◌∷◌, if◌then◌else◌, refl, sym, ap, ◌∙◌}
-use Rattle.vms_model.specs.Ids.{Id}
-use Rattle.vms_model.specs.Transactions.{Commit}
+use Rattle.records_model.specs.vms_model.Ids.{Id}
+use Rattle.records_model.specs.vms_model.Transactions.{Commit}
 use Rattle.records_model.specs.Records.{Change, applied}
 use Rattle.records_model.specs.History.{History, LiveChanges, records, current, on_top, changes_by, with_change, with_changes, without, changed_with, settled_at, settled_with}
-use Rattle.unit_laws.proofs.LiveLemmas.{id_itself}
+use Rattle.file_images.proofs.unit_laws.LiveLemmas.{id_itself}
 
 -- the unsettled changes of one branch alone, where it made some
 abbrev alone : Id → List Change → List LiveChanges

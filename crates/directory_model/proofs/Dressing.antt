@@ -1,18 +1,18 @@
 -- Heads with other marks, journals and saves, over the acts that set these.
 use Rattle.std.proofs.Common.{◌≡◌, ℕ, List, Bool, true, false, Option, Some, slice_set, refl, sym, ap, subst, ◌∙◌, arith}
 use Rattle.std.specs.FinMap.{get}
-use Rattle.file_base.specs.declared.head.FileHead.{FileHead}
-use Rattle.file_base.specs.declared.head.Save.{Save}
-use Rattle.file_base.specs.declared.head.Span.{Span}
-use Rattle.vms_base.specs.declared.times.Moment.{Moment}
+use Rattle.extents.specs.file_base.declared.head.FileHead.{FileHead}
+use Rattle.extents.specs.file_base.declared.head.Save.{Save}
+use Rattle.extents.specs.file_base.declared.head.Span.{Span}
+use Rattle.extents.specs.vms_base.declared.times.Moment.{Moment}
 use Rattle.file_images.specs.Files.{HasSave, form_of}
 use Rattle.file_images.proofs.Sides.{saves_follow, sides_follow}
-use Rattle.journal_model.specs.Ring.{HasRing}
-use Rattle.recovery_model.specs.File.{Save as SaveOfFile, next_span}
-use Rattle.save_laws.specs.Saves.{IsOfNow, KeepsSave, StandAt}
-use Rattle.script_model.specs.Statements.{Side, AfterImages, BeforeImages}
+use Rattle.file_images.specs.journal_model.Ring.{HasRing}
+use Rattle.file_images.specs.recovery_model.File.{Save as SaveOfFile, next_span}
+use Rattle.file_images.specs.save_laws.Saves.{IsOfNow, KeepsSave, StandAt}
+use Rattle.file_images.specs.script_model.Statements.{Side, AfterImages, BeforeImages}
 use Rattle.records_model.specs.History.{current}
-use Rattle.run_model.specs.World.{Node, Carried, File, Marks, ForUnits, BeginsImages, EndsImages, Saves, acted, begun_images, ended_images, marked_file, saved_file}
+use Rattle.file_images.specs.run_model.World.{Node, Carried, File, Marks, ForUnits, BeginsImages, EndsImages, Saves, acted, begun_images, ended_images, marked_file, saved_file}
 use Rattle.directory_model.specs.Files.{IsCarried, IsFile, AreFiles, IsNamed, AgreesOnFile, head_at, file_at}
 use Rattle.directory_model.specs.Laws.{begun_head, end_by, ended_head, marked, saved_head}
 use Rattle.directory_model.proofs.Places.{places_set, within_list}

@@ -1,22 +1,22 @@
 -- Entries of images at the ends of a file's journals.
 use Rattle.std.proofs.Common.{◌≡◌, ℕ, ◌+◌, ◌-◌, ◌≤◌, List, Bool, true, false, Option, Some, None, length, map, slice_set, refl, sym, ap, subst, ◌∙◌, arith}
 use Rattle.std.specs.Option.{option_map}
-use Rattle.careful_write.specs.State.{EachWhole}
-use Rattle.file_base.specs.declared.head.FileHead.{FileHead}
-use Rattle.file_base.specs.declared.head.Span.{Span}
-use Rattle.change_set.specs.Files.{AgreesOn}
-use Rattle.vms_model.specs.Ids.{Id}
-use Rattle.vms_model.specs.Keys.{Key}
+use Rattle.file_images.specs.careful_write.State.{EachWhole}
+use Rattle.extents.specs.file_base.declared.head.FileHead.{FileHead}
+use Rattle.extents.specs.file_base.declared.head.Span.{Span}
+use Rattle.file_images.specs.change_set.Files.{AgreesOn}
+use Rattle.records_model.specs.vms_model.Ids.{Id}
+use Rattle.records_model.specs.vms_model.Keys.{Key}
 use Rattle.records_model.specs.Records.{Change}
-use Rattle.journal_model.specs.Ring.{HasRing, put_stream}
-use Rattle.journal_store.proofs.Journals.{keeps_others, ring_stream}
-use Rattle.recovery_model.specs.Journal.{Entry}
-use Rattle.recovery_model.specs.File.{ImageJournal, append}
+use Rattle.file_images.specs.journal_model.Ring.{HasRing, put_stream}
+use Rattle.file_images.proofs.journal_store.Journals.{keeps_others, ring_stream}
+use Rattle.file_images.specs.recovery_model.Journal.{Entry}
+use Rattle.file_images.specs.recovery_model.File.{ImageJournal, append}
 use Rattle.file_images.specs.Files.{HasSide, form_of}
 use Rattle.file_images.proofs.Sides.{saves_follow, sides_follow}
-use Rattle.commit_protocol.specs.Table as table
-use Rattle.run_model.specs.Locks.{is_locked}
-use Rattle.run_model.specs.World.{Node, Carried, File, Settlement, Tables, Changes, Directs, acted, changed_file, directly_changed, settled_file, settlement_of}
+use Rattle.file_images.specs.commit_protocol.Table as table
+use Rattle.file_images.specs.run_model.Locks.{is_locked}
+use Rattle.file_images.specs.run_model.World.{Node, Carried, File, Settlement, Tables, Changes, Directs, acted, changed_file, directly_changed, settled_file, settlement_of}
 use Rattle.extents.specs.declared.extent.Extent.{Extent as Area}
 use Rattle.directory_model.specs.Files.{AreFiles, Fit, IsCarried, IsFile, IsFoundAt, head_at, file_at}
 use Rattle.directory_model.specs.Laws.{CanEnter, EntersImages, carrying, changed_buckets, directly_buckets, longer_after, longer_before, spelled_entry}

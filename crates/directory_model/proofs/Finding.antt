@@ -4,8 +4,8 @@ use Rattle.std.specs.Option.{option_map}
 use Rattle.std.specs.Str.{bytes_eq}
 use Rattle.std.proofs.lemmas.Bool.{false_from_ne_true}
 use Rattle.std.proofs.lemmas.Slice.Eq.{bytes_eq-Decides}
-use Rattle.file_base.specs.declared.head.FileHead.{FileHead}
-use Rattle.run_model.specs.World.{File, find_file, free_place, with_file}
+use Rattle.extents.specs.file_base.declared.head.FileHead.{FileHead}
+use Rattle.file_images.specs.run_model.World.{File, find_file, free_place, with_file}
 use Rattle.directory_model.specs.Files.{AreFiles, NoneNamed, IsFoundAt, file_at}
 use Rattle.directory_model.specs.Laws.{FindsFiles, FindsPlaces}
 use Rattle.directory_model.proofs.Places.{file_there, head_there, no_file_there, no_head_there}

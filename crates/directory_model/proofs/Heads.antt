@@ -4,12 +4,12 @@ use Rattle.std.specs.Prelude.{◌&&◌}
 use Rattle.std.proofs.lemmas.Bool.Decides.{nat_tests}
 use Rattle.std.proofs.lemmas.Bool.{cases_eq}
 use Rattle.std.proofs.lemmas.List.{get_or-set_other, get_or-set_same, get_or-take, length-set, length-take}
-use Rattle.file_base.specs.declared.head.FileHead.{FileHead}
+use Rattle.extents.specs.file_base.declared.head.FileHead.{FileHead}
 use Rattle.extents.specs.declared.extent.Extent.{Extent as Area}
 use Rattle.extents.specs.Extents.{IsFreeRun, FitsAt, all_extents, covers, extents_of, is_free, is_used, nowhere}
 use Rattle.extents.proofs.Used.{covered, free_is, used_at, not_both, either_false}
-use Rattle.script_model.specs.Statements.{Form}
-use Rattle.file_base.specs.declared.head.Span.{Span}
+use Rattle.file_images.specs.script_model.Statements.{Form}
+use Rattle.extents.specs.file_base.declared.head.Span.{Span}
 use Rattle.directory_model.specs.Files.{AreNamedOnce, NoneNamed, Fit, IsNewHead, head_at}
 use Rattle.directory_model.specs.Laws.{KeepsHeads, marked}
 use Rattle.directory_model.proofs.Places.{within_list}

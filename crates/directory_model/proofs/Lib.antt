@@ -19,3 +19,10 @@ pub mod ReadingPlaces
 pub mod Runs
 pub mod Showing
 pub mod Standing
+pub mod change_set
+pub mod file_images
+pub mod indexed_file
+pub mod journal_format
+pub mod relative_file
+pub mod seq_file
+pub mod sequence_laws

@@ -2,22 +2,22 @@
 use Rattle.std.proofs.Common.{◌≡◌, ℕ, ◌+◌, ◌-◌, ◌*◌, ◌/◌, ◌≤◌, Bool, true, false, List, None, refl, sym, ap, subst, ◌∙◌, arith, inl, inr}
 use Rattle.std.specs.FinMap.{get-empty}
 use Rattle.std.proofs.lemmas.Bool.{cases_lt}
-use Rattle.file_base.specs.declared.head.FileHead.{FileHead}
-use Rattle.file_base.specs.declared.head.Span.{Span}
+use Rattle.extents.specs.file_base.declared.head.FileHead.{FileHead}
+use Rattle.extents.specs.file_base.declared.head.Span.{Span}
 use Rattle.file_images.specs.Files.{HasSide, HasSave, form_of}
-use Rattle.recovery_model.specs.File.{no_images}
-use Rattle.change_set.specs.Maps.{Map, empty_map}
-use Rattle.relative_file.specs.Cells.{IsRelative, cells_in}
-use Rattle.seq_file.specs.Layout.{IsSequential, IsFresh}
-use Rattle.indexed_tree.specs.Files.{IsTreeHead, IsNewHead as IsNewTree}
-use Rattle.record_files.specs.Any as any
-use Rattle.record_files.specs.Any.{map_of, layout_of, first_layout_of, first_by, FormBy, FreshBy, IsLaidOut, IsNew}
-use Rattle.script_model.specs.Statements.{Form}
-use Rattle.script_model.specs.Statements as form
+use Rattle.file_images.specs.recovery_model.File.{no_images}
+use Rattle.file_images.specs.change_set.Maps.{Map, empty_map}
+use Rattle.file_images.specs.relative_file.Cells.{IsRelative, cells_in}
+use Rattle.file_images.specs.seq_file.Layout.{IsSequential, IsFresh}
+use Rattle.file_images.specs.indexed_tree.Files.{IsTreeHead, IsNewHead as IsNewTree}
+use Rattle.file_images.specs.record_files.Any as any
+use Rattle.file_images.specs.record_files.Any.{map_of, layout_of, first_layout_of, first_by, FormBy, FreshBy, IsLaidOut, IsNew}
+use Rattle.file_images.specs.script_model.Statements.{Form}
+use Rattle.file_images.specs.script_model.Statements as form
 use Rattle.records_model.specs.Records.{key_cmp}
-use Rattle.tree_model.specs.Layouts.{first_layout as one_leaf}
-use Rattle.run_model.specs.Answers.{created, first_layout, organized}
-use Rattle.run_model.specs.World.{nothing_carried}
+use Rattle.file_images.specs.tree_model.Layouts.{first_layout as one_leaf}
+use Rattle.file_images.specs.run_model.Answers.{created, first_layout, organized}
+use Rattle.file_images.specs.run_model.World.{nothing_carried}
 use Rattle.directory_model.specs.Files.{IsCarried, IsFile, IsNewHead, organized_by}
 use Rattle.directory_model.specs.Laws.{MakesFiles}
 

@@ -1,31 +1,31 @@
 -- A head with other marks, journals and save is that of a file with the same buckets.
 use Rattle.std.proofs.Common.{◌≡◌, ℕ, zero, suc, ◌+◌, List, [], ◌∷◌, ◌++◌, length, map, Bool, refl, sym, ap, subst, ◌∙◌}
 use Rattle.std.specs.Prelude.{◌&&◌}
-use Rattle.file_base.specs.declared.head.FileHead.{FileHead}
-use Rattle.file_base.specs.declared.head.Marks.{Marks}
-use Rattle.file_base.specs.declared.head.Organization.{Organization as Kept}
-use Rattle.file_base.specs.declared.head.Organization.TheVariants.{Sequential, Relative, Indexed}
-use Rattle.file_base.specs.declared.head.Save.{Save}
-use Rattle.file_base.specs.declared.head.Span.{Span}
-use Rattle.vms_base.specs.declared.times.Moment.{Moment}
-use Rattle.bucket_page.specs.Pages.{slots_of, no_next}
+use Rattle.extents.specs.file_base.declared.head.FileHead.{FileHead}
+use Rattle.extents.specs.file_base.declared.head.Marks.{Marks}
+use Rattle.extents.specs.file_base.declared.head.Organization.{Organization as Kept}
+use Rattle.extents.specs.file_base.declared.head.Organization.TheVariants.{Sequential, Relative, Indexed}
+use Rattle.extents.specs.file_base.declared.head.Save.{Save}
+use Rattle.extents.specs.file_base.declared.head.Span.{Span}
+use Rattle.extents.specs.vms_base.declared.times.Moment.{Moment}
+use Rattle.file_images.specs.bucket_page.Pages.{slots_of, no_next}
 use Rattle.records_model.specs.Slots.{Slot, lookup}
-use Rattle.vms_model.specs.Keys.{Key, Number, Text, End}
-use Rattle.relative_file.specs.Cells as relative
-use Rattle.tree_model.specs.Layouts.{Layout, slots_along}
-use Rattle.tree_model.specs.Trees.{IsTree}
-use Rattle.index_model.specs.Indexes.{Entry, entries_along, parent_entry, numbers_of, counts_of, AllDiffer}
-use Rattle.index_model.specs.Trees.{child_of, leaf_at}
-use Rattle.index_bucket.specs.Entries.{sizes_of, IsIndexBucket}
-use Rattle.index_blocks.specs.Buckets.{bucket_at}
-use Rattle.index_blocks.specs.Levels.{entries_in, below_at, levels_above, height, leaf_entries, levels_of, AllAre}
-use Rattle.indexed_file.specs.Chain.{kind_of, slots_in, keeps_record, all_keep, Leads, IsLeaf}
-use Rattle.indexed_tree.specs.Files as indexed
-use Rattle.indexed_tree.specs.Maps.{all_slots}
-use Rattle.indexed_tree.specs.Rooted.{leaf_numbers, layout_in, IsRooted}
-use Rattle.indexed_tree.proofs.StayLaws.{moved}
-use Rattle.record_files.specs.Any.{map_by, layout_by, FormBy, LaidOutBy}
-use Rattle.run_model.specs.World.{Carried, File}
+use Rattle.records_model.specs.vms_model.Keys.{Key, Number, Text, End}
+use Rattle.file_images.specs.relative_file.Cells as relative
+use Rattle.file_images.specs.tree_model.Layouts.{Layout, slots_along}
+use Rattle.file_images.specs.tree_model.Trees.{IsTree}
+use Rattle.file_images.specs.index_model.Indexes.{Entry, entries_along, parent_entry, numbers_of, counts_of, AllDiffer}
+use Rattle.file_images.specs.index_model.Trees.{child_of, leaf_at}
+use Rattle.file_images.specs.index_bucket.Entries.{sizes_of, IsIndexBucket}
+use Rattle.file_images.specs.index_blocks.Buckets.{bucket_at}
+use Rattle.file_images.specs.index_blocks.Levels.{entries_in, below_at, levels_above, height, leaf_entries, levels_of, AllAre}
+use Rattle.file_images.specs.indexed_file.Chain.{kind_of, slots_in, keeps_record, all_keep, Leads, IsLeaf}
+use Rattle.file_images.specs.indexed_tree.Files as indexed
+use Rattle.file_images.specs.indexed_tree.Maps.{all_slots}
+use Rattle.file_images.specs.indexed_tree.Rooted.{leaf_numbers, layout_in, IsRooted}
+use Rattle.file_images.proofs.indexed_tree.StayLaws.{moved}
+use Rattle.file_images.specs.record_files.Any.{map_by, layout_by, FormBy, LaidOutBy}
+use Rattle.file_images.specs.run_model.World.{Carried, File}
 use Rattle.directory_model.specs.Files.{IsHeadOf, IsFile, organized_by}
 
 -- a head with these marks, journals and save

@@ -4,20 +4,20 @@ use Rattle.std.specs.Option.{option_map}
 use Rattle.std.specs.FinMap.{get}
 use Rattle.std.proofs.lemmas.Bool.{cases_eq}
 use Rattle.std.proofs.lemmas.List.{length-map, length-set, get_or-set_same, get_or-set_other}
-use Rattle.file_base.specs.declared.head.FileHead.{FileHead}
-use Rattle.file_base.specs.declared.head.Organization.{Organization as Kept}
-use Rattle.file_base.specs.declared.head.Organization.TheVariants.{Sequential, Relative, Indexed}
-use Rattle.change_set.specs.Files.{SameFile}
-use Rattle.record_files.specs.Any as any
-use Rattle.record_files.specs.Any.{map_of, IsLaidOut}
-use Rattle.save_laws.specs.Saves.{KeepsSave}
+use Rattle.extents.specs.file_base.declared.head.FileHead.{FileHead}
+use Rattle.extents.specs.file_base.declared.head.Organization.{Organization as Kept}
+use Rattle.extents.specs.file_base.declared.head.Organization.TheVariants.{Sequential, Relative, Indexed}
+use Rattle.file_images.specs.change_set.Files.{SameFile}
+use Rattle.file_images.specs.record_files.Any as any
+use Rattle.file_images.specs.record_files.Any.{map_of, IsLaidOut}
+use Rattle.file_images.specs.save_laws.Saves.{KeepsSave}
 use Rattle.file_images.specs.Files.{HasSide, HasSave, form_of}
 use Rattle.file_images.proofs.Sides.{saves_follow, sides_follow}
-use Rattle.vms_model.specs.Keys.{Key}
-use Rattle.tree_model.specs.Layouts.{Layout}
+use Rattle.records_model.specs.vms_model.Keys.{Key}
+use Rattle.file_images.specs.tree_model.Layouts.{Layout}
 use Rattle.records_model.specs.History.{History, current}
-use Rattle.run_model.specs.World as world
-use Rattle.run_model.specs.World.{Carried, File}
+use Rattle.file_images.specs.run_model.World as world
+use Rattle.file_images.specs.run_model.World.{Carried, File}
 use Rattle.directory_model.specs.Files.{IsCarried, IsHeadOf, IsFile, IsPlace, AreFiles, AgreesOnCarried, head_at, file_at, layout_of, organized_by}
 use Rattle.directory_model.specs.Laws.{SameBut}
 use Rattle.directory_model.proofs.Places.{file_mapped, within_list}

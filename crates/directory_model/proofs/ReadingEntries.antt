@@ -8,38 +8,38 @@ use Rattle.std.specs.FinMap.Entries.{below_all}
 use Rattle.std.proofs.lemmas.Bool.{cases_eq, cases_lt}
 use Rattle.std.proofs.lemmas.Bool.Decides.{nat_tests}
 use Rattle.std.proofs.lemmas.List.{length-map}
-use Rattle.file_base.specs.declared.head.FileHead.{FileHead}
-use Rattle.file_base.specs.declared.head.Organization.{Organization as Kept}
-use Rattle.file_base.specs.declared.head.Organization.TheVariants as kept
-use Rattle.bucket_page.specs.declared.kind.PageKind.{PageKind}
-use Rattle.bucket_page.specs.declared.kind.PageKind.TheVariants.{Seq}
-use Rattle.bucket_page.specs.Pages.{slots_of, joined, front_size, tells_well, suits, all_suit, IsBucket}
-use Rattle.change_set.specs.Maps.{Map, key_before}
-use Rattle.change_set.proofs.NumberKeys.{other_test, number_below}
-use Rattle.vms_model.specs.Keys.{Key, Number, Text, End}
+use Rattle.extents.specs.file_base.declared.head.FileHead.{FileHead}
+use Rattle.extents.specs.file_base.declared.head.Organization.{Organization as Kept}
+use Rattle.extents.specs.file_base.declared.head.Organization.TheVariants as kept
+use Rattle.file_images.specs.bucket_page.declared.kind.PageKind.{PageKind}
+use Rattle.file_images.specs.bucket_page.declared.kind.PageKind.TheVariants.{Seq}
+use Rattle.file_images.specs.bucket_page.Pages.{slots_of, joined, front_size, tells_well, suits, all_suit, IsBucket}
+use Rattle.file_images.specs.change_set.Maps.{Map, key_before}
+use Rattle.file_images.proofs.change_set.NumberKeys.{other_test, number_below}
+use Rattle.records_model.specs.vms_model.Keys.{Key, Number, Text, End}
 use Rattle.records_model.specs.Records.{Records, key_cmp}
 use Rattle.records_model.specs.Slots.{Slot, same_bytes, slot_at, value_in, lookup, AllBehind, IsOrdered}
 use Rattle.records_model.specs.History.{current}
 use Rattle.records_model.proofs.KeyLemmas.{key_cmp_total}
 use Rattle.records_model.proofs.SlotLaws.{same_bytes_are, before_not_same}
-use Rattle.run_model.specs.World.{File}
-use Rattle.run_model.specs.Operations.{in_order}
-use Rattle.record_files.specs.Any as any
-use Rattle.record_files.specs.Any.{map_of, map_by, FormBy, LaidOutBy, IsLaidOut}
-use Rattle.seq_file.specs.Layout as sequential
-use Rattle.seq_file.specs.Layout.{records_in, slots_at, record_of}
-use Rattle.seq_file.specs.Placing.{slots_along}
-use Rattle.tree_model.specs.Layouts.{slots_along as slots_of_leaves}
-use Rattle.index_model.specs.Indexes.{Entry}
-use Rattle.index_model.specs.Trees.{child_of, leaf_at}
-use Rattle.index_blocks.specs.Buckets.{bucket_at}
-use Rattle.index_blocks.specs.Levels.{AllAre, leaf_entries}
-use Rattle.indexed_file.specs.Chain.{slots_in, slot_of, kind_of, IsLeaf}
-use Rattle.indexed_tree.specs.Files as indexed
-use Rattle.indexed_tree.specs.Maps.{all_slots}
-use Rattle.indexed_tree.specs.Rooted.{IsRooted}
-use Rattle.relative_file.specs.Cells as relative
-use Rattle.relative_file.specs.Cells.{has_cell, record_in, cell_at}
+use Rattle.file_images.specs.run_model.World.{File}
+use Rattle.file_images.specs.run_model.Operations.{in_order}
+use Rattle.file_images.specs.record_files.Any as any
+use Rattle.file_images.specs.record_files.Any.{map_of, map_by, FormBy, LaidOutBy, IsLaidOut}
+use Rattle.file_images.specs.seq_file.Layout as sequential
+use Rattle.file_images.specs.seq_file.Layout.{records_in, slots_at, record_of}
+use Rattle.file_images.specs.seq_file.Placing.{slots_along}
+use Rattle.file_images.specs.tree_model.Layouts.{slots_along as slots_of_leaves}
+use Rattle.file_images.specs.index_model.Indexes.{Entry}
+use Rattle.file_images.specs.index_model.Trees.{child_of, leaf_at}
+use Rattle.file_images.specs.index_blocks.Buckets.{bucket_at}
+use Rattle.file_images.specs.index_blocks.Levels.{AllAre, leaf_entries}
+use Rattle.file_images.specs.indexed_file.Chain.{slots_in, slot_of, kind_of, IsLeaf}
+use Rattle.file_images.specs.indexed_tree.Files as indexed
+use Rattle.file_images.specs.indexed_tree.Maps.{all_slots}
+use Rattle.file_images.specs.indexed_tree.Rooted.{IsRooted}
+use Rattle.file_images.specs.relative_file.Cells as relative
+use Rattle.file_images.specs.relative_file.Cells.{has_cell, record_in, cell_at}
 use Rattle.directory_model.specs.Files.{IsFile}
 use Rattle.directory_model.proofs.ReadingLists.{Entries, listed, numbered, length-numbered, sorted_numbered, find_numbered, as_test, both_tests}
 

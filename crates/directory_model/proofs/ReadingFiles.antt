@@ -6,25 +6,25 @@ use Rattle.std.proofs.lemmas.Bool.{cases_lt}
 use Rattle.std.specs.Prelude.{◌==◌}
 use Rattle.std.proofs.lemmas.Bool.Decides.{nat_tests}
 use Rattle.std.proofs.Common.{length-drop}
-use Rattle.seq_file.proofs.RecordLaws.{record_at_past}
-use Rattle.file_base.specs.declared.head.FileHead.{FileHead}
-use Rattle.file_base.specs.declared.head.Organization.{Organization as Kept}
-use Rattle.file_base.specs.declared.head.Organization.TheVariants as kept
-use Rattle.change_set.specs.Maps.{Map, same_key, Found, applied}
-use Rattle.change_set.proofs.NumberKeys.{same_test, other_test}
-use Rattle.vms_model.specs.Keys.{Key, Number, Text, End}
+use Rattle.file_images.proofs.seq_file.RecordLaws.{record_at_past}
+use Rattle.extents.specs.file_base.declared.head.FileHead.{FileHead}
+use Rattle.extents.specs.file_base.declared.head.Organization.{Organization as Kept}
+use Rattle.extents.specs.file_base.declared.head.Organization.TheVariants as kept
+use Rattle.file_images.specs.change_set.Maps.{Map, same_key, Found, applied}
+use Rattle.file_images.proofs.change_set.NumberKeys.{same_test, other_test}
+use Rattle.records_model.specs.vms_model.Keys.{Key, Number, Text, End}
 use Rattle.records_model.specs.Records.{Change}
 use Rattle.records_model.specs.Placing.{Filled, filled_by, first_bucket}
-use Rattle.tree_model.specs.Layouts.{used_of, levels_of}
+use Rattle.file_images.specs.tree_model.Layouts.{used_of, levels_of}
 use Rattle.records_model.specs.History.{current}
-use Rattle.run_model.specs.World.{File}
-use Rattle.run_model.specs.Operations.{count_of, in_order, used, used_by, placed, need_of, put_need, update_need, removed}
-use Rattle.script_model.specs.Statements.{Put, Update}
-use Rattle.record_files.specs.Any.{map_of, map_by, FormBy, LaidOutBy, layout_by, asks, asks_by}
-use Rattle.seq_file.specs.Layout.{records_in, capacity, last_bytes}
-use Rattle.seq_file.specs.Records.{record_at, map_of_list, cut_from, slot_sizes}
-use Rattle.indexed_tree.specs.Rooted.{layout_in}
-use Rattle.indexed_tree.proofs.RootLaws.{layout_tells}
+use Rattle.file_images.specs.run_model.World.{File}
+use Rattle.file_images.specs.run_model.Operations.{count_of, in_order, used, used_by, placed, need_of, put_need, update_need, removed}
+use Rattle.file_images.specs.script_model.Statements.{Put, Update}
+use Rattle.file_images.specs.record_files.Any.{map_of, map_by, FormBy, LaidOutBy, layout_by, asks, asks_by}
+use Rattle.file_images.specs.seq_file.Layout.{records_in, capacity, last_bytes}
+use Rattle.file_images.specs.seq_file.Records.{record_at, map_of_list, cut_from, slot_sizes}
+use Rattle.file_images.specs.indexed_tree.Rooted.{layout_in}
+use Rattle.file_images.proofs.indexed_tree.RootLaws.{layout_tells}
 use Rattle.directory_model.specs.Files.{IsFile, organized_by}
 use Rattle.directory_model.proofs.ReadingLists.{Entries, listed, numbered, length-numbered, sorted_numbered, find_numbered, drop_numbered}
 use Rattle.directory_model.proofs.ReadingPlaces.{placed_are}

@@ -4,12 +4,12 @@ use Rattle.std.specs.Prelude.{◌&&◌}
 use Rattle.std.specs.List.{slice_get}
 use Rattle.std.specs.FinMap.{entries, entries_sorted, get, get-entries, find, is_sorted}
 use Rattle.std.specs.FinMap.Entries.{below_all, same_entries}
-use Rattle.change_set.proofs.NumberKeys.{same_test, other_test, number_below}
-use Rattle.change_set.specs.Maps.{Map, key_before}
-use Rattle.vms_model.specs.Keys.{Key, Number, Text, End}
+use Rattle.file_images.proofs.change_set.NumberKeys.{same_test, other_test, number_below}
+use Rattle.file_images.specs.change_set.Maps.{Map, key_before}
+use Rattle.records_model.specs.vms_model.Keys.{Key, Number, Text, End}
 use Rattle.records_model.specs.Records.{Records, key_cmp}
 use Rattle.records_model.proofs.KeyLemmas.{key_cmp_total, key_cmp-IsAntisymmetric}
-use Rattle.seq_file.specs.Records.{map_of_list}
+use Rattle.file_images.specs.seq_file.Records.{map_of_list}
 
 abbrev pub Entries : Type 0
 Entries = List (Key × List ℕ)

@@ -7,15 +7,15 @@ use Rattle.std.specs.declared.cmp.Ordering.{Ordering}
 use Rattle.std.specs.declared.cmp.Ordering.TheVariants.{Less, Equal, Greater}
 use Rattle.std.specs.FinMap.{entries_sorted, get-entries, find, is_sorted}
 use Rattle.std.specs.FinMap.Entries.{below_all}
-use Rattle.file_base.specs.declared.head.FileHead.{FileHead}
-use Rattle.change_set.specs.Maps.{Map, IsNext, EndsAfter, is_after, key_before}
-use Rattle.vms_model.specs.Keys.{Key}
+use Rattle.extents.specs.file_base.declared.head.FileHead.{FileHead}
+use Rattle.file_images.specs.change_set.Maps.{Map, IsNext, EndsAfter, is_after, key_before}
+use Rattle.records_model.specs.vms_model.Keys.{Key}
 use Rattle.records_model.specs.Records.{key_cmp}
 use Rattle.records_model.specs.History.{current}
 use Rattle.records_model.proofs.KeyLemmas.{key_cmp_total, key_cmp-IsAntisymmetric}
-use Rattle.run_model.specs.World.{File}
-use Rattle.run_model.specs.Operations.{first_behind, in_order, is_behind}
-use Rattle.record_files.specs.Any.{map_of}
+use Rattle.file_images.specs.run_model.World.{File}
+use Rattle.file_images.specs.run_model.Operations.{first_behind, in_order, is_behind}
+use Rattle.file_images.specs.record_files.Any.{map_of}
 use Rattle.directory_model.specs.Files.{IsFile}
 use Rattle.directory_model.proofs.ReadingLists.{Entries, as_test}
 

@@ -4,13 +4,13 @@ use Rattle.std.specs.List.{All}
 use Rattle.std.proofs.lemmas.Bool.Decides.{nat_tests}
 use Rattle.std.proofs.lemmas.List.{map-append}
 use Rattle.std.proofs.lemmas.List.Elements.{All-head, All-tail}
-use Rattle.file_base.specs.declared.head.FileHead.{FileHead}
-use Rattle.bucket_page.specs.Pages.{joined}
+use Rattle.extents.specs.file_base.declared.head.FileHead.{FileHead}
+use Rattle.file_images.specs.bucket_page.Pages.{joined}
 use Rattle.records_model.specs.Placing.{Filled, filled_more, filled_by, first_bucket}
-use Rattle.seq_file.specs.Placing.{slots_along, BeginsAnew, IsFilled, buckets_for}
-use Rattle.seq_file.specs.Records.{slot_sizes}
-use Rattle.seq_file.specs.Layout.{slots_at, record_of, records_in, capacity, last_bytes, IsRecord, IsLaidOut, AskedIsPlaced, AppendTakes}
-use Rattle.seq_file.proofs.FileLaws.{filled_of}
+use Rattle.file_images.specs.seq_file.Placing.{slots_along, BeginsAnew, IsFilled, buckets_for}
+use Rattle.file_images.specs.seq_file.Records.{slot_sizes}
+use Rattle.file_images.specs.seq_file.Layout.{slots_at, record_of, records_in, capacity, last_bytes, IsRecord, IsLaidOut, AskedIsPlaced, AppendTakes}
+use Rattle.file_images.proofs.seq_file.FileLaws.{filled_of}
 
 abbrev Slots : Type 0
 Slots = List (List ℕ)

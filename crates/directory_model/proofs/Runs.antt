@@ -1,12 +1,12 @@
 -- Runs of free blocks, as the world finds them, are those between a volume's extents.
 use Rattle.std.proofs.Common.{◌≡◌, ℕ, zero, suc, ◌+◌, ◌-◌, ◌<◌, ◌≤◌, List, Bool, true, false, Option, Some, None, nat_le, if◌then◌else◌, refl, sym, ap, subst, ◌∙◌, arith, inl, inr}
 use Rattle.std.proofs.lemmas.Bool.{leb-true, leb-false, cases_lt, cases_eq}
-use Rattle.file_base.specs.declared.head.FileHead.{FileHead}
+use Rattle.extents.specs.file_base.declared.head.FileHead.{FileHead}
 use Rattle.extents.specs.Extents.{IsFreeRun, all_extents, is_used, is_free}
 use Rattle.extents.proofs.Used.{covered, covering, free_is, is_free_block}
-use Rattle.run_model.specs.Extents.{Extent, is_taken, run_from, longest_run, lowest_run}
+use Rattle.file_images.specs.run_model.Extents.{Extent, is_taken, run_from, longest_run, lowest_run}
 use Rattle.extents.specs.declared.extent.Extent.{Extent as Area}
-use Rattle.run_model.specs.World.{Node, area_start, extents_of, longest_free, lowest_free}
+use Rattle.file_images.specs.run_model.World.{Node, area_start, extents_of, longest_free, lowest_free}
 use Rattle.directory_model.specs.Files.{AreFiles}
 use Rattle.directory_model.specs.Laws.{FindsRuns, area_of}
 use Rattle.directory_model.proofs.Blocks.{takes_blocks}

@@ -8,8 +8,8 @@ use Rattle.std.specs.declared.cmp.Ordering.TheVariants.{Less, Equal, Greater}
 use Rattle.std.specs.FinMap.{entries, entries_sorted, get, get-entries, find, is_sorted}
 use Rattle.std.specs.FinMap.Entries.{below_all}
 use Rattle.std.proofs.lemmas.List.{take_all}
-use Rattle.change_set.specs.Maps.{Map, IsNext, EndsAfter, is_after, key_before}
-use Rattle.vms_model.specs.Keys.{Key}
+use Rattle.file_images.specs.change_set.Maps.{Map, IsNext, EndsAfter, is_after, key_before}
+use Rattle.records_model.specs.vms_model.Keys.{Key}
 use Rattle.records_model.specs.Records.{Records, key_cmp}
 use Rattle.records_model.proofs.KeyLemmas.{key_cmp_total, key_cmp-IsAntisymmetric}
 use Rattle.directory_model.specs.Files.{IsShown, last_key}

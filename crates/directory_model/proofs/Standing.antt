@@ -1,13 +1,13 @@
 -- Files rest on their extents.
 use Rattle.std.proofs.Common.{◌≡◌, ℕ, List, Option, Some, None, refl, ap, ◌∙◌}
-use Rattle.file_base.specs.declared.head.FileHead.{FileHead}
-use Rattle.change_set.specs.Files.{AgreesOn}
-use Rattle.change_set.specs.Maps.{Map}
-use Rattle.record_files.specs.Local.{local_law, valid_local_law, layout_local_law}
-use Rattle.save_laws.specs.Saves.{KeepsSave}
+use Rattle.extents.specs.file_base.declared.head.FileHead.{FileHead}
+use Rattle.file_images.specs.change_set.Files.{AgreesOn}
+use Rattle.file_images.specs.change_set.Maps.{Map}
+use Rattle.file_images.specs.record_files.Local.{local_law, valid_local_law, layout_local_law}
+use Rattle.file_images.specs.save_laws.Saves.{KeepsSave}
 use Rattle.file_images.specs.Files.{form_of}
 use Rattle.file_images.proofs.Sides.{saves_follow, sides_follow}
-use Rattle.run_model.specs.World.{Carried, File}
+use Rattle.file_images.specs.run_model.World.{Carried, File}
 use Rattle.directory_model.specs.Files.{IsCarried, IsFile, IsPlace, AgreesOnCarried, AgreesOnFile, head_at, file_at}
 use Rattle.directory_model.specs.Laws.{StandsOnExtents}
 

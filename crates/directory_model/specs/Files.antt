@@ -2,27 +2,27 @@
 use Rattle.std.specs.Prelude.{◌≡◌, ℕ, ◌+◌, ◌<◌, ◌≤◌, ◌*◌, List, [], ◌∷◌, true, false, Option, Some, None, length, slice_set, slice_index_or, take}
 use Rattle.std.specs.FinMap.{get, entries}
 use Rattle.block_disk.specs.Sizes.{content_start}
-use Rattle.vms_model.specs.Limits.{file_limit, key_limit}
-use Rattle.file_base.specs.declared.head.FileHead.{FileHead}
-use Rattle.file_base.specs.declared.head.Organization.{Organization as Kept}
-use Rattle.file_base.specs.declared.head.Organization.TheVariants as kept
+use Rattle.records_model.specs.vms_model.Limits.{file_limit, key_limit}
+use Rattle.extents.specs.file_base.declared.head.FileHead.{FileHead}
+use Rattle.extents.specs.file_base.declared.head.Organization.{Organization as Kept}
+use Rattle.extents.specs.file_base.declared.head.Organization.TheVariants as kept
 use Rattle.extents.specs.declared.extent.Extent.{Extent as Area}
 use Rattle.extents.specs.Extents.{FitsAt, all_extents}
-use Rattle.script_model.specs.Statements.{Form}
-use Rattle.script_model.specs.Statements as form
-use Rattle.run_model.specs.Answers.{buckets_for}
-use Rattle.careful_write.specs.State.{EachWhole}
-use Rattle.change_set.specs.Files.{AgreesOn}
+use Rattle.file_images.specs.script_model.Statements.{Form}
+use Rattle.file_images.specs.script_model.Statements as form
+use Rattle.file_images.specs.run_model.Answers.{buckets_for}
+use Rattle.file_images.specs.careful_write.State.{EachWhole}
+use Rattle.file_images.specs.change_set.Files.{AgreesOn}
 use Rattle.file_images.specs.Files.{HasSide, HasSave, SameRing, form_of}
-use Rattle.save_laws.specs.Saves.{save_head}
-use Rattle.record_files.specs.Any as any
-use Rattle.record_files.specs.Any.{map_of, IsLaidOut}
-use Rattle.vms_model.specs.Keys.{Key}
+use Rattle.file_images.specs.save_laws.Saves.{save_head}
+use Rattle.file_images.specs.record_files.Any as any
+use Rattle.file_images.specs.record_files.Any.{map_of, IsLaidOut}
+use Rattle.records_model.specs.vms_model.Keys.{Key}
 use Rattle.records_model.specs.Records.{Records}
-use Rattle.tree_model.specs.Layouts.{Layout}
+use Rattle.file_images.specs.tree_model.Layouts.{Layout}
 use Rattle.records_model.specs.History.{current}
-use Rattle.run_model.specs.World as world
-use Rattle.run_model.specs.World.{File, Organization, Carried, find_file, with_file}
+use Rattle.file_images.specs.run_model.World as world
+use Rattle.file_images.specs.run_model.World.{File, Organization, Carried, find_file, with_file}
 
 -- Files of a volume and files of the world.
 

@@ -5,43 +5,43 @@ use Rattle.std.specs.List.{AllByRecursion}
 use Rattle.std.specs.FinMap.{entries, get}
 use Rattle.block_disk.specs.Blocks.{block_at}
 use Rattle.block_disk.specs.Sizes.{content_start, greatest_disk_size}
-use Rattle.vms_model.specs.Limits.{file_limit}
-use Rattle.careful_write.specs.State.{EachWhole}
-use Rattle.careful_write.specs.Steps.{AgreesOff}
-use Rattle.file_base.specs.declared.head.FileHead.{FileHead}
-use Rattle.file_base.specs.declared.head.Organization.TheVariants.{Sequential, Indexed}
-use Rattle.file_base.specs.declared.head.Save.{Save}
-use Rattle.file_base.specs.declared.head.Span.{Span}
-use Rattle.vms_base.specs.declared.times.Moment.{Moment}
+use Rattle.records_model.specs.vms_model.Limits.{file_limit}
+use Rattle.file_images.specs.careful_write.State.{EachWhole}
+use Rattle.file_images.specs.careful_write.Steps.{AgreesOff}
+use Rattle.extents.specs.file_base.declared.head.FileHead.{FileHead}
+use Rattle.extents.specs.file_base.declared.head.Organization.TheVariants.{Sequential, Indexed}
+use Rattle.extents.specs.file_base.declared.head.Save.{Save}
+use Rattle.extents.specs.file_base.declared.head.Span.{Span}
+use Rattle.extents.specs.vms_base.declared.times.Moment.{Moment}
 use Rattle.file_images.specs.Files.{SameRing, form_of}
 use Rattle.file_images.specs.Images.{IsOf, IsSuited, entry_by}
-use Rattle.journal_model.specs.Entries.{IsEntry, spelling}
-use Rattle.journal_model.specs.Ring.{HasRing, put_stream, ring_size}
-use Rattle.recovery_model.specs.Journal.{Entry, entry_length}
-use Rattle.recovery_model.specs.File.{append, next_span}
-use Rattle.save_laws.specs.Saves.{IsOfNow, StandAt, save_head}
-use Rattle.change_set.specs.Files.{AgreesOn, SameFile, in_extent}
-use Rattle.change_set.specs.Maps.{Map, IsNext, EndsAfter, Found, applied, empty_map}
+use Rattle.file_images.specs.journal_model.Entries.{IsEntry, spelling}
+use Rattle.file_images.specs.journal_model.Ring.{HasRing, put_stream, ring_size}
+use Rattle.file_images.specs.recovery_model.Journal.{Entry, entry_length}
+use Rattle.file_images.specs.recovery_model.File.{append, next_span}
+use Rattle.file_images.specs.save_laws.Saves.{IsOfNow, StandAt, save_head}
+use Rattle.file_images.specs.change_set.Files.{AgreesOn, SameFile, in_extent}
+use Rattle.file_images.specs.change_set.Maps.{Map, IsNext, EndsAfter, Found, applied, empty_map}
 use Rattle.extents.specs.declared.extent.Extent.{Extent as Area}
 use Rattle.extents.specs.Extents.{IsFreeRun, all_extents, covers, extents_of, is_free as is_free_block, is_used}
-use Rattle.record_files.specs.Any as any
-use Rattle.record_files.specs.Any.{map_of, layout_of as laid, first_layout_of as laid_first, IsLaidOut, IsNew, asks}
-use Rattle.seq_file.specs.Layout.{records_in}
-use Rattle.seq_file.specs.Records.{cut_from}
-use Rattle.script_model.specs.Statements.{Form, Put, Update, Side, AfterImages, BeforeImages}
-use Rattle.vms_model.specs.Ids.{Id}
-use Rattle.vms_model.specs.Keys.{Key, Number}
-use Rattle.vms_model.specs.Transactions.{Commit, Abort}
+use Rattle.file_images.specs.record_files.Any as any
+use Rattle.file_images.specs.record_files.Any.{map_of, layout_of as laid, first_layout_of as laid_first, IsLaidOut, IsNew, asks}
+use Rattle.file_images.specs.seq_file.Layout.{records_in}
+use Rattle.file_images.specs.seq_file.Records.{cut_from}
+use Rattle.file_images.specs.script_model.Statements.{Form, Put, Update, Side, AfterImages, BeforeImages}
+use Rattle.records_model.specs.vms_model.Ids.{Id}
+use Rattle.records_model.specs.vms_model.Keys.{Key, Number}
+use Rattle.records_model.specs.vms_model.Transactions.{Commit, Abort}
 use Rattle.records_model.specs.Records.{Records, Change}
-use Rattle.tree_model.specs.Setting.{layout_changed}
-use Rattle.change_set.specs.Files.{sizes_of}
-use Rattle.unit_laws.specs.Units.{is_free}
-use Rattle.commit_protocol.specs.Table as table
-use Rattle.run_model.specs.Answers.{blocks_for, created}
-use Rattle.run_model.specs.Operations.{count_of, first_behind, in_order, need_of, removed, used}
-use Rattle.run_model.specs.Extents.{is_taken}
-use Rattle.run_model.specs.Locks.{is_locked}
-use Rattle.run_model.specs.World.{Node, Carried, File, Settlement, AreUnitsOf, Formats, Boots, Creates, Marks, ForUnits, BeginsImages, EndsImages, Saves, Draws, Tables, Changes, Holds, Directs, acted, area_start, changed_file, directly_changed, extents_of as files_extents, nothing_carried, settled_file, find_file, free_place, longest_free, lowest_free, settlement_of}
+use Rattle.file_images.specs.tree_model.Setting.{layout_changed}
+use Rattle.file_images.specs.change_set.Files.{sizes_of}
+use Rattle.file_images.specs.unit_laws.Units.{is_free}
+use Rattle.file_images.specs.commit_protocol.Table as table
+use Rattle.file_images.specs.run_model.Answers.{blocks_for, created}
+use Rattle.file_images.specs.run_model.Operations.{count_of, first_behind, in_order, need_of, removed, used}
+use Rattle.file_images.specs.run_model.Extents.{is_taken}
+use Rattle.file_images.specs.run_model.Locks.{is_locked}
+use Rattle.file_images.specs.run_model.World.{Node, Carried, File, Settlement, AreUnitsOf, Formats, Boots, Creates, Marks, ForUnits, BeginsImages, EndsImages, Saves, Draws, Tables, Changes, Holds, Directs, acted, area_start, changed_file, directly_changed, extents_of as files_extents, nothing_carried, settled_file, find_file, free_place, longest_free, lowest_free, settlement_of}
 use Rattle.directory_model.specs.Files.{AreFiles, IsCarried, IsFile, AgreesOnCarried, AgreesOnFile, NoneNamed, IsNamed, IsFoundAt, AreNamedOnce, IsNewHead, Fit, file_at, head_at, layout_of, IsShown}
 use Rattle.directory_model.specs.Restoring.{AreRestored}
 

@@ -2,28 +2,28 @@
 use Rattle.std.specs.Prelude.{◌≡◌, ℕ, ◌≤◌, List, Option, Some, None, length, map}
 use Rattle.std.specs.List.{AllByRecursion}
 use Rattle.std.specs.FinMap.{get}
-use Rattle.vms_model.specs.Limits.{file_limit}
-use Rattle.file_base.specs.declared.head.FileHead.{FileHead}
-use Rattle.file_base.specs.declared.head.Organization.{Organization as Kept}
-use Rattle.file_base.specs.declared.head.Organization.TheVariants as kept
-use Rattle.record_files.specs.Any as any
-use Rattle.record_files.specs.Any.{map_of, IsLaidOut}
-use Rattle.seq_file.specs.Layout.{records_in}
-use Rattle.sequence_laws.specs.Undoing.{GoesBack}
-use Rattle.indexed_file.specs.Chain as slots
-use Rattle.indexed_tree.specs.Files as indexed
-use Rattle.relative_file.specs.Cells as relative
-use Rattle.change_set.specs.Files.{SameFile}
-use Rattle.vms_model.specs.Ids.{Id}
-use Rattle.vms_model.specs.Keys.{Text}
+use Rattle.records_model.specs.vms_model.Limits.{file_limit}
+use Rattle.extents.specs.file_base.declared.head.FileHead.{FileHead}
+use Rattle.extents.specs.file_base.declared.head.Organization.{Organization as Kept}
+use Rattle.extents.specs.file_base.declared.head.Organization.TheVariants as kept
+use Rattle.file_images.specs.record_files.Any as any
+use Rattle.file_images.specs.record_files.Any.{map_of, IsLaidOut}
+use Rattle.file_images.specs.seq_file.Layout.{records_in}
+use Rattle.file_images.specs.sequence_laws.Undoing.{GoesBack}
+use Rattle.file_images.specs.indexed_file.Chain as slots
+use Rattle.file_images.specs.indexed_tree.Files as indexed
+use Rattle.file_images.specs.relative_file.Cells as relative
+use Rattle.file_images.specs.change_set.Files.{SameFile}
+use Rattle.records_model.specs.vms_model.Ids.{Id}
+use Rattle.records_model.specs.vms_model.Keys.{Text}
 use Rattle.records_model.specs.Records.{Change}
 use Rattle.records_model.specs.Slots.{Slot, size_of, lookup, IsOrdered}
-use Rattle.tree_model.specs.Layouts.{Leaf, Layout, no_layout, slots_along}
+use Rattle.file_images.specs.tree_model.Layouts.{Leaf, Layout, no_layout, slots_along}
 use Rattle.records_model.specs.History.{LiveChanges, records, current, changes_by}
-use Rattle.unit_laws.specs.Units.{map_in, earliest_before, with_before_images, HasLatest, Represents, IsUndoGroup}
-use Rattle.unit_laws.specs.Journal.{Journal}
-use Rattle.unit_laws.specs.Layouts.{layout_restored}
-use Rattle.run_model.specs.World.{File, IsPreparedUnit}
+use Rattle.file_images.specs.unit_laws.Units.{map_in, earliest_before, with_before_images, HasLatest, Represents, IsUndoGroup}
+use Rattle.file_images.specs.unit_laws.Journal.{Journal}
+use Rattle.file_images.specs.unit_laws.Layouts.{layout_restored}
+use Rattle.file_images.specs.run_model.World.{File, IsPreparedUnit}
 use Rattle.directory_model.specs.Files.{IsCarried, IsHeadOf, AgreesOnCarried, head_at, file_at, layout_of}
 
 -- a slot but for its record

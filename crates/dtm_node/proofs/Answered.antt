@@ -2,18 +2,18 @@
 use Rattle.std.specs.Prelude.{◌||◌}
 use Rattle.std.proofs.Common.{◌≡◌, ℕ, List, [], ◌∷◌, ◌++◌, Bool, true, false, Option, Some, None, inl, inr, refl, sym, ◌∙◌, subst}
 use Rattle.std.specs.List.{AllByRecursion}
-use Rattle.commit_protocol.specs.World.{In}
-use Rattle.commit_protocol.proofs.Lists.{in_parts}
-use Rattle.transcript_model.specs.Lines as line
-use Rattle.transcript_model.specs.Lines.{Cause, Line}
-use Rattle.script_model.specs.Statements.{Boot, Crash}
-use Rattle.run_said.specs.Said.{is_of_lines}
-use Rattle.run_model.specs.Answers.{Restarts, Serves, Task, task_service}
+use Rattle.emitter_model.specs.commit_protocol.World.{In}
+use Rattle.emitter_model.proofs.commit_protocol.Lists.{in_parts}
+use Rattle.emitter_model.specs.transcript_model.Lines as line
+use Rattle.emitter_model.specs.transcript_model.Lines.{Cause, Line}
+use Rattle.script_lang.specs.script_model.Statements.{Boot, Crash}
+use Rattle.said_steps.specs.run_said.Said.{is_of_lines}
+use Rattle.world_laws.specs.run_model.Answers.{Restarts, Serves, Task, task_service}
 use Rattle.said_steps.specs.Answers.{ends_boot, is_broken, is_served, may_answer}
 use Rattle.said_steps.specs.Answers.{IsSteady}
 use Rattle.said_steps.proofs.Falls.{falls_last, falls_none, named_first}
-use Rattle.node_table.specs.Telling.{IsOfWork}
-use Rattle.node_standing.specs.Telling.{AnswersTask, may_answer_task}
+use Rattle.node_requests.specs.node_table.Telling.{IsOfWork}
+use Rattle.node_requests.specs.node_standing.Telling.{AnswersTask, may_answer_task}
 use Rattle.node_requests.proofs.SaysLemmas.{calm_not_down}
 
 pub calm_not_crashed : (ls : List Line) (name : List ℕ) → AllByRecursion IsOfWork ls → In (line.Crashed name) ls → ⊥

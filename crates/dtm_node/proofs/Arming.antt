@@ -5,20 +5,20 @@ use Rattle.block_disk.specs.Disk.{DiskState, armed, noted}
 use Rattle.block_disk.specs.declared.disk.DiskCall.TheVariants as disk_call
 use Rattle.recovery_units.specs.Uses.{IsCounted}
 use Rattle.emitter_model.specs.Emitting.{Emits, Shown}
-use Rattle.transcript_model.specs.Lines as line
-use Rattle.script_model.specs.Statements.{Fuse}
-use Rattle.run_model.specs.Operations.{first_of, refused_if}
-use Rattle.run_model.specs.World.{Arm, Arms, Node, acted}
-use Rattle.run_model.specs.Answers.{Serves, service}
+use Rattle.emitter_model.specs.transcript_model.Lines as line
+use Rattle.script_lang.specs.script_model.Statements.{Fuse}
+use Rattle.world_laws.specs.run_model.Operations.{first_of, refused_if}
+use Rattle.world_laws.specs.run_model.World.{Arm, Arms, Node, acted}
+use Rattle.world_laws.specs.run_model.Answers.{Serves, service}
 use Rattle.recovery_units.specs.Laws.{KeepsNodes}
 use Rattle.recovery_units.specs.State.{IsKept, UnitsState}
 use Rattle.run_shared.specs.Sharing.{SharedState}
 use Rattle.volume.specs.State.{VolumeState}
-use Rattle.node_table.specs.Standing.{IsUp, Up}
-use Rattle.node_standing.specs.Keeping.{PerformsRequest}
-use Rattle.node_standing.specs.Standing.{IsDown, IsRunning, NodeState, Place, PlaceRepresents, counts_of, disk_in, is_up}
+use Rattle.node_requests.specs.node_table.Standing.{IsUp, Up}
+use Rattle.node_requests.specs.node_standing.Keeping.{PerformsRequest}
+use Rattle.node_requests.specs.node_standing.Standing.{IsDown, IsRunning, NodeState, Place, PlaceRepresents, counts_of, disk_in, is_up}
 use Rattle.dtm_node.specs.Nodes.{place_armed}
-use Rattle.node_standing.specs.Telling.{DiskAdvancesOverCalls, TellsTask, said_shared}
+use Rattle.node_requests.specs.node_standing.Telling.{DiskAdvancesOverCalls, TellsTask, said_shared}
 use Rattle.dtm_node.proofs.Answered.{calm_answers}
 use Rattle.dtm_node.proofs.DiskLemmas.{disk_kept}
 use Rattle.dtm_node.proofs.Held.{holds_same}

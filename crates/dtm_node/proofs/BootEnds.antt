@@ -4,32 +4,32 @@ use Rattle.std.specs.Prelude.{◌||◌, ◌&&◌}
 use Rattle.std.specs.List.{AllByRecursion}
 use Rattle.block_disk.specs.Disk.{CallLog, DiskState, noted}
 use Rattle.block_disk.specs.declared.disk.DiskCall.TheVariants as disk_call
-use Rattle.commit_protocol.specs.World.{In}
+use Rattle.emitter_model.specs.commit_protocol.World.{In}
 use Rattle.emitter_model.specs.Emitting.{Emits, Shown}
-use Rattle.transcript_model.specs.Lines as line
-use Rattle.transcript_model.specs.Lines.{Cause, Line}
-use Rattle.transcript_model.specs.Outside.{Rose}
-use Rattle.script_model.specs.Statements as said
-use Rattle.script_model.specs.Statements.{Boot}
-use Rattle.run_said.specs.Said.{Said, is_of_lines, line_said, lines_said, request_said, with_use}
+use Rattle.emitter_model.specs.transcript_model.Lines as line
+use Rattle.emitter_model.specs.transcript_model.Lines.{Cause, Line}
+use Rattle.emitter_model.specs.transcript_model.Outside.{Rose}
+use Rattle.script_lang.specs.script_model.Statements as said
+use Rattle.script_lang.specs.script_model.Statements.{Boot}
+use Rattle.said_steps.specs.run_said.Said.{Said, is_of_lines, line_said, lines_said, request_said, with_use}
 use Rattle.said_steps.specs.Answers.{ends_boot as ends_boot_by}
 use Rattle.said_steps.specs.Calls.{is_boot_refusal, shows_boot}
 use Rattle.said_steps.specs.Own.{IsOwn}
-use Rattle.run_model.specs.Answers.{Restarts, Serves, Task, refused_before_reading, task_service}
-use Rattle.run_model.specs.Operations.{first_of, refused_if}
-use Rattle.run_model.specs.Steps.{count_of}
-use Rattle.run_model.specs.World.{Node, Shared}
+use Rattle.world_laws.specs.run_model.Answers.{Restarts, Serves, Task, refused_before_reading, task_service}
+use Rattle.world_laws.specs.run_model.Operations.{first_of, refused_if}
+use Rattle.world_laws.specs.run_model.Steps.{count_of}
+use Rattle.world_laws.specs.run_model.World.{Node, Shared}
 use Rattle.world_laws.specs.Nodes.{IsKeptNode}
 use Rattle.recovery_units.specs.Uses.{IsCounted}
 use Rattle.run_shared.specs.Sharing.{IsShared, SharedState}
-use Rattle.node_table.specs.Telling.{IsOfWork, wire_after}
-use Rattle.commit_protocol.specs.Messages.{Message}
+use Rattle.node_requests.specs.node_table.Telling.{IsOfWork, wire_after}
+use Rattle.emitter_model.specs.commit_protocol.Messages.{Message}
 use Rattle.dtm_node.specs.Boots.{IsBootRefusal}
-use Rattle.node_standing.specs.Keeping.{IsPromised, Performs}
+use Rattle.node_requests.specs.node_standing.Keeping.{IsPromised, Performs}
 use Rattle.dtm_node.specs.Opening.{EndsBoot, EndsTask, boots_node, kept_down, used}
-use Rattle.node_standing.specs.Standing.{RepresentsNode, counts_of}
-use Rattle.node_standing.specs.Holding.{HoldsAs}
-use Rattle.node_standing.specs.Telling.{AnswersTask, DiskAdvancesOverCalls, TellsTask, may_answer_task, powered_task, said_alone, said_shared}
+use Rattle.node_requests.specs.node_standing.Standing.{RepresentsNode, counts_of}
+use Rattle.node_requests.specs.node_standing.Holding.{HoldsAs}
+use Rattle.node_requests.specs.node_standing.Telling.{AnswersTask, DiskAdvancesOverCalls, TellsTask, may_answer_task, powered_task, said_alone, said_shared}
 use Rattle.dtm_node.proofs.Answered.{boot_may, calm_answers, fell_answers, restart_may}
 use Rattle.dtm_node.proofs.BootSteps.{IsBoot, boot_is, in_use, restart_is}
 use Rattle.node_requests.proofs.SaysLemmas.{all_on, alone_down, down_behind, lines_calm, lines_on, own_calm, with_wire}

@@ -3,15 +3,15 @@ use Rattle.std.proofs.Common.{◌≡◌, ℕ, ◌+◌, ◌≤◌, List, [], ◌�
 use Rattle.block_disk.specs.Disk.{DiskState}
 use Rattle.careful_write.specs.declared.down.Down.{Down}
 use Rattle.emitter_model.specs.Emitting.{Emits, Shown}
-use Rattle.transcript_model.specs.Lines as line
-use Rattle.transcript_model.specs.Lines.{Cause, Line}
+use Rattle.emitter_model.specs.transcript_model.Lines as line
+use Rattle.emitter_model.specs.transcript_model.Lines.{Cause, Line}
 use Rattle.emitter_model.proofs.EmittingLemmas.{emits_on}
 use Rattle.volume.specs.State.{VolumeState}
 use Rattle.recovery_units.specs.State.{UnitsState}
 use Rattle.run_shared.specs.Sharing.{SharedState}
-use Rattle.node_table.specs.Code.{up_of}
-use Rattle.node_table.specs.Standing.{Up}
-use Rattle.node_table.specs.declared.running.Running.{Running}
+use Rattle.node_requests.specs.node_table.Code.{up_of}
+use Rattle.node_requests.specs.node_table.Standing.{Up}
+use Rattle.node_requests.specs.node_table.declared.running.Running.{Running}
 use Rattle.dtm_node.specs.declared.node.Node.{Node}
 use Rattle.dtm_node.specs.declared.node.Place as code
 use Rattle.dtm_node.specs.declared.node.Place.TheVariants as code_place
@@ -19,7 +19,7 @@ use Rattle.dtm_node.specs.Causes.{cause_of}
 use Rattle.dtm_node.specs.Nodes.{IsFallen, IsNode, IsPlaceOf, MayFall, last_lines_of, place_of, undone_line}
 use Rattle.dtm_node.specs.Opening.{Breaks, IsOpen, ReopensUp, Reopens}
 use Rattle.node_requests.specs.Running.{HasGrown}
-use Rattle.node_standing.specs.Standing.{IsDown, IsRunning, Place, is_up}
+use Rattle.node_requests.specs.node_standing.Standing.{IsDown, IsRunning, Place, is_up}
 use Rattle.dtm_node.proofs.NodeEvents.{fall_shown}
 
 module _ {D U : Type 0} (state : D → DiskState) (units : U → UnitsState) where

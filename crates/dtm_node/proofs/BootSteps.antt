@@ -1,13 +1,13 @@
 -- The ways of a boot, as a statement or in a settling, at a node whose disk is made to run again.
 use Rattle.std.proofs.Common.{◌≡◌, ℕ, ◌≤◌, List, [], ◌∷◌, ◌++◌, Bool, true, false, Some, None, length, take, drop, refl, ◌∙◌, ap, sym}
 use Rattle.std.specs.Prelude.{◌||◌, not}
-use Rattle.transcript_model.specs.Outside.{Rose}
-use Rattle.transcript_model.specs.Lines as line
-use Rattle.transcript_model.specs.Lines.{Line, Cause, Failed}
-use Rattle.script_model.specs.Statements.{Boot}
-use Rattle.run_model.specs.World.{ComesUp, DiskCounts, Lost, MayTurnOut, Node, Outturn, Shared, acted, fallen, powered, unpowered}
-use Rattle.run_model.specs.Answers.{Restarts, Row, Serves, Service, Task, boot_rows, bootable, occupies, powers, refused_before_reading, spoils, task_service, touches}
-use Rattle.run_model.specs.Steps.{Cut, NodeStep, Unpowered, Whole, WithoutMemory, act_begun, count_of, lines_of_rows, node_after_rows, occupied, ready_node, rows_if, shared_after_rows}
+use Rattle.emitter_model.specs.transcript_model.Outside.{Rose}
+use Rattle.emitter_model.specs.transcript_model.Lines as line
+use Rattle.emitter_model.specs.transcript_model.Lines.{Line, Cause, Failed}
+use Rattle.script_lang.specs.script_model.Statements.{Boot}
+use Rattle.world_laws.specs.run_model.World.{ComesUp, DiskCounts, Lost, MayTurnOut, Node, Outturn, Shared, acted, fallen, powered, unpowered}
+use Rattle.world_laws.specs.run_model.Answers.{Restarts, Row, Serves, Service, Task, boot_rows, bootable, occupies, powers, refused_before_reading, spoils, task_service, touches}
+use Rattle.world_laws.specs.run_model.Steps.{Cut, NodeStep, Unpowered, Whole, WithoutMemory, act_begun, count_of, lines_of_rows, node_after_rows, occupied, ready_node, rows_if, shared_after_rows}
 
 -- A task that boots a node.
 pub record IsBoot (t : Task) : Type 0 where

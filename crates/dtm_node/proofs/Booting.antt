@@ -3,26 +3,26 @@ use Rattle.std.proofs.Common.{◌≡◌, ◌⊎◌, inl, inr, ℕ, suc, List, []
 use Rattle.block_disk.specs.Disk.{DiskState, CallLog, noted}
 use Rattle.block_disk.specs.declared.disk.DiskCall.TheVariants as disk_call
 use Rattle.volume.specs.State.{VolumeState}
-use Rattle.transcript_model.specs.Outside.{Rose}
-use Rattle.transcript_model.specs.Lines as line
-use Rattle.transcript_model.specs.Lines.{Line, Cause, Failed}
+use Rattle.emitter_model.specs.transcript_model.Outside.{Rose}
+use Rattle.emitter_model.specs.transcript_model.Lines as line
+use Rattle.emitter_model.specs.transcript_model.Lines.{Line, Cause, Failed}
 use Rattle.emitter_model.specs.Emitting.{Shown, Emits}
 use Rattle.unit_laws.specs.Journal.{RecoveryUnit}
-use Rattle.run_model.specs.World.{Shared, Node, Act, Settlement, Power, Boots, ComesUp, acted, fallen, powered, unpowered}
-use Rattle.run_model.specs.Answers.{Row, Task, boot_rows, bootable, last_line, last_lines, left_active, refused_before_reading, task_service}
-use Rattle.run_model.specs.Steps.{NodeStep, act_begun, count_of, lines_of_rows, node_after_rows, rows_if, shared_after_rows}
-use Rattle.volume_model.specs.Volumes.{HasDisk}
+use Rattle.world_laws.specs.run_model.World.{Shared, Node, Act, Settlement, Power, Boots, ComesUp, acted, fallen, powered, unpowered}
+use Rattle.world_laws.specs.run_model.Answers.{Row, Task, boot_rows, bootable, last_line, last_lines, left_active, refused_before_reading, task_service}
+use Rattle.world_laws.specs.run_model.Steps.{NodeStep, act_begun, count_of, lines_of_rows, node_after_rows, rows_if, shared_after_rows}
+use Rattle.recovery_units.specs.volume_model.Volumes.{HasDisk}
 use Rattle.recovery_units.specs.Calls.{BreaksAfter, IsRestarting, after_undone, settlements_of, told_in, undone_next}
 use Rattle.recovery_units.specs.Told.{ReopenedTold}
 use Rattle.recovery_units.specs.declared.settled.SettledUnit.{SettledUnit}
 use Rattle.run_shared.specs.Sharing.{IsShared, SharedState}
-use Rattle.node_table.specs.Standing.{Up, UpRepresents}
+use Rattle.node_requests.specs.node_table.Standing.{Up, UpRepresents}
 use Rattle.dtm_node.specs.Boots.{IsAwake}
-use Rattle.node_standing.specs.Keeping.{Performs}
+use Rattle.node_requests.specs.node_standing.Keeping.{Performs}
 use Rattle.dtm_node.specs.Nodes.{last_lines_of, undone_line}
 use Rattle.dtm_node.specs.Opening.{Wakes, kept_down}
-use Rattle.node_standing.specs.Standing.{RepresentsNode, counts_of, disk_of, noted_all}
-use Rattle.node_standing.specs.Telling.{DiskAdvancesOverCalls}
+use Rattle.node_requests.specs.node_standing.Standing.{RepresentsNode, counts_of, disk_of, noted_all}
+use Rattle.node_requests.specs.node_standing.Telling.{DiskAdvancesOverCalls}
 use Rattle.dtm_node.proofs.BootSteps.{IsBoot, in_use, step_barred, step_fell, step_lacking, step_risen, step_unpowered}
 use Rattle.dtm_node.proofs.DiskLemmas.{disk_kept}
 use Rattle.dtm_node.proofs.Performing.{kept_fallen, kept_up}

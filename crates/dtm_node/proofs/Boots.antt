@@ -5,36 +5,36 @@ use Rattle.std.specs.List.{AllByRecursion}
 use Rattle.std.specs.Str.{bytes_eq}
 use Rattle.block_disk.specs.Disk.{CallLog, DiskState, noted}
 use Rattle.block_disk.specs.declared.disk.DiskCall.TheVariants as disk_call
-use Rattle.commit_protocol.specs.Messages.{Message}
-use Rattle.commit_protocol.specs.World.{In}
+use Rattle.emitter_model.specs.commit_protocol.Messages.{Message}
+use Rattle.emitter_model.specs.commit_protocol.World.{In}
 use Rattle.transcript.specs.Forms.{HasTime, line_of}
 use Rattle.transcript.specs.declared.form.Form.{Form}
 use Rattle.emitter_model.specs.Emitting.{Emits, Shown}
-use Rattle.transcript_model.specs.Lines as line
-use Rattle.transcript_model.specs.Lines.{Cause, Line}
+use Rattle.emitter_model.specs.transcript_model.Lines as line
+use Rattle.emitter_model.specs.transcript_model.Lines.{Cause, Line}
 use Rattle.emitter_model.proofs.EmittingLemmas.{emits_on}
-use Rattle.script_model.specs.Statements.{Boot, Fuse}
+use Rattle.script_lang.specs.script_model.Statements.{Boot, Fuse}
 use Rattle.careful_write.specs.declared.down.Down.{Down}
-use Rattle.run_said.specs.Said.{Said, is_of_lines, line_said, lines_said, with_said, with_up, with_use}
+use Rattle.said_steps.specs.run_said.Said.{Said, is_of_lines, line_said, lines_said, with_said, with_up, with_use}
 use Rattle.said_steps.specs.Calls.{shows_boot}
 use Rattle.said_steps.specs.Own.{IsOwn}
-use Rattle.run_model.specs.Answers.{Restarts, Serves, Task, refused_before_reading, task_service}
-use Rattle.run_model.specs.Operations.{first_of, refused_if}
-use Rattle.run_model.specs.Steps.{NodeStep}
-use Rattle.run_model.specs.World.{Node, Shared}
+use Rattle.world_laws.specs.run_model.Answers.{Restarts, Serves, Task, refused_before_reading, task_service}
+use Rattle.world_laws.specs.run_model.Operations.{first_of, refused_if}
+use Rattle.world_laws.specs.run_model.Steps.{NodeStep}
+use Rattle.world_laws.specs.run_model.World.{Node, Shared}
 use Rattle.run_shared.specs.Sharing.{IsShared, SharedState}
-use Rattle.node_table.specs.Telling.{IsOfWork}
+use Rattle.node_requests.specs.node_table.Telling.{IsOfWork}
 use Rattle.dtm_node.specs.declared.node.Opened.TheVariants as opened
 use Rattle.dtm_node.specs.Causes.{cause_of}
-use Rattle.node_standing.specs.Keeping.{PerformsRequest, PerformsTask}
+use Rattle.node_requests.specs.node_standing.Keeping.{PerformsRequest, PerformsTask}
 use Rattle.dtm_node.specs.Nodes.{last_lines_of, undone_line}
 use Rattle.dtm_node.specs.Opening.{ComesTo, EndsBoot, EndsTask, IsOpen, Opens, Reopens, Rises, kept_down, used}
-use Rattle.node_standing.specs.Standing.{IsDown, IsRunning, NodeState, Place, PlaceRepresents, RepresentsNode, counts_of, disk_in, is_up}
+use Rattle.node_requests.specs.node_standing.Standing.{IsDown, IsRunning, NodeState, Place, PlaceRepresents, RepresentsNode, counts_of, disk_in, is_up}
 use Rattle.said_steps.specs.Answers.{IsSteady}
 use Rattle.said_steps.proofs.Falls.{steady_on}
 use Rattle.dtm_node.proofs.Answered.{calm_answers, calm_steady, refused_answers, steady_answers}
 use Rattle.dtm_node.proofs.Held.{holds_is}
-use Rattle.node_standing.specs.Telling.{AnswersTask, RestartTold, TellsTask, armed_task, powered_task, refused_task, said_alone, said_node, said_shared, task_said}
+use Rattle.node_requests.specs.node_standing.Telling.{AnswersTask, RestartTold, TellsTask, armed_task, powered_task, refused_task, said_alone, said_node, said_shared, task_said}
 use Rattle.node_requests.specs.TheLaws.{TheLaws}
 use Rattle.dtm_node.proofs.BootEnds.{shares_used}
 use Rattle.dtm_node.proofs.BootSteps.{IsBoot, boot_is, restart_is, step_first}

@@ -3,27 +3,27 @@ use Rattle.std.proofs.Common.{◌≡◌, ◌⊎◌, inl, inr, ℕ, List, [], ◌
 use Rattle.std.specs.Prelude.{◌||◌}
 use Rattle.block_disk.specs.Disk.{CallLog, DiskState}
 use Rattle.careful_write.specs.declared.down.Down.{Down}
-use Rattle.commit_protocol.specs.Rows as rows
-use Rattle.commit_protocol.specs.Rows.{Event}
+use Rattle.emitter_model.specs.commit_protocol.Rows as rows
+use Rattle.emitter_model.specs.commit_protocol.Rows.{Event}
 use Rattle.emitter_model.specs.Emitting.{Emits, Shown}
 use Rattle.emitter_model.proofs.EmittingLemmas.{emits_on}
-use Rattle.transcript_model.specs.Lines as line
-use Rattle.transcript_model.specs.Lines.{Line}
-use Rattle.run_model.specs.World.{Node, Shared}
-use Rattle.run_model.specs.Answers.{Hears, LosesLink, Restarts, RunsDown, Serves, Takes, Task, Ticks, just, refused_before_reading, shown_line, task_service, told_rows}
-use Rattle.run_model.specs.Operations.{first_of, refused_if}
-use Rattle.volume_model.specs.Volumes.{HasDisk}
+use Rattle.emitter_model.specs.transcript_model.Lines as line
+use Rattle.emitter_model.specs.transcript_model.Lines.{Line}
+use Rattle.world_laws.specs.run_model.World.{Node, Shared}
+use Rattle.world_laws.specs.run_model.Answers.{Hears, LosesLink, Restarts, RunsDown, Serves, Takes, Task, Ticks, just, refused_before_reading, shown_line, task_service, told_rows}
+use Rattle.world_laws.specs.run_model.Operations.{first_of, refused_if}
+use Rattle.recovery_units.specs.volume_model.Volumes.{HasDisk}
 use Rattle.world_laws.specs.Nodes.{AreUp, IsKeptNode, RowsKeepUp}
 use Rattle.recovery_units.specs.Uses.{Caused, DiskAdvances}
 use Rattle.row_laws.specs.Doing.{DoesRows}
 use Rattle.run_shared.specs.Sharing.{IsShared, SharedState}
-use Rattle.node_table.specs.Running.{IsNewFor, TellsRows}
-use Rattle.node_table.specs.Standing.{Up, UpRepresents}
-use Rattle.node_table.specs.Telling.{ShowsWork}
+use Rattle.node_requests.specs.node_table.Running.{IsNewFor, TellsRows}
+use Rattle.node_requests.specs.node_table.Standing.{Up, UpRepresents}
+use Rattle.node_requests.specs.node_table.Telling.{ShowsWork}
 use Rattle.dtm_node.specs.Causes.{cause_of}
-use Rattle.node_standing.specs.Keeping.{Performs, PerformsTask}
+use Rattle.node_requests.specs.node_standing.Keeping.{Performs, PerformsTask}
 use Rattle.node_requests.specs.Running.{ComesFreely, TellsEvent, event_told, name_of, shown_first}
-use Rattle.node_standing.specs.Standing.{IsDown, NodeState, RepresentsNode, counts_of, disk_in, disk_of}
+use Rattle.node_requests.specs.node_standing.Standing.{IsDown, NodeState, RepresentsNode, counts_of, disk_in, disk_of}
 use Rattle.dtm_node.proofs.EventSteps.{did_performs, does_behind, up_behind, went_performs}
 use Rattle.dtm_node.proofs.EventTasks.{IsEventTask, event_down, event_fails, event_task, event_tells}
 use Rattle.dtm_node.proofs.Performing.{kept_fallen, kept_up}

@@ -7,8 +7,8 @@ use Rattle.careful_write.specs.Load.{fitting}
 use Rattle.careful_write.specs.State.{IsIdle, Leaves, LeavesAsItWas, StoreState}
 use Rattle.careful_write.proofs.GroupParts.{stop_closed}
 use Rattle.volume.specs.Conditions.{IsFirstFinding}
-use Rattle.run_model.specs.World.{Node, Act, Call, Volume, Sound, Faulty, Barred, Unknown, fallen}
-use Rattle.volume_model.specs.Volumes.{BarsBoots, FailsFirst, HasBarred, HasDisk, IsEitherOf, IsLeftBy}
+use Rattle.world_laws.specs.run_model.World.{Node, Act, Call, Volume, Sound, Faulty, Barred, Unknown, fallen}
+use Rattle.recovery_units.specs.volume_model.Volumes.{BarsBoots, FailsFirst, HasBarred, HasDisk, IsEitherOf, IsLeftBy}
 use Rattle.dtm_node.specs.Boots.{AllHave, HasContent}
 use Rattle.dtm_node.proofs.SameNodes.{same_clocked, same_either, same_fallen, same_left}
 

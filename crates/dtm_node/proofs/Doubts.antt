@@ -1,20 +1,20 @@
 -- The branches that a node asks for in the world are those that it has in doubt, in their order.
 use Rattle.std.proofs.Common.{◌≡◌, inl, inr, ℕ, Bool, true, false, List, [], ◌∷◌, Option, Some, None, refl, ap, sym, subst, ◌∙◌}
 use Rattle.std.specs.Prelude.{if◌then◌else◌, is_some}
-use Rattle.commit_protocol.specs.Agreement.{Distinct}
-use Rattle.commit_protocol.specs.Allowed.{is_prepared}
-use Rattle.commit_protocol.specs.Table.{Branch, Key, branch_serials, cut, find, record_serials, without}
-use Rattle.commit_protocol.specs.World.{In, arranged, arranged_by}
-use Rattle.commit_protocol.proofs.Lists.{find-cut, find-cut_other, find-key, told_id, told_key}
-use Rattle.commit_protocol.proofs.Serials.{cut_distinct, parts_apart}
-use Rattle.commit_protocol.proofs.Within.{find_in}
+use Rattle.emitter_model.specs.commit_protocol.Agreement.{Distinct}
+use Rattle.emitter_model.specs.commit_protocol.Allowed.{is_prepared}
+use Rattle.emitter_model.specs.commit_protocol.Table.{Branch, Key, branch_serials, cut, find, record_serials, without}
+use Rattle.emitter_model.specs.commit_protocol.World.{In, arranged, arranged_by}
+use Rattle.emitter_model.proofs.commit_protocol.Lists.{find-cut, find-cut_other, find-key, told_id, told_key}
+use Rattle.emitter_model.proofs.commit_protocol.Serials.{cut_distinct, parts_apart}
+use Rattle.emitter_model.proofs.commit_protocol.Within.{find_in}
 use Rattle.vms_model.specs.Ids.{Id}
-use Rattle.run_model.specs.World as world
-use Rattle.run_model.specs.World.{Node}
+use Rattle.world_laws.specs.run_model.World as world
+use Rattle.world_laws.specs.run_model.World.{Node}
 use Rattle.statement_steps.specs.Settling.{doubts_of, in_doubt_of}
 use Rattle.world_laws.specs.Nodes.{IsKeptNode}
-use Rattle.node_table.specs.Standing.{IsUp, NamesPrepared, Up, UpRepresents, unsettled_serials}
-use Rattle.node_table.proofs.Doubting.{in_cut, standing_settled, stands}
+use Rattle.node_requests.specs.node_table.Standing.{IsUp, NamesPrepared, Up, UpRepresents, unsettled_serials}
+use Rattle.node_requests.proofs.node_table.Doubting.{in_cut, standing_settled, stands}
 
 -- none is prepared where none is named
 none_prepared : (bs : List Branch) → ((b : Branch) → In b bs → is_prepared b.state ≡ true → ⊥) → in_doubt_of bs ≡ []

@@ -3,27 +3,27 @@ use Rattle.std.proofs.Common.{◌≡◌, ◌⊎◌, inl, inr, ℕ, List, [], ◌
 use Rattle.std.specs.List.{AllByRecursion}
 use Rattle.block_disk.specs.Disk.{CallLog}
 use Rattle.careful_write.specs.declared.down.Down.{Down}
-use Rattle.commit_protocol.specs.Rows.{Event, row}
-use Rattle.commit_protocol.specs.Table as table
+use Rattle.emitter_model.specs.commit_protocol.Rows.{Event, row}
+use Rattle.emitter_model.specs.commit_protocol.Table as table
 use Rattle.emitter_model.specs.Emitting.{Emits, Shown}
-use Rattle.transcript_model.specs.Lines as line
-use Rattle.transcript_model.specs.Lines.{Line}
+use Rattle.emitter_model.specs.transcript_model.Lines as line
+use Rattle.emitter_model.specs.transcript_model.Lines.{Line}
 use Rattle.emitter_model.proofs.EmittingLemmas.{emits_on}
-use Rattle.run_model.specs.World.{Act, Node, Shared, Tables, acted, next_moment, shared_after, tm_of}
-use Rattle.run_model.specs.Answers.{Row, Task, just, shown_line, table_rows, task_service, told_rows}
-use Rattle.run_model.specs.Steps.{lines_of_rows, node_after_rows, rows_if, shared_after_rows}
-use Rattle.volume_model.specs.Volumes.{HasDisk}
+use Rattle.world_laws.specs.run_model.World.{Act, Node, Shared, Tables, acted, next_moment, shared_after, tm_of}
+use Rattle.world_laws.specs.run_model.Answers.{Row, Task, just, shown_line, table_rows, task_service, told_rows}
+use Rattle.world_laws.specs.run_model.Steps.{lines_of_rows, node_after_rows, rows_if, shared_after_rows}
+use Rattle.recovery_units.specs.volume_model.Volumes.{HasDisk}
 use Rattle.world_laws.specs.Nodes.{AreUp}
 use Rattle.recovery_units.specs.Uses.{Caused, DiskAdvances}
 use Rattle.row_laws.specs.Doing.{DidAll, DoesRows, WentDown}
 use Rattle.row_laws.proofs.Composing.{does_more}
 use Rattle.run_shared.specs.Sharing.{IsShared, SharedState}
-use Rattle.node_table.specs.Serving.{WasCut, service_at}
-use Rattle.node_table.specs.Standing.{Up, UpRepresents}
+use Rattle.node_requests.specs.node_table.Serving.{WasCut, service_at}
+use Rattle.node_requests.specs.node_table.Standing.{Up, UpRepresents}
 use Rattle.dtm_node.specs.Causes.{cause_of}
-use Rattle.node_standing.specs.Keeping.{Performs}
+use Rattle.node_requests.specs.node_standing.Keeping.{Performs}
 use Rattle.node_requests.specs.Running.{name_of, shown_first}
-use Rattle.node_standing.specs.Standing.{RepresentsNode, counts_of, disk_of}
+use Rattle.node_requests.specs.node_standing.Standing.{RepresentsNode, counts_of, disk_of}
 use Rattle.dtm_node.proofs.EventTasks.{IsEventTask}
 use Rattle.dtm_node.proofs.Performing.{LeavesRest, cut_performs, kept_fallen, kept_up, leaves_rest, rows_same, stands_then}
 use Rattle.dtm_node.proofs.Stepping.{step_done}

@@ -3,32 +3,32 @@ use Rattle.std.proofs.Common.{◌≡◌, ℕ, List, [], ◌∷◌, ◌++◌, Boo
 use Rattle.std.specs.List.{AllByRecursion}
 use Rattle.block_disk.specs.Disk.{CallLog, DiskState}
 use Rattle.careful_write.specs.declared.down.Down.{Down}
-use Rattle.commit_protocol.specs.Messages.{Message}
-use Rattle.commit_protocol.specs.Rows as rows
-use Rattle.commit_protocol.specs.Rows.{Event}
+use Rattle.emitter_model.specs.commit_protocol.Messages.{Message}
+use Rattle.emitter_model.specs.commit_protocol.Rows as rows
+use Rattle.emitter_model.specs.commit_protocol.Rows.{Event}
 use Rattle.emitter_model.specs.Emitting.{Emits, Shown}
-use Rattle.transcript_model.specs.Lines as line
-use Rattle.transcript_model.specs.Lines.{Cause, Line}
-use Rattle.transcript_model.specs.Outside.{Rose}
+use Rattle.emitter_model.specs.transcript_model.Lines as line
+use Rattle.emitter_model.specs.transcript_model.Lines.{Cause, Line}
+use Rattle.emitter_model.specs.transcript_model.Outside.{Rose}
 use Rattle.emitter_model.proofs.EmittingLemmas.{emits_on}
-use Rattle.script_model.specs.Statements.{Crash, Fuse}
-use Rattle.run_said.specs.Said.{Said, SaidNode, SaidShared, down_said, is_of_lines, line_said, lines_said}
+use Rattle.script_lang.specs.script_model.Statements.{Crash, Fuse}
+use Rattle.said_steps.specs.run_said.Said.{Said, SaidNode, SaidShared, down_said, is_of_lines, line_said, lines_said}
 use Rattle.said_steps.specs.Own.{IsOwn}
-use Rattle.run_model.specs.World as world
-use Rattle.run_model.specs.World.{Node}
-use Rattle.run_model.specs.Answers.{Hears, LosesLink, Restarts, RunsDown, Serves, Takes, Task, Ticks, just, shown_line, task_service, told_rows, touches}
-use Rattle.run_model.specs.Steps.{count_of}
+use Rattle.world_laws.specs.run_model.World as world
+use Rattle.world_laws.specs.run_model.World.{Node}
+use Rattle.world_laws.specs.run_model.Answers.{Hears, LosesLink, Restarts, RunsDown, Serves, Takes, Task, Ticks, just, shown_line, task_service, told_rows, touches}
+use Rattle.world_laws.specs.run_model.Steps.{count_of}
 use Rattle.recovery_units.specs.Uses.{Caused, DiskAdvances}
 use Rattle.run_shared.specs.Sharing.{SharedState}
-use Rattle.node_table.specs.Standing.{Up}
-use Rattle.node_table.specs.Telling.{IsOfWork, ShowsWork, wire_after, wire_behind}
+use Rattle.node_requests.specs.node_table.Standing.{Up}
+use Rattle.node_requests.specs.node_table.Telling.{IsOfWork, ShowsWork, wire_after, wire_behind}
 use Rattle.dtm_node.specs.Causes.{cause_of}
-use Rattle.node_standing.specs.Keeping.{all_shown}
+use Rattle.node_requests.specs.node_standing.Keeping.{all_shown}
 use Rattle.node_requests.specs.Running.{event_told, shown_first}
-use Rattle.node_standing.specs.Standing.{NodeState, counts_of, disk_in, disk_of, is_up}
+use Rattle.node_requests.specs.node_standing.Standing.{NodeState, counts_of, disk_in, disk_of, is_up}
 use Rattle.dtm_node.proofs.Answered.{calm_answers, fell_answers, goes_answers, refused_answers}
 use Rattle.dtm_node.proofs.Held.{holds_is}
-use Rattle.node_standing.specs.Telling.{AnswersTask, DiskAdvancesOverCalls, TellsTask, calls_after_task, may_answer_task, refused_task, said_alone, said_node, said_shared, task_said}
+use Rattle.node_requests.specs.node_standing.Telling.{AnswersTask, DiskAdvancesOverCalls, TellsTask, calls_after_task, may_answer_task, refused_task, said_alone, said_node, said_shared, task_said}
 use Rattle.dtm_node.proofs.Performing.{kept_fallen, kept_up, rose_of}
 use Rattle.node_requests.proofs.SaysLemmas.{all_on, alone_down, calm_not_down, down_behind, lines_calm, lines_on, own_calm}
 use Rattle.dtm_node.proofs.Stepping.{IsPlain}

@@ -2,11 +2,11 @@
 use Rattle.std.proofs.Common.{◌≡◌, inl, ℕ, true, false, Option, Some, None, IfSome, is_some, option_map, refl, sym, ap, subst, ◌∙◌}
 use Rattle.careful_write.specs.Content.{content_of}
 use Rattle.volume.specs.Catalogs.{TellsCatalog}
-use Rattle.run_model.specs.World.{Durable, Node}
-use Rattle.volume_model.specs.Volumes.{HasDisk, IsEitherOf}
+use Rattle.world_laws.specs.run_model.World.{Durable, Node}
+use Rattle.recovery_units.specs.volume_model.Volumes.{HasDisk, IsEitherOf}
 use Rattle.recovery_units.specs.Laws.{KeepsNodes}
-use Rattle.node_table.specs.Standing.{IsUp, Up, UpRepresents}
-use Rattle.node_standing.specs.Standing.{disk_of}
+use Rattle.node_requests.specs.node_table.Standing.{IsUp, Up, UpRepresents}
+use Rattle.node_requests.specs.node_standing.Standing.{disk_of}
 use Rattle.dtm_node.proofs.DiskLemmas.{Content, disk_sound, idle_leaves}
 
 some_of : {A B : Type 0} (f : A → B) (o : Option A) (y : B) → option_map f o ≡ Some y → is_some o ≡ true

@@ -16,23 +16,23 @@ use Rattle.careful_write.specs.Steps.{Quiet}
 use Rattle.careful_write.specs.declared.down.Down.{Down}
 use Rattle.careful_write.proofs.GroupParts.{stop_reading}
 use Rattle.careful_write.proofs.Images.{closed_fits}
-use Rattle.commit_protocol.specs.World.{In}
+use Rattle.emitter_model.specs.commit_protocol.World.{In}
 use Rattle.volume.specs.declared.catalog.Catalog.{Catalog}
 use Rattle.volume.specs.Catalogs.{IsSound, TellsCatalog}
 use Rattle.volume.specs.Empty.{IsEmptyVolume, empty_catalog, empty_home}
 use Rattle.volume.specs.Limits.{SizesFit}
-use Rattle.transcript_model.specs.Outside.{Rose}
-use Rattle.transcript_model.specs.Lines as line
-use Rattle.transcript_model.specs.Lines.{Line, Cause, Failed}
+use Rattle.emitter_model.specs.transcript_model.Outside.{Rose}
+use Rattle.emitter_model.specs.transcript_model.Lines as line
+use Rattle.emitter_model.specs.transcript_model.Lines.{Line, Cause, Failed}
 use Rattle.emitter_model.specs.Emitting.{Shown, Emits}
-use Rattle.script_model.specs.Statements.{Init}
-use Rattle.run_said.specs.Said.{Said, SaidNode, SaidShared, is_of_lines, line_said, request_said, with_said}
+use Rattle.script_lang.specs.script_model.Statements.{Init}
+use Rattle.said_steps.specs.run_said.Said.{Said, SaidNode, SaidShared, is_of_lines, line_said, request_said, with_said}
 use Rattle.said_steps.specs.Own.{IsOwn, alone}
-use Rattle.run_model.specs.World.{DiskCounts, Formats, Lost, Node, Power, Shared, Unknown, acted, fallen, powered, unpowered}
-use Rattle.run_model.specs.Answers.{Serves, is_volume_form, is_within, refused_before_reading, service}
-use Rattle.run_model.specs.Operations.{first_of, refused_if}
-use Rattle.run_model.specs.Steps.{Cut, NodeStep, Unpowered, Whole, count_of, with_unknown_volume}
-use Rattle.volume_model.specs.Volumes.{IsLeftBy, LeavesVolume}
+use Rattle.world_laws.specs.run_model.World.{DiskCounts, Formats, Lost, Node, Power, Shared, Unknown, acted, fallen, powered, unpowered}
+use Rattle.world_laws.specs.run_model.Answers.{Serves, is_volume_form, is_within, refused_before_reading, service}
+use Rattle.world_laws.specs.run_model.Operations.{first_of, refused_if}
+use Rattle.world_laws.specs.run_model.Steps.{Cut, NodeStep, Unpowered, Whole, count_of, with_unknown_volume}
+use Rattle.recovery_units.specs.volume_model.Volumes.{IsLeftBy, LeavesVolume}
 use Rattle.recovery_units.specs.Laws.{IsMade, KeepsNodes}
 use Rattle.recovery_units.specs.Uses.{IsCounted}
 use Rattle.run_shared.specs.Sharing.{IsShared, SharedState}
@@ -40,12 +40,12 @@ use Rattle.dtm_node.specs.declared.node.Formatted.{Formatted}
 use Rattle.dtm_node.specs.declared.node.Formatted.TheVariants as formatted
 use Rattle.dtm_node.specs.Causes.{cause_of}
 use Rattle.dtm_node.specs.Formatting.{Formats as FormatsPlace, FormatsDisk, init_answer, init_lines, is_ended, kept_so, unmade_then}
-use Rattle.node_standing.specs.Keeping.{Performs, PerformsRequest}
-use Rattle.node_standing.specs.Standing.{IsDown, IsRunning, NodeState, Place, RepresentsNode, counts_of, disk_in, noted_all}
-use Rattle.node_standing.specs.Holding.{HoldsAs}
+use Rattle.node_requests.specs.node_standing.Keeping.{Performs, PerformsRequest}
+use Rattle.node_requests.specs.node_standing.Standing.{IsDown, IsRunning, NodeState, Place, RepresentsNode, counts_of, disk_in, noted_all}
+use Rattle.node_requests.specs.node_standing.Holding.{HoldsAs}
 use Rattle.dtm_node.proofs.Answered.{calm_answers, fell_answers, refused_answers}
 use Rattle.dtm_node.proofs.Held.{holds_is}
-use Rattle.node_standing.specs.Telling.{AnswersTask, DiskAdvancesOverCalls, TellsTask, task_used, powered_task, refused_task, said_alone, said_node, said_shared, task_said}
+use Rattle.node_requests.specs.node_standing.Telling.{AnswersTask, DiskAdvancesOverCalls, TellsTask, task_used, powered_task, refused_task, said_alone, said_node, said_shared, task_said}
 use Rattle.dtm_node.proofs.DiskLemmas.{as_it_was, disk_unknown}
 use Rattle.dtm_node.proofs.Passing.{Unpowers, passes_counts, passes_on, passes_power, passes_same, power_calls, rose_after, rose_down}
 use Rattle.node_requests.proofs.SaysLemmas.{alone_down, same_text}

@@ -6,16 +6,16 @@ use Rattle.careful_write.specs.Content.{content_of}
 use Rattle.careful_write.specs.Load.{fitting}
 use Rattle.careful_write.specs.State.{IsIdle, StoreState}
 use Rattle.careful_write.specs.Steps.{Quiet}
-use Rattle.transcript_model.specs.Outside.{Rose}
-use Rattle.transcript_model.specs.Lines.{Cause, Failed, Stopped}
-use Rattle.run_model.specs.Steps.{count_of}
+use Rattle.emitter_model.specs.transcript_model.Outside.{Rose}
+use Rattle.emitter_model.specs.transcript_model.Lines.{Cause, Failed, Stopped}
+use Rattle.world_laws.specs.run_model.Steps.{count_of}
 use Rattle.recovery_units.specs.Uses.{IsCounted}
 use Rattle.dtm_node.specs.declared.boot.Booted.{Booted}
 use Rattle.dtm_node.specs.declared.boot.Booted.TheVariants as booted
 use Rattle.dtm_node.specs.Boots.{AllHave, IsBooted}
 use Rattle.dtm_node.specs.Causes.{cause_of}
-use Rattle.node_standing.specs.Standing.{counts_of}
-use Rattle.node_standing.specs.Holding.{HoldsAs, IsHeldBy}
+use Rattle.node_requests.specs.node_standing.Standing.{counts_of}
+use Rattle.node_requests.specs.node_standing.Holding.{HoldsAs, IsHeldBy}
 use Rattle.dtm_node.proofs.DiskLemmas.{Content, idle_alike}
 
 -- what is seen and pending is as it was

@@ -10,7 +10,7 @@ use Rattle.careful_write.specs.Load.{fitting}
 use Rattle.careful_write.specs.Reads.{SameButReads}
 use Rattle.careful_write.specs.State.{EachWhole, IsIdle, LeavesAsItWas, StoreState}
 use Rattle.careful_write.proofs.GroupParts.{stop_reading}
-use Rattle.transcript_model.specs.Lines as line
+use Rattle.emitter_model.specs.transcript_model.Lines as line
 use Rattle.file_base.specs.Bytes.{piece_at}
 use Rattle.file_base.specs.declared.head.Span.{Span}
 use Rattle.volume_format.specs.declared.home.Home.{Home}
@@ -21,10 +21,10 @@ use Rattle.volume.specs.declared.catalog.Catalog.{Catalog}
 use Rattle.volume.specs.Catalogs.{IsSound, TellsCatalog, TellsOnly}
 use Rattle.volume.specs.Conditions.{IsFirstFinding, IsValid, SoundIsValid}
 use Rattle.volume.specs.State.{VolumeState, Holds}
-use Rattle.run_model.specs.World.{Node, Volume, Sound, Faulty, Barred, Unknown, fallen}
-use Rattle.run_model.specs.Answers.{bootable}
-use Rattle.volume_model.specs.Bars.{first_bar}
-use Rattle.volume_model.specs.Volumes.{HasDisk, LeavesVolume}
+use Rattle.world_laws.specs.run_model.World.{Node, Volume, Sound, Faulty, Barred, Unknown, fallen}
+use Rattle.world_laws.specs.run_model.Answers.{bootable}
+use Rattle.recovery_units.specs.volume_model.Bars.{first_bar}
+use Rattle.recovery_units.specs.volume_model.Volumes.{HasDisk, LeavesVolume}
 use Rattle.dtm_node.specs.Boots.{AllHave, HasContent, IsAwake, IsMounted, IsOpened, IsWide}
 use Rattle.dtm_node.proofs.DiskLemmas.{Content, ContentBy, alike_on, as_it_was, content_fallen, have_disk, idle_alike}
 

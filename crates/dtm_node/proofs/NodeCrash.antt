@@ -2,22 +2,22 @@
 use Rattle.std.proofs.Common.{◌≡◌, ℕ, ◌<◌, [], ◌∷◌, Bool, true, false, refl, sym, subst, ◌∙◌}
 use Rattle.block_disk.specs.Disk.{DiskState}
 use Rattle.emitter_model.specs.Emitting.{Emits, Shown}
-use Rattle.transcript_model.specs.Lines as line
+use Rattle.emitter_model.specs.transcript_model.Lines as line
 use Rattle.emitter_model.proofs.EmittingLemmas.{emits_on}
-use Rattle.script_model.specs.Statements.{Crash}
-use Rattle.run_model.specs.Answers.{Serves}
+use Rattle.script_lang.specs.script_model.Statements.{Crash}
+use Rattle.world_laws.specs.run_model.Answers.{Serves}
 use Rattle.recovery_units.specs.Laws.{KeepsNodes}
 use Rattle.recovery_units.specs.State.{UnitsState}
 use Rattle.run_shared.specs.Sharing.{SharedState}
-use Rattle.node_table.specs.Code.{up_of}
-use Rattle.node_table.specs.declared.running.Running.{Running}
+use Rattle.node_requests.specs.node_table.Code.{up_of}
+use Rattle.node_requests.specs.node_table.declared.running.Running.{Running}
 use Rattle.dtm_node.specs.declared.node.Node.{Node}
 use Rattle.dtm_node.specs.declared.node.Place as code
 use Rattle.dtm_node.specs.declared.node.Place.TheVariants as code_place
-use Rattle.node_standing.specs.Keeping.{PerformsRequest}
+use Rattle.node_requests.specs.node_standing.Keeping.{PerformsRequest}
 use Rattle.dtm_node.specs.Nodes.{IsNode, IsPlaceOf, fallen_place, kept_of, place_of}
-use Rattle.node_standing.specs.Standing.{NodeState, Place, disk_of, is_up}
-use Rattle.node_standing.specs.Telling.{TellsTask}
+use Rattle.node_requests.specs.node_standing.Standing.{NodeState, Place, disk_of, is_up}
+use Rattle.node_requests.specs.node_standing.Telling.{TellsTask}
 use Rattle.dtm_node.proofs.Performing.{kept_fallen, kept_up}
 use Rattle.dtm_node.proofs.Simple.{crash_performs, crash_tells}
 

@@ -2,27 +2,27 @@
 use Rattle.std.proofs.Common.{◌≡◌, ℕ, ◌<◌, List, [], ◌∷◌, Bool, true, false, not, Option, Ok, Err, if◌then◌else◌, refl, sym, subst, ◌∙◌}
 use Rattle.block_disk.specs.Disk.{DiskState}
 use Rattle.careful_write.specs.declared.down.Down.{Down}
-use Rattle.commit_protocol.specs.Rows.{Event}
+use Rattle.emitter_model.specs.commit_protocol.Rows.{Event}
 use Rattle.emitter_model.specs.Emitting.{Emits, Shown}
-use Rattle.transcript_model.specs.Lines as line
-use Rattle.transcript_model.specs.Lines.{Cause}
+use Rattle.emitter_model.specs.transcript_model.Lines as line
+use Rattle.emitter_model.specs.transcript_model.Lines.{Cause}
 use Rattle.world_laws.specs.Nodes.{RowsKeepUp}
 use Rattle.recovery_units.specs.State.{UnitsState}
 use Rattle.run_shared.specs.Sharing.{SharedState}
-use Rattle.node_table.specs.Code.{up_of}
-use Rattle.node_table.specs.Running.{KeepsUp, TellsRows}
-use Rattle.node_table.specs.declared.running.Running.{Running}
+use Rattle.node_requests.specs.node_table.Code.{up_of}
+use Rattle.node_requests.specs.node_table.Running.{KeepsUp, TellsRows}
+use Rattle.node_requests.specs.node_table.declared.running.Running.{Running}
 use Rattle.dtm_node.specs.declared.node.Node.{Node}
 use Rattle.dtm_node.specs.declared.node.Parts.{Parts}
 use Rattle.dtm_node.specs.declared.node.Place.TheVariants as code_place
 use Rattle.dtm_node.specs.Causes.{cause_of}
 use Rattle.dtm_node.specs.Nodes.{IsNode, IsPlaceOf, fallen_place, kept_of}
 use Rattle.node_requests.specs.Running.{ComesFreely, TellsEvent, shown_first}
-use Rattle.commit_protocol.specs.Messages.{Message}
-use Rattle.run_model.specs.Answers.{Hears, Task, outcome_told}
+use Rattle.emitter_model.specs.commit_protocol.Messages.{Message}
+use Rattle.world_laws.specs.run_model.Answers.{Hears, Task, outcome_told}
 use Rattle.vms_model.specs.Transactions.{Outcome}
 use Rattle.emitter_model.proofs.EmittingLemmas.{emits_nothing, emits_on}
-use Rattle.node_standing.specs.Standing.{IsDown, IsRunning, NodeState, Place, disk_of, is_up}
+use Rattle.node_requests.specs.node_standing.Standing.{IsDown, IsRunning, NodeState, Place, disk_of, is_up}
 use Rattle.dtm_node.proofs.Coming.{event_at_down, event_done, event_failed}
 use Rattle.dtm_node.proofs.Falling.{told_up}
 use Rattle.dtm_node.proofs.NodeLemmas.{kept_is_down, kept_is_up}

@@ -1,17 +1,17 @@
 -- What the code keeps of a node, up and down.
 use Rattle.std.proofs.Common.{◌≡◌, ℕ, ◌≤◌, ◌<◌, ◌+◌, true, false, Option, refl, arith}
 use Rattle.block_disk.specs.Disk.{DiskState}
-use Rattle.commit_protocol.specs.Rows as rows
-use Rattle.commit_protocol.specs.Rows.{Event}
-use Rattle.commit_protocol.specs.Allowed.{allowed}
-use Rattle.commit_protocol.specs.Table.{Tm}
-use Rattle.log_laws.specs.Slots.{branches_added}
+use Rattle.emitter_model.specs.commit_protocol.Rows as rows
+use Rattle.emitter_model.specs.commit_protocol.Rows.{Event}
+use Rattle.emitter_model.specs.commit_protocol.Allowed.{allowed}
+use Rattle.emitter_model.specs.commit_protocol.Table.{Tm}
+use Rattle.world_laws.specs.log_laws.Slots.{branches_added}
 use Rattle.recovery_units.specs.State.{UnitsState}
 use Rattle.run_shared.specs.Sharing.{SharedState}
-use Rattle.node_table.specs.Code.{up_of}
-use Rattle.node_table.specs.Running.{Grown, IsEarlyFor, IsFreshFor, IsTold}
-use Rattle.node_table.specs.Standing.{IsUp, Up}
-use Rattle.node_table.specs.declared.running.Running.{Running}
+use Rattle.node_requests.specs.node_table.Code.{up_of}
+use Rattle.node_requests.specs.node_table.Running.{Grown, IsEarlyFor, IsFreshFor, IsTold}
+use Rattle.node_requests.specs.node_table.Standing.{IsUp, Up}
+use Rattle.node_requests.specs.node_table.declared.running.Running.{Running}
 use Rattle.dtm_node.specs.declared.node.Node.{Node}
 use Rattle.dtm_node.specs.declared.node.Parts.{Parts}
 use Rattle.dtm_node.specs.declared.node.Place as code

@@ -3,9 +3,9 @@ use Rattle.std.proofs.Common.{◌≡◌, ℕ, ◌≤◌, ◌+◌, refl, sym, sub
 use Rattle.block_disk.specs.Disk.{DiskState}
 use Rattle.recovery_units.specs.State.{UnitsState}
 use Rattle.run_shared.specs.Sharing.{SharedState}
-use Rattle.node_table.specs.Code.{up_of}
-use Rattle.node_table.specs.Standing.{IsUp, Up}
-use Rattle.node_table.specs.declared.running.Running.{Running}
+use Rattle.node_requests.specs.node_table.Code.{up_of}
+use Rattle.node_requests.specs.node_table.Standing.{IsUp, Up}
+use Rattle.node_requests.specs.node_table.declared.running.Running.{Running}
 use Rattle.vms_base.specs.declared.times.Moment.{Moment}
 use Rattle.dtm_node.specs.declared.node.Node.{Node}
 use Rattle.dtm_node.specs.declared.node.Place as code

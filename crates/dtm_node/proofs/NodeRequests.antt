@@ -4,28 +4,28 @@ use Rattle.block_disk.specs.Disk.{DiskState}
 use Rattle.careful_write.specs.declared.down.Down.{Down}
 use Rattle.change_set.specs.Files.{free_frames}
 use Rattle.emitter_model.specs.Emitting.{Emits, Shown}
-use Rattle.transcript_model.specs.Lines as line
-use Rattle.transcript_model.specs.Lines.{Line}
-use Rattle.script_model.specs.Statements.{AddBranch, Boot, Init, Request, StartTrans}
-use Rattle.run_said.specs.Said.{Said, lines_said, request_said}
-use Rattle.run_model.specs.Answers.{Serves}
-use Rattle.run_model.specs.World as world
+use Rattle.emitter_model.specs.transcript_model.Lines as line
+use Rattle.emitter_model.specs.transcript_model.Lines.{Line}
+use Rattle.script_lang.specs.script_model.Statements.{AddBranch, Boot, Init, Request, StartTrans}
+use Rattle.said_steps.specs.run_said.Said.{Said, lines_said, request_said}
+use Rattle.world_laws.specs.run_model.Answers.{Serves}
+use Rattle.world_laws.specs.run_model.World as world
 use Rattle.recovery_units.specs.State.{UnitsState}
 use Rattle.run_shared.specs.Sharing.{SharedState}
-use Rattle.node_table.specs.Code.{up_of}
-use Rattle.node_table.specs.Standing.{IsUp, UpRepresents}
-use Rattle.node_table.specs.declared.running.Running.{Running}
+use Rattle.node_requests.specs.node_table.Code.{up_of}
+use Rattle.node_requests.specs.node_table.Standing.{IsUp, UpRepresents}
+use Rattle.node_requests.specs.node_table.declared.running.Running.{Running}
 use Rattle.dtm_node.specs.declared.node.Node.{Node}
 use Rattle.dtm_node.specs.declared.node.Parts.{Parts}
 use Rattle.dtm_node.specs.declared.node.Place as code
 use Rattle.dtm_node.specs.declared.node.Place.TheVariants as code_place
 use Rattle.dtm_node.specs.Causes.{cause_of}
-use Rattle.node_standing.specs.Keeping.{PerformsRequest}
+use Rattle.node_requests.specs.node_standing.Keeping.{PerformsRequest}
 use Rattle.dtm_node.specs.Nodes.{IsNode, IsPlaceOf, MayFall, fallen_place, kept_of}
 use Rattle.node_requests.specs.Requests.{DoesRequest, IsForUp, LacksMemory, MayServe, SaysRequest, said_up}
 use Rattle.node_requests.specs.Running.{name_of}
-use Rattle.node_standing.specs.Standing.{NodeState, disk_of}
-use Rattle.node_standing.specs.Telling.{TellsTask}
+use Rattle.node_requests.specs.node_standing.Standing.{NodeState, disk_of}
+use Rattle.node_requests.specs.node_standing.Telling.{TellsTask}
 use Rattle.dtm_node.proofs.Falling.{told_up}
 use Rattle.dtm_node.proofs.NodeLemmas.{grown_more, kept_is_down, kept_is_up, may_serve, moved_grown}
 use Rattle.dtm_node.proofs.Performing.{kept_fallen, kept_up}

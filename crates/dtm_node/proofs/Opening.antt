@@ -4,26 +4,26 @@ use Rattle.block_disk.specs.Disk.{CallLog, DiskState, IsPowered}
 use Rattle.block_disk.specs.declared.disk.DiskErr.{DiskErr}
 use Rattle.careful_write.specs.Down.{down_of}
 use Rattle.careful_write.specs.declared.down.Down.{Down}
-use Rattle.transcript_model.specs.Lines as line
-use Rattle.transcript_model.specs.Lines.{Cause, Failed, Line}
-use Rattle.transcript_model.specs.Outside.{Rose}
-use Rattle.run_model.specs.Answers.{Restarts, bootable}
-use Rattle.run_model.specs.Steps.{count_of}
-use Rattle.run_model.specs.World.{Boots, Node, Shared, acted, fallen, powered}
-use Rattle.volume_model.specs.Volumes.{HasDisk}
+use Rattle.emitter_model.specs.transcript_model.Lines as line
+use Rattle.emitter_model.specs.transcript_model.Lines.{Cause, Failed, Line}
+use Rattle.emitter_model.specs.transcript_model.Outside.{Rose}
+use Rattle.world_laws.specs.run_model.Answers.{Restarts, bootable}
+use Rattle.world_laws.specs.run_model.Steps.{count_of}
+use Rattle.world_laws.specs.run_model.World.{Boots, Node, Shared, acted, fallen, powered}
+use Rattle.recovery_units.specs.volume_model.Volumes.{HasDisk}
 use Rattle.world_laws.specs.Nodes.{IsKeptNode, StepsKeepNodes}
 use Rattle.recovery_units.specs.Calls.{IsRestarting}
 use Rattle.recovery_units.specs.State.{HasNoUnit}
 use Rattle.recovery_units.specs.Uses.{DiskAdvances, IsCounted}
-use Rattle.node_table.specs.Standing.{Up}
+use Rattle.node_requests.specs.node_table.Standing.{Up}
 use Rattle.dtm_node.specs.Boots.{IsAwake, IsBootRefusal, IsRaised}
 use Rattle.dtm_node.specs.Causes.{cause_of}
-use Rattle.node_standing.specs.Keeping.{IsPromised}
+use Rattle.node_requests.specs.node_standing.Keeping.{IsPromised}
 use Rattle.dtm_node.specs.Opening.{EndsBoot, OpensUp, Wakes, kept_down, used}
-use Rattle.node_standing.specs.Standing.{RepresentsNode, counts_of, disk_of}
+use Rattle.node_requests.specs.node_standing.Standing.{RepresentsNode, counts_of, disk_of}
 use Rattle.dtm_node.proofs.BootEnds.{ends_boot, fallen_end, fallen_rose, lacking_end, refused_end, shares_used}
 use Rattle.dtm_node.proofs.Booting.{boot_fell, boot_lacks, boot_refused, boot_unpowered}
-use Rattle.node_standing.specs.Holding.{HoldsAs}
+use Rattle.node_requests.specs.node_standing.Holding.{HoldsAs}
 use Rattle.dtm_node.proofs.Held.{holds_is, holds_on, holds_power}
 use Rattle.dtm_node.proofs.Passing.{Unpowers, passes_goes, passes_power, passes_same, power_calls, rose_after}
 use Rattle.dtm_node.proofs.Waking.{powered_kept, wakes}

@@ -12,14 +12,14 @@ use Rattle.careful_write.specs.Down.{CountsDown, down_of}
 use Rattle.careful_write.specs.Steps.{CountsOnce}
 use Rattle.careful_write.specs.declared.down.Down.{Down}
 use Rattle.careful_write.specs.declared.down.Down.TheVariants as down
-use Rattle.transcript_model.specs.Outside.{Rose}
-use Rattle.transcript_model.proofs.OutsideLemmas.{rose_earlier}
-use Rattle.transcript_model.specs.Lines.{Cause, Failed, Stopped}
-use Rattle.run_model.specs.Steps.{count_of}
+use Rattle.emitter_model.specs.transcript_model.Outside.{Rose}
+use Rattle.emitter_model.proofs.transcript_model.OutsideLemmas.{rose_earlier}
+use Rattle.emitter_model.specs.transcript_model.Lines.{Cause, Failed, Stopped}
+use Rattle.world_laws.specs.run_model.Steps.{count_of}
 use Rattle.recovery_units.specs.Uses.{DiskAdvances, IsCounted}
 use Rattle.dtm_node.specs.Causes.{cause_of}
-use Rattle.node_standing.specs.Standing.{counts_of}
-use Rattle.node_standing.specs.Telling.{DiskAdvancesOverCalls}
+use Rattle.node_requests.specs.node_standing.Standing.{counts_of}
+use Rattle.node_requests.specs.node_standing.Telling.{DiskAdvancesOverCalls}
 
 up : (b : Bool) (n : ℕ) → n < 2 ^ 64 → (n ≤ counted b n) × (counted b n < 2 ^ 64)
 up true n h = (omega arith, omega arith)

@@ -6,23 +6,23 @@ use Rattle.block_disk.specs.Disk.{CallLog, DiskState}
 use Rattle.careful_write.specs.declared.down.Down.{Down}
 use Rattle.careful_write.specs.declared.down.Down.TheVariants as down
 use Rattle.emitter_model.specs.Emitting.{Emits, Shown}
-use Rattle.transcript_model.specs.Outside.{Rose}
-use Rattle.transcript_model.specs.Lines as line
-use Rattle.transcript_model.specs.Lines.{Cause, Line}
+use Rattle.emitter_model.specs.transcript_model.Outside.{Rose}
+use Rattle.emitter_model.specs.transcript_model.Lines as line
+use Rattle.emitter_model.specs.transcript_model.Lines.{Cause, Line}
 use Rattle.emitter_model.proofs.EmittingLemmas.{emits_on}
-use Rattle.run_model.specs.World.{Act, Arms, Boots, Changes, Clocks, ComesUp, Creates, Declares, Directs, Draws, Falls, Formats, Holds, Labels, Marks, Node, Numbers, Recovers, Saves, Shared, Tables, acted, fallen}
-use Rattle.run_model.specs.Answers.{Row, Service, Task, refused_before_reading, task_service, touches}
-use Rattle.run_model.specs.Operations.{first_of, refused_if}
-use Rattle.run_model.specs.Steps.{NodeStep, act_begun, count_of, lines_of_rows, node_after, node_after_rows, rows_if, shared_after_rows}
-use Rattle.volume_model.specs.Volumes.{HasDisk}
+use Rattle.world_laws.specs.run_model.World.{Act, Arms, Boots, Changes, Clocks, ComesUp, Creates, Declares, Directs, Draws, Falls, Formats, Holds, Labels, Marks, Node, Numbers, Recovers, Saves, Shared, Tables, acted, fallen}
+use Rattle.world_laws.specs.run_model.Answers.{Row, Service, Task, refused_before_reading, task_service, touches}
+use Rattle.world_laws.specs.run_model.Operations.{first_of, refused_if}
+use Rattle.world_laws.specs.run_model.Steps.{NodeStep, act_begun, count_of, lines_of_rows, node_after, node_after_rows, rows_if, shared_after_rows}
+use Rattle.recovery_units.specs.volume_model.Volumes.{HasDisk}
 use Rattle.recovery_units.specs.Uses.{Caused, DiskAdvances, IsCounted}
 use Rattle.run_shared.specs.Sharing.{IsShared, SharedState}
-use Rattle.node_table.specs.Serving.{WasCut, WasRefused, WasServed, rows_at_risk, service_at}
-use Rattle.node_table.specs.Standing.{Up, UpRepresents}
+use Rattle.node_requests.specs.node_table.Serving.{WasCut, WasRefused, WasServed, rows_at_risk, service_at}
+use Rattle.node_requests.specs.node_table.Standing.{Up, UpRepresents}
 use Rattle.dtm_node.specs.Causes.{cause_of}
-use Rattle.node_standing.specs.Keeping.{Performs}
+use Rattle.node_requests.specs.node_standing.Keeping.{Performs}
 use Rattle.node_requests.specs.Running.{name_of}
-use Rattle.node_standing.specs.Standing.{IsDown, IsRunning, NodeState, RepresentsNode, counts_of, disk_of, noted_all}
+use Rattle.node_requests.specs.node_standing.Standing.{IsDown, IsRunning, NodeState, RepresentsNode, counts_of, disk_of, noted_all}
 use Rattle.dtm_node.proofs.Stepping.{IsPlain, step_cut, step_done, step_early, step_lacking, step_late}
 
 -- what is kept of a node that is up, and of one that went down

@@ -7,14 +7,14 @@ use Rattle.journal_model.specs.Ring.{ring_size}
 use Rattle.std.proofs.Math.Seq.{take-length}
 use Rattle.block_disk.specs.Disk.{DiskState}
 use Rattle.careful_write.specs.State.{IsEither, IsIdle, Leaves, content}
-use Rattle.transcript_model.specs.Lines as line
-use Rattle.transcript_model.specs.Lines.{Line}
+use Rattle.emitter_model.specs.transcript_model.Lines as line
+use Rattle.emitter_model.specs.transcript_model.Lines.{Line}
 use Rattle.file_base.specs.declared.head.FileHead.{FileHead}
 use Rattle.file_base.specs.declared.head.Organization.{Organization as Kept}
 use Rattle.file_base.specs.declared.head.Organization.TheVariants.{Sequential, Relative, Indexed}
-use Rattle.record_files.specs.Any as any
-use Rattle.indexed_tree.specs.Laws.{TellsHead}
-use Rattle.indexed_tree.proofs.RootLaws.{layout_tells}
+use Rattle.node_files.specs.record_files.Any as any
+use Rattle.node_files.specs.indexed_tree.Laws.{TellsHead}
+use Rattle.node_files.proofs.indexed_tree.RootLaws.{layout_tells}
 use Rattle.volume_format.specs.declared.home.Home.{Home}
 use Rattle.volume_format.specs.Home.{IsHome, home_block_of, home_rows}
 use Rattle.volume_format.proofs.Homes.{home_wide}
@@ -23,18 +23,18 @@ use Rattle.std.proofs.lemmas.List.{length-replicate}
 use Rattle.volume.specs.declared.catalog.Catalog.{Catalog}
 use Rattle.volume.specs.Catalogs.{IsSound, TellsCatalog}
 use Rattle.volume.specs.State.{VolumeState, Holds}
-use Rattle.run_model.specs.World.{Node, File, Carried, Boots, Volume, Sound, Faulty, Barred, Unknown, Bar, NoRing, NoIndex, AllBoots, LateMoment, FarPosition, Shared, acted, booted, fallen, prepared_left}
-use Rattle.run_model.specs.Answers.{Row, bar_line, bootable, images_end as files_end, last_position, left_active, table_rows, unit_key}
-use Rattle.run_model.specs.Operations.{first_of, refused_if}
-use Rattle.commit_protocol.specs.World.{undo_all}
+use Rattle.world_laws.specs.run_model.World.{Node, File, Carried, Boots, Volume, Sound, Faulty, Barred, Unknown, Bar, NoRing, NoIndex, AllBoots, LateMoment, FarPosition, Shared, acted, booted, fallen, prepared_left}
+use Rattle.world_laws.specs.run_model.Answers.{Row, bar_line, bootable, images_end as files_end, last_position, left_active, table_rows, unit_key}
+use Rattle.world_laws.specs.run_model.Operations.{first_of, refused_if}
+use Rattle.emitter_model.specs.commit_protocol.World.{undo_all}
 use Rattle.file_base.specs.declared.head.Span.{Span}
-use Rattle.file_images.specs.Files.{HasSide}
-use Rattle.recovery_model.specs.File.{ImageJournal}
-use Rattle.directory_model.specs.Files.{file_at, head_at}
-use Rattle.directory_model.specs.Restoring.{IsPlaceLeft}
-use Rattle.image_room.specs.Room.{images_end}
-use Rattle.volume_model.specs.Bars.{first_bar, is_in_ring, lowest_odd_root, no_block, odd_root, odd_root_by, lowest_by, lowest_odd_ring, odd_span, units_block}
-use Rattle.volume_model.specs.Volumes.{HasBarred, HasDisk, IsEitherOf, IsLeftBy, LeavesVolume}
+use Rattle.node_files.specs.file_images.Files.{HasSide}
+use Rattle.world_laws.specs.recovery_model.File.{ImageJournal}
+use Rattle.node_files.specs.directory_model.Files.{file_at, head_at}
+use Rattle.node_files.specs.directory_model.Restoring.{IsPlaceLeft}
+use Rattle.recovery_units.specs.image_room.Room.{images_end}
+use Rattle.recovery_units.specs.volume_model.Bars.{first_bar, is_in_ring, lowest_odd_root, no_block, odd_root, odd_root_by, lowest_by, lowest_odd_ring, odd_span, units_block}
+use Rattle.recovery_units.specs.volume_model.Volumes.{HasBarred, HasDisk, IsEitherOf, IsLeftBy, LeavesVolume}
 use Rattle.world_laws.specs.Nodes.{AreKept, BootsKeepUp, IsKeptDisk}
 use Rattle.world_laws.proofs.UndoLemmas.{relocked_booted}
 use Rattle.recovery_units.specs.Calls.{IsRestarting}

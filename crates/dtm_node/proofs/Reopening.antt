@@ -4,24 +4,24 @@ use Rattle.std.specs.List.{AllByRecursion}
 use Rattle.std.proofs.Math.Seq.{take-suc}
 use Rattle.std.proofs.lemmas.List.{map-append}
 use Rattle.careful_write.specs.declared.down.Down.{Down}
-use Rattle.commit_protocol.specs.Messages.{Name}
-use Rattle.commit_protocol.specs.Table.{Tm, branches_of}
+use Rattle.emitter_model.specs.commit_protocol.Messages.{Name}
+use Rattle.emitter_model.specs.commit_protocol.Table.{Tm, branches_of}
 use Rattle.tm_types.specs.Parts.{log_record_of}
 use Rattle.emitter_model.specs.Emitting.{Emits, Shown}
 use Rattle.emitter_model.proofs.EmittingLemmas.{emits_on}
-use Rattle.transcript_model.specs.Lines.{Line}
+use Rattle.emitter_model.specs.transcript_model.Lines.{Line}
 use Rattle.unit_table.specs.Units.{OpenUnit}
 use Rattle.vms_model.specs.Ids.{Id}
 use Rattle.volume.specs.State.{VolumeState}
-use Rattle.run_model.specs.World.{Node}
+use Rattle.world_laws.specs.run_model.World.{Node}
 use Rattle.recovery_units.specs.Calls.{MayBegin, ReopensErr, ReopensOk}
 use Rattle.recovery_units.specs.State.{AreOfBranches, HasNoUnit, IsEarly, IsInOrder, UnitsState}
 use Rattle.recovery_units.specs.Told.{ReopenedTold}
 use Rattle.recovery_units.specs.Uses.{Caused, Grows, ImagesGrow}
 use Rattle.recovery_units.specs.declared.settled.SettledUnit.{SettledUnit}
-use Rattle.node_table.specs.Growing.{groups_left}
-use Rattle.node_table.specs.Running.{IsBooted}
-use Rattle.node_table.specs.Standing.{IsUp, Stored, UpRepresents}
+use Rattle.node_requests.specs.node_table.Growing.{groups_left}
+use Rattle.node_requests.specs.node_table.Running.{IsBooted}
+use Rattle.node_requests.specs.node_table.Standing.{IsUp, Stored, UpRepresents}
 use Rattle.dtm_node.specs.Boots.{IsRaised}
 use Rattle.dtm_node.specs.Nodes.{last_lines_of, undone_line}
 use Rattle.dtm_node.specs.Opening.{Breaks, ReopensUp, prepared_told}

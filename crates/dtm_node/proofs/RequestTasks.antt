@@ -4,28 +4,28 @@ use Rattle.std.specs.Prelude.{◌||◌, ◌&&◌}
 use Rattle.block_disk.specs.Disk.{CallLog, DiskState}
 use Rattle.careful_write.specs.declared.down.Down.{Down}
 use Rattle.emitter_model.specs.Emitting.{Emits, Shown}
-use Rattle.transcript_model.specs.Lines as line
-use Rattle.transcript_model.specs.Lines.{Cause, Line}
-use Rattle.transcript_model.specs.Outside.{Rose}
+use Rattle.emitter_model.specs.transcript_model.Lines as line
+use Rattle.emitter_model.specs.transcript_model.Lines.{Cause, Line}
+use Rattle.emitter_model.specs.transcript_model.Outside.{Rose}
 use Rattle.emitter_model.proofs.EmittingLemmas.{emits_on}
-use Rattle.script_model.specs.Statements.{AbortTrans, AckEvent, AddBranch, Backup, Boot, Clock, Crash, Create, DeclareRm, Direct, Dump, DumpImages, DumpJournal, EndBranch, EndTrans, ForgetRm, Fuse, GetDti, Init, Inquire, JoinRm, LmcpDump, LmcpShow, Records, Recover, Request, SetFile, StartBranch, StartTrans}
-use Rattle.run_said.specs.Said.{Said, SaidShared, line_said, lines_said, refused_by_lines, request_said}
+use Rattle.script_lang.specs.script_model.Statements.{AbortTrans, AckEvent, AddBranch, Backup, Boot, Clock, Crash, Create, DeclareRm, Direct, Dump, DumpImages, DumpJournal, EndBranch, EndTrans, ForgetRm, Fuse, GetDti, Init, Inquire, JoinRm, LmcpDump, LmcpShow, Records, Recover, Request, SetFile, StartBranch, StartTrans}
+use Rattle.said_steps.specs.run_said.Said.{Said, SaidShared, line_said, lines_said, refused_by_lines, request_said}
 use Rattle.said_steps.specs.Answers.{is_broken, is_lacking, is_served, may_answer}
 use Rattle.said_steps.proofs.Refusals.{refusal_of_lines}
 use Rattle.said_steps.specs.Own.{IsOwn}
-use Rattle.run_model.specs.Operations.{first_of, refused_if}
-use Rattle.run_model.specs.World.{Node, Shared}
-use Rattle.run_model.specs.Answers.{Restarts, Serves, service, touches}
-use Rattle.run_model.specs.Steps.{count_of}
+use Rattle.world_laws.specs.run_model.Operations.{first_of, refused_if}
+use Rattle.world_laws.specs.run_model.World.{Node, Shared}
+use Rattle.world_laws.specs.run_model.Answers.{Restarts, Serves, service, touches}
+use Rattle.world_laws.specs.run_model.Steps.{count_of}
 use Rattle.run_shared.specs.Sharing.{IsShared, SharedState}
-use Rattle.node_table.specs.Serving.{DoesService, service_at}
-use Rattle.node_table.specs.Standing.{Up, UpRepresents}
+use Rattle.node_requests.specs.node_table.Serving.{DoesService, service_at}
+use Rattle.node_requests.specs.node_table.Standing.{Up, UpRepresents}
 use Rattle.dtm_node.specs.Causes.{cause_of}
-use Rattle.node_standing.specs.Keeping.{Performs, PerformsRequest}
+use Rattle.node_requests.specs.node_standing.Keeping.{Performs, PerformsRequest}
 use Rattle.node_requests.specs.Requests.{DoesRequest, IsForUp, LacksMemory, node_up, said_up}
 use Rattle.node_requests.specs.Running.{name_of}
-use Rattle.node_standing.specs.Standing.{IsDown, NodeState, RepresentsNode, counts_of, disk_of}
-use Rattle.node_standing.specs.Telling.{TellsTask, calls_after_task, said_alone, said_shared}
+use Rattle.node_requests.specs.node_standing.Standing.{IsDown, NodeState, RepresentsNode, counts_of, disk_of}
+use Rattle.node_requests.specs.node_standing.Telling.{TellsTask, calls_after_task, said_alone, said_shared}
 use Rattle.dtm_node.proofs.Answered.{calm_answers, fell_answers, may_of, refused_answers, refused_unbroken, served_other, served_unbroken}
 use Rattle.dtm_node.proofs.Held.{holds_is}
 use Rattle.dtm_node.proofs.Coming.{down_performs}

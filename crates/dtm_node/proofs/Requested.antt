@@ -3,19 +3,19 @@ use Rattle.std.proofs.Common.{◌≡◌, ℕ, List, [], ◌∷◌, ◌++◌, tru
 use Rattle.std.specs.Option.{option_and_then, option_map}
 use Rattle.std.specs.List.{AllByRecursion}
 use Rattle.vms_model.specs.Keys.{Key}
-use Rattle.commit_protocol.specs.Messages.{Name, Reply}
-use Rattle.commit_protocol.specs.Rows as rows
-use Rattle.commit_protocol.specs.Rows.{row}
-use Rattle.commit_protocol.specs.Table.{Branch, without_rm}
-use Rattle.log_laws.specs.Slots.{slot_records}
-use Rattle.transcript_model.specs.Lines as line
-use Rattle.transcript_model.specs.Lines.{Line}
+use Rattle.emitter_model.specs.commit_protocol.Messages.{Name, Reply}
+use Rattle.emitter_model.specs.commit_protocol.Rows as rows
+use Rattle.emitter_model.specs.commit_protocol.Rows.{row}
+use Rattle.emitter_model.specs.commit_protocol.Table.{Branch, without_rm}
+use Rattle.world_laws.specs.log_laws.Slots.{slot_records}
+use Rattle.emitter_model.specs.transcript_model.Lines as line
+use Rattle.emitter_model.specs.transcript_model.Lines.{Line}
 use Rattle.records_model.specs.Records.{Change}
-use Rattle.script_model.specs.Statements.{AbortTrans, AckEvent, AddBranch, Backup, Boot, Clock, Crash, Create, DeclareRm, Direct, Dump, DumpImages, DumpJournal, EndBranch, EndTrans, ForgetRm, Fuse, GetDti, Images, Init, Inquire, JoinRm, LmcpDump, LmcpShow, NoImages, NoRecoveryUnits, Records, Recover, RecoveryUnits, Request, SetFile, Setting, StartBranch, StartTrans}
-use Rattle.run_model.specs.World.{Act, BeginsImages, Creates, Declares, Draws, EndsImages, File, ForUnits, Label, Marks, Node, Numbers, Recovers, Saves, Shared, buckets_loaded, find_file, free_place, labelled, lowest_free, next_id, tm_of}
+use Rattle.script_lang.specs.script_model.Statements.{AbortTrans, AckEvent, AddBranch, Backup, Boot, Clock, Crash, Create, DeclareRm, Direct, Dump, DumpImages, DumpJournal, EndBranch, EndTrans, ForgetRm, Fuse, GetDti, Images, Init, Inquire, JoinRm, LmcpDump, LmcpShow, NoImages, NoRecoveryUnits, Records, Recover, RecoveryUnits, Request, SetFile, Setting, StartBranch, StartTrans}
+use Rattle.world_laws.specs.run_model.World.{Act, BeginsImages, Creates, Declares, Draws, EndsImages, File, ForUnits, Label, Marks, Node, Numbers, Recovers, Saves, Shared, buckets_loaded, find_file, free_place, labelled, lowest_free, next_id, tm_of}
 use Rattle.vms_model.specs.Ids.{Id}
 use Rattle.vms_model.specs.Transactions.{Aborted}
-use Rattle.run_model.specs.Answers.{Row, Telling, adds, all_acted, all_shared, begins, blocks_for, blocks_of, blocks_recovered, branch_labelled, branch_named, changes_at, created, creates, directed, entry_lines, image_lines, journal_at, just, keys_at, log_line, on_free, operated, operation_act, records_of, records_recovered, recovers, serial_named, service, sets, shown_line, shown_record, silent, start_of, starts, table_rows, to_file, told_if, told_rows}
+use Rattle.world_laws.specs.run_model.Answers.{Row, Telling, adds, all_acted, all_shared, begins, blocks_for, blocks_of, blocks_recovered, branch_labelled, branch_named, changes_at, created, creates, directed, entry_lines, image_lines, journal_at, just, keys_at, log_line, on_free, operated, operation_act, records_of, records_recovered, recovers, serial_named, service, sets, shown_line, shown_record, silent, start_of, starts, table_rows, to_file, told_if, told_rows}
 use Rattle.node_requests.specs.Requests.{IsForUp}
 use Rattle.dtm_node.proofs.EventSteps.{rest_some, table_rest}
 use Rattle.dtm_node.proofs.Performing.{LeavesRest, leaves_rest}

@@ -3,19 +3,19 @@ use Rattle.std.proofs.Common.{◌≡◌, ℕ, zero, suc, ◌≤◌, List, [], �
 use Rattle.std.specs.List.{AllByRecursion}
 use Rattle.std.proofs.Math.Seq.{take-length}
 use Rattle.std.proofs.lemmas.List.{length-map}
-use Rattle.commit_protocol.specs.Messages.{Message}
-use Rattle.commit_protocol.specs.Table.{Branch, Key, cut, same_key}
-use Rattle.commit_protocol.specs.World.{undo_all}
-use Rattle.transcript_model.specs.Lines as line
-use Rattle.transcript_model.specs.Lines.{Line}
+use Rattle.emitter_model.specs.commit_protocol.Messages.{Message}
+use Rattle.emitter_model.specs.commit_protocol.Table.{Branch, Key, cut, same_key}
+use Rattle.emitter_model.specs.commit_protocol.World.{undo_all}
+use Rattle.emitter_model.specs.transcript_model.Lines as line
+use Rattle.emitter_model.specs.transcript_model.Lines.{Line}
 use Rattle.vms_model.specs.Transactions.{Abort, SegFail}
 use Rattle.unit_laws.specs.Journal.{RecoveryUnit}
-use Rattle.run_model.specs.World.{Node, Settlement, Shared, acted, next_moment, settlement}
-use Rattle.run_model.specs.Answers.{Row, table_rows, unit_key}
-use Rattle.run_model.specs.Steps.{act_begun, lines_of_rows, node_after_rows, shared_after_rows}
+use Rattle.world_laws.specs.run_model.World.{Node, Settlement, Shared, acted, next_moment, settlement}
+use Rattle.world_laws.specs.run_model.Answers.{Row, table_rows, unit_key}
+use Rattle.world_laws.specs.run_model.Steps.{act_begun, lines_of_rows, node_after_rows, shared_after_rows}
 use Rattle.recovery_units.specs.Calls.{after_undone, settlements_of, told_in, told_settlement, undone_act, undone_next}
 use Rattle.recovery_units.specs.declared.settled.SettledUnit.{SettledUnit}
-use Rattle.node_table.specs.Telling.{IsOfWork, wire_after}
+use Rattle.node_requests.specs.node_table.Telling.{IsOfWork, wire_after}
 use Rattle.dtm_node.specs.Nodes.{undone_line}
 use Rattle.dtm_node.proofs.Performing.{Same, same_itself, same_on}
 

@@ -8,18 +8,18 @@ use Rattle.careful_write.specs.State.{IsIdle}
 use Rattle.change_set.specs.Files.{free_frames}
 use Rattle.file_base.specs.declared.head.FileHead.{FileHead}
 use Rattle.file_base.specs.declared.head.Span.{Span}
-use Rattle.image_appends.specs.declared.side.Side.{Side}
-use Rattle.image_appends.specs.declared.side.Side.TheVariants.{After, Before}
-use Rattle.image_appends.specs.Images.{is_kept, span_of}
-use Rattle.image_room.specs.Room.{AllSettlementsFit, SettlementsFit, images_end}
-use Rattle.image_room.proofs.Rings.{first_in}
+use Rattle.recovery_units.specs.image_appends.declared.side.Side.{Side}
+use Rattle.recovery_units.specs.image_appends.declared.side.Side.TheVariants.{After, Before}
+use Rattle.recovery_units.specs.image_appends.Images.{is_kept, span_of}
+use Rattle.recovery_units.specs.image_room.Room.{AllSettlementsFit, SettlementsFit, images_end}
+use Rattle.recovery_units.proofs.image_room.Rings.{first_in}
 use Rattle.journal_model.specs.Ring.{ring_size}
 use Rattle.recovery_units.specs.State.{HasNoUnit, IsInOrder, UnitsState, owed}
 use Rattle.unit_table.specs.Units.{Ascend, OpenUnit}
 use Rattle.volume.specs.declared.catalog.Catalog.{Catalog}
 use Rattle.volume.specs.Catalogs.{IsSound, TellsCatalog, head_at}
 use Rattle.volume.specs.State.{Holds, VolumeState}
-use Rattle.volume_model.specs.Bars.{is_within, lowest_by, lowest_odd_ring, no_block, odd_ring, odd_span}
+use Rattle.recovery_units.specs.volume_model.Bars.{is_within, lowest_by, lowest_odd_ring, no_block, odd_ring, odd_span}
 use Rattle.dtm_node.specs.Boots.{IsInRing, IsRaised}
 use Rattle.dtm_node.proofs.Raising.{raised, raised_sound}
 

@@ -3,37 +3,37 @@ use Rattle.std.proofs.Common.{◌≡◌, ℕ, suc, ◌+◌, List, [], ◌∷◌,
 use Rattle.std.specs.List.{AllByRecursion}
 use Rattle.block_disk.specs.Disk.{CallLog, DiskState, noted}
 use Rattle.block_disk.specs.declared.disk.DiskCall.TheVariants as disk_call
-use Rattle.commit_protocol.specs.Messages.{LogRecord, Message}
-use Rattle.commit_protocol.specs.Table.{Branch, branches_of, record_key}
-use Rattle.log_laws.specs.Slots.{Slots, committed_of, records_in}
+use Rattle.emitter_model.specs.commit_protocol.Messages.{LogRecord, Message}
+use Rattle.emitter_model.specs.commit_protocol.Table.{Branch, branches_of, record_key}
+use Rattle.world_laws.specs.log_laws.Slots.{Slots, committed_of, records_in}
 use Rattle.tm_types.specs.Parts.{log_record_of}
 use Rattle.emitter_model.specs.Emitting.{Emits, Shown}
-use Rattle.transcript_model.specs.Lines as line
-use Rattle.transcript_model.specs.Lines.{Cause, Line}
-use Rattle.transcript_model.specs.Outside.{Rose}
-use Rattle.script_model.specs.Statements.{Boot}
+use Rattle.emitter_model.specs.transcript_model.Lines as line
+use Rattle.emitter_model.specs.transcript_model.Lines.{Cause, Line}
+use Rattle.emitter_model.specs.transcript_model.Outside.{Rose}
+use Rattle.script_lang.specs.script_model.Statements.{Boot}
 use Rattle.unit_table.specs.Units.{OpenUnit}
 use Rattle.vms_base.specs.declared.protocol.LogRec.{LogRec}
 use Rattle.vms_model.specs.Transactions.{Abort, Commit, Outcome, Reason}
 use Rattle.volume.specs.State.{VolumeState}
-use Rattle.volume_model.specs.Homes.{last_of}
-use Rattle.run_model.specs.Answers.{Restarts, Row, Serves, Task, last_line, last_lines, left_active, prepared_line, prepared_lines, refused_before_reading, task_service}
-use Rattle.run_model.specs.Steps.{NodeStep, count_of, node_after_rows}
-use Rattle.run_model.specs.World.{Boots, ComesUp, Node, Settlement, Shared, acted, powered}
+use Rattle.recovery_units.specs.volume_model.Homes.{last_of}
+use Rattle.world_laws.specs.run_model.Answers.{Restarts, Row, Serves, Task, last_line, last_lines, left_active, prepared_line, prepared_lines, refused_before_reading, task_service}
+use Rattle.world_laws.specs.run_model.Steps.{NodeStep, count_of, node_after_rows}
+use Rattle.world_laws.specs.run_model.World.{Boots, ComesUp, Node, Settlement, Shared, acted, powered}
 use Rattle.world_laws.specs.Nodes as laws
 use Rattle.world_laws.specs.Nodes.{IsKeptNode}
 use Rattle.recovery_units.specs.Calls.{ReopensTo, after_undone}
 use Rattle.recovery_units.specs.State.{AreOfBranches}
 use Rattle.recovery_units.specs.Uses.{IsCounted}
 use Rattle.run_shared.specs.Sharing.{SharedState}
-use Rattle.node_table.specs.Running.{IsBooted}
-use Rattle.node_table.specs.Standing.{Up}
-use Rattle.node_table.specs.Telling.{IsOfWork, wire_after}
+use Rattle.node_requests.specs.node_table.Running.{IsBooted}
+use Rattle.node_requests.specs.node_table.Standing.{Up}
+use Rattle.node_requests.specs.node_table.Telling.{IsOfWork, wire_after}
 use Rattle.dtm_node.specs.Causes.{cause_of}
 use Rattle.dtm_node.specs.Nodes.{last_lines_of, undone_line}
 use Rattle.dtm_node.specs.Opening.{EndsBoot, OpensUp, RaisesTo, ReopensDown, ReopensUp, Rises, RisesHere, answer_up, kept_down, prepared_told, shown_up, used}
-use Rattle.node_standing.specs.Standing.{RepresentsNode, counts_of, disk_of}
-use Rattle.node_standing.specs.Telling.{DiskAdvancesOverCalls}
+use Rattle.node_requests.specs.node_standing.Standing.{RepresentsNode, counts_of, disk_of}
+use Rattle.node_requests.specs.node_standing.Telling.{DiskAdvancesOverCalls}
 use Rattle.node_requests.specs.TheLaws.{TheLaws}
 use Rattle.dtm_node.proofs.BootEnds.{each_boot, early_boot, early_restart, ends_boot, fallen_end, fallen_rose, shares_used}
 use Rattle.dtm_node.proofs.Booting.{boot_broke, boot_risen, risen_stands}

@@ -3,13 +3,13 @@ use Rattle.std.proofs.Common.{◌≡◌, inl, inr, ℕ, List, Bool, true, false,
 use Rattle.volume.specs.declared.catalog.Catalog.{Catalog}
 use Rattle.world_laws.specs.Ordered.{IsJournalInOrder}
 use Rattle.unit_laws.specs.Units.{Map}
-use Rattle.run_model.specs.World.{Node, Act, Call, Durable, AreUnitsOf, ComesUp, Falls, Formats, IsLogInOrder, Sound, Tables, acted, fallen}
-use Rattle.commit_protocol.specs.Table as table
-use Rattle.commit_protocol.specs.Table.{Settles, Undoes}
-use Rattle.directory_model.specs.Files.{AreFiles}
-use Rattle.directory_model.specs.Restoring.{AreLeft, AreRestorable, StandPrepared}
-use Rattle.volume_model.specs.Homes.{HasHome}
-use Rattle.volume_model.specs.Volumes.{HasJournal, HasLog, HasVolume, IsEitherOf, IsLeftBy, LeavesVolume, half_done}
+use Rattle.world_laws.specs.run_model.World.{Node, Act, Call, Durable, AreUnitsOf, ComesUp, Falls, Formats, IsLogInOrder, Sound, Tables, acted, fallen}
+use Rattle.emitter_model.specs.commit_protocol.Table as table
+use Rattle.emitter_model.specs.commit_protocol.Table.{Settles, Undoes}
+use Rattle.node_files.specs.directory_model.Files.{AreFiles}
+use Rattle.node_files.specs.directory_model.Restoring.{AreLeft, AreRestorable, StandPrepared}
+use Rattle.recovery_units.specs.volume_model.Homes.{HasHome}
+use Rattle.recovery_units.specs.volume_model.Volumes.{HasJournal, HasLog, HasVolume, IsEitherOf, IsLeftBy, LeavesVolume, half_done}
 
 -- the parts of a node by which its disk is judged
 pub record SameDisk (m n : Node) : Type 0 where

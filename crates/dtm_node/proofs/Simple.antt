@@ -3,22 +3,22 @@ use Rattle.std.proofs.Common.{◌≡◌, inl, inr, ℕ, List, [], ◌∷◌, Boo
 use Rattle.std.specs.Prelude.{◌||◌}
 use Rattle.block_disk.specs.Disk.{CallLog}
 use Rattle.emitter_model.specs.Emitting.{Emits, Shown}
-use Rattle.transcript_model.specs.Lines as line
-use Rattle.transcript_model.specs.Lines.{Cause}
-use Rattle.commit_protocol.specs.World.{In}
+use Rattle.emitter_model.specs.transcript_model.Lines as line
+use Rattle.emitter_model.specs.transcript_model.Lines.{Cause}
+use Rattle.emitter_model.specs.commit_protocol.World.{In}
 use Rattle.emitter_model.proofs.EmittingLemmas.{emits_nothing}
-use Rattle.script_model.specs.Statements.{Clock, Crash}
-use Rattle.run_model.specs.Operations.{first_of, refused_if}
-use Rattle.run_model.specs.World.{Clocks, Falls, Node, acted}
-use Rattle.run_model.specs.Answers.{Serves, service}
-use Rattle.run_model.specs.Steps.{NodeStep}
+use Rattle.script_lang.specs.script_model.Statements.{Clock, Crash}
+use Rattle.world_laws.specs.run_model.Operations.{first_of, refused_if}
+use Rattle.world_laws.specs.run_model.World.{Clocks, Falls, Node, acted}
+use Rattle.world_laws.specs.run_model.Answers.{Serves, service}
+use Rattle.world_laws.specs.run_model.Steps.{NodeStep}
 use Rattle.recovery_units.specs.Laws.{KeepsNodes}
 use Rattle.run_shared.specs.Sharing.{SharedState}
-use Rattle.node_table.specs.Standing.{IsUp, Up}
-use Rattle.node_standing.specs.Keeping.{PerformsRequest, PerformsTask}
+use Rattle.node_requests.specs.node_table.Standing.{IsUp, Up}
+use Rattle.node_requests.specs.node_standing.Keeping.{PerformsRequest, PerformsTask}
 use Rattle.node_requests.specs.Running.{name_of}
-use Rattle.node_standing.specs.Standing.{IsDown, IsRunning, NodeState, Place, PlaceRepresents, RepresentsNode, counts_of, disk_in, disk_of, is_up}
-use Rattle.node_standing.specs.Telling.{TellsTask, said_shared}
+use Rattle.node_requests.specs.node_standing.Standing.{IsDown, IsRunning, NodeState, Place, PlaceRepresents, RepresentsNode, counts_of, disk_in, disk_of, is_up}
+use Rattle.node_requests.specs.node_standing.Telling.{TellsTask, said_shared}
 use Rattle.said_steps.proofs.Falls.{falls_none}
 use Rattle.dtm_node.proofs.Answered.{refused_answers}
 use Rattle.dtm_node.proofs.Held.{holds_is}

@@ -1,12 +1,12 @@
 -- The ways of a task at a node whose disk is not made to run again.
 use Rattle.std.proofs.Common.{◌≡◌, ℕ, ◌≤◌, List, [], ◌∷◌, ◌++◌, Bool, true, false, Some, None, not, length, take, drop, if◌then◌else◌, refl, ◌∙◌, ap, sym, append-nil}
 use Rattle.std.specs.Prelude.{◌||◌}
-use Rattle.transcript_model.specs.Outside.{Rose}
-use Rattle.transcript_model.specs.Lines as line
-use Rattle.transcript_model.specs.Lines.{Line, Cause}
-use Rattle.run_model.specs.World.{DiskCounts, Lost, Node, Shared, fallen}
-use Rattle.run_model.specs.Answers.{Row, Service, Task, occupies, powers, refused_before_reading, task_service, touches}
-use Rattle.run_model.specs.Steps.{Cut, NodeStep, Whole, WithoutMemory, act_begun, count_of, lines_of_rows, node_after_rows, occupied, rows_if, shared_after_rows}
+use Rattle.emitter_model.specs.transcript_model.Outside.{Rose}
+use Rattle.emitter_model.specs.transcript_model.Lines as line
+use Rattle.emitter_model.specs.transcript_model.Lines.{Line, Cause}
+use Rattle.world_laws.specs.run_model.World.{DiskCounts, Lost, Node, Shared, fallen}
+use Rattle.world_laws.specs.run_model.Answers.{Row, Service, Task, occupies, powers, refused_before_reading, task_service, touches}
+use Rattle.world_laws.specs.run_model.Steps.{Cut, NodeStep, Whole, WithoutMemory, act_begun, count_of, lines_of_rows, node_after_rows, occupied, rows_if, shared_after_rows}
 
 -- Such a task does all in its rows, and its statement goes on where the disk goes down, or ends.
 pub record IsPlain (e : Service) (goes_on : Bool) : Type 0 where

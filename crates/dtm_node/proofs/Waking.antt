@@ -5,16 +5,16 @@ use Rattle.block_disk.specs.Blocks.{SameBut}
 use Rattle.block_disk.specs.Disk.{DiskState, IsPowered, MayLeave}
 use Rattle.careful_write.specs.Content.{content_of}
 use Rattle.careful_write.specs.Load.{fitting}
-use Rattle.transcript_model.specs.Lines as line
-use Rattle.transcript_model.specs.Lines.{Failed}
+use Rattle.emitter_model.specs.transcript_model.Lines as line
+use Rattle.emitter_model.specs.transcript_model.Lines.{Failed}
 use Rattle.unit_laws.specs.Units.{Map}
-use Rattle.run_model.specs.Answers.{Restarts, refused_before_reading, task_service}
-use Rattle.run_model.specs.Operations.{first_of, refused_if}
-use Rattle.run_model.specs.Steps.{Cut, NodeStep}
-use Rattle.run_model.specs.World.{Node, Act, Boots, Clocks, ComesUp, DiskCounts, Falls, Formats, Half, Lost, MayTurnOut, Outturn, Power, Shared, Taken, Volume, Sound, Faulty, Barred, Unknown, aborted_prepared, acted, fallen, is_durable, powered, with_half}
+use Rattle.world_laws.specs.run_model.Answers.{Restarts, refused_before_reading, task_service}
+use Rattle.world_laws.specs.run_model.Operations.{first_of, refused_if}
+use Rattle.world_laws.specs.run_model.Steps.{Cut, NodeStep}
+use Rattle.world_laws.specs.run_model.World.{Node, Act, Boots, Clocks, ComesUp, DiskCounts, Falls, Formats, Half, Lost, MayTurnOut, Outturn, Power, Shared, Taken, Volume, Sound, Faulty, Barred, Unknown, aborted_prepared, acted, fallen, is_durable, powered, with_half}
 use Rattle.vms_model.specs.Ids.{Id}
 use Rattle.world_laws.specs.Nodes.{IsKeptDisk, IsKeptNode, StepsKeepNodes}
-use Rattle.volume_model.specs.Volumes.{HasDisk, IsLeftBy, half_done}
+use Rattle.recovery_units.specs.volume_model.Volumes.{HasDisk, IsLeftBy, half_done}
 use Rattle.dtm_node.specs.Boots.{HasContent}
 use Rattle.dtm_node.specs.Opening.{IsWoken, Wakes}
 use Rattle.dtm_node.proofs.DiskLemmas.{ContentBy, DiskBy}

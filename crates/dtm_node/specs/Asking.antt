@@ -1,15 +1,15 @@
 -- The prepared branches of a node, what they ask, and what a coordinator answers.
 use Rattle.std.specs.Prelude.{List, [], Bool, true, false, Option, None}
 use Rattle.std.specs.Option.{option_and_then}
-use Rattle.commit_protocol.specs.Messages.{Message}
-use Rattle.commit_protocol.specs.Rows.{Got, row}
-use Rattle.commit_protocol.specs.Table.{find_serial}
-use Rattle.run_model.specs.Statements.{answer_in}
+use Rattle.emitter_model.specs.commit_protocol.Messages.{Message}
+use Rattle.emitter_model.specs.commit_protocol.Rows.{Got, row}
+use Rattle.emitter_model.specs.commit_protocol.Table.{find_serial}
+use Rattle.world_laws.specs.run_model.Statements.{answer_in}
 use Rattle.statement_steps.specs.Settling.{question_of}
 use Rattle.vms_model.specs.Ids.{Id}
 use Rattle.dtm_node.specs.declared.node.Flow.{Flow}
 use Rattle.dtm_node.specs.declared.node.Flow.TheVariants as flow
-use Rattle.node_standing.specs.Standing.{IsDown, IsRunning, Place}
+use Rattle.node_requests.specs.node_standing.Standing.{IsDown, IsRunning, Place}
 
 -- whether a statement was ended and answered
 abbrev pub is_over : Flow → Bool

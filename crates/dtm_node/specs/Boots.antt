@@ -6,27 +6,27 @@ use Rattle.careful_write.specs.Content.{content_of}
 use Rattle.careful_write.specs.Load.{fitting}
 use Rattle.careful_write.specs.State.{StoreState}
 use Rattle.file_base.specs.declared.head.Span.{Span}
-use Rattle.image_room.specs.Room.{images_end}
+use Rattle.recovery_units.specs.image_room.Room.{images_end}
 use Rattle.journal_model.specs.Ring.{ring_size}
 use Rattle.transcript.specs.Forms.{line_of, HasTime}
-use Rattle.transcript_model.specs.Lines.{Line}
-use Rattle.transcript_model.specs.Outside.{Rose}
+use Rattle.emitter_model.specs.transcript_model.Lines.{Line}
+use Rattle.emitter_model.specs.transcript_model.Outside.{Rose}
 use Rattle.volume.specs.Conditions.{IsFirstFinding}
 use Rattle.volume.specs.State.{VolumeState}
-use Rattle.run_model.specs.World.{Barred, Boots, Faulty, Node, Sound, Unknown, acted, fallen}
-use Rattle.run_model.specs.Answers.{bootable}
-use Rattle.run_model.specs.Steps.{count_of}
-use Rattle.volume_model.specs.Bars.{first_bar}
-use Rattle.volume_model.specs.Volumes.{HasBarred, HasDisk, IsLeftBy, LeavesVolume}
+use Rattle.world_laws.specs.run_model.World.{Barred, Boots, Faulty, Node, Sound, Unknown, acted, fallen}
+use Rattle.world_laws.specs.run_model.Answers.{bootable}
+use Rattle.world_laws.specs.run_model.Steps.{count_of}
+use Rattle.recovery_units.specs.volume_model.Bars.{first_bar}
+use Rattle.recovery_units.specs.volume_model.Volumes.{HasBarred, HasDisk, IsLeftBy, LeavesVolume}
 use Rattle.world_laws.specs.Nodes.{IsKeptDisk}
 use Rattle.recovery_units.specs.State.{HasNoUnit, IsInOrder, UnitsState}
 use Rattle.recovery_units.specs.Calls.{IsRestarting}
 use Rattle.recovery_units.specs.Uses.{IsCounted}
 use Rattle.dtm_node.specs.declared.boot.Booted.{Booted}
 use Rattle.dtm_node.specs.declared.boot.Booted.TheVariants as booted
-use Rattle.node_standing.specs.Standing.{counts_of}
+use Rattle.node_requests.specs.node_standing.Standing.{counts_of}
 use Rattle.dtm_node.specs.Causes.{cause_of}
-use Rattle.node_standing.specs.Holding.{HoldsAs}
+use Rattle.node_requests.specs.node_standing.Holding.{HoldsAs}
 use Rattle.said_steps.specs.Calls.{is_boot_refusal}
 
 abbrev pub disk_booted : {D : Type 0} → (D → DiskState) → Booted D → DiskState

@@ -1,18 +1,18 @@
 -- How an INIT goes at a node that is down.
 use Rattle.std.specs.Prelude.{◌≡◌, ℕ, List, [], ◌∷◌, ◌++◌, Bool, true, false}
 use Rattle.block_disk.specs.Disk.{DiskState}
-use Rattle.script_model.specs.Statements.{Init}
+use Rattle.script_lang.specs.script_model.Statements.{Init}
 use Rattle.emitter_model.specs.Emitting.{Emits, Shown}
-use Rattle.transcript_model.specs.Lines as line
-use Rattle.transcript_model.specs.Lines.{Line}
-use Rattle.run_model.specs.Answers.{Serves}
+use Rattle.emitter_model.specs.transcript_model.Lines as line
+use Rattle.emitter_model.specs.transcript_model.Lines.{Line}
+use Rattle.world_laws.specs.run_model.Answers.{Serves}
 use Rattle.run_shared.specs.Sharing.{SharedState}
 use Rattle.dtm_node.specs.declared.node.Formatted.{Formatted}
 use Rattle.dtm_node.specs.declared.node.Formatted.TheVariants as formatted
 use Rattle.dtm_node.specs.Causes.{cause_of}
-use Rattle.node_standing.specs.Keeping.{PerformsTask}
-use Rattle.node_standing.specs.Standing.{IsDown, IsRunning, NodeState, Place}
-use Rattle.node_standing.specs.Telling.{TellsTask}
+use Rattle.node_requests.specs.node_standing.Keeping.{PerformsTask}
+use Rattle.node_requests.specs.node_standing.Standing.{IsDown, IsRunning, NodeState, Place}
+use Rattle.node_requests.specs.node_standing.Telling.{TellsTask}
 
 -- what it shows and is answered
 abbrev pub init_lines : List ℕ → Formatted → List Line

@@ -4,23 +4,23 @@ use Rattle.block_disk.specs.Disk.{DiskState, armed}
 use Rattle.block_disk.specs.Sizes.{greatest_disk_size, least_disk_size}
 use Rattle.vms_model.specs.Limits.{moment_limit, statement_bound}
 use Rattle.change_set.specs.Files.{free_frames}
-use Rattle.transcript_model.specs.Lines.{Aborted, Line}
+use Rattle.emitter_model.specs.transcript_model.Lines.{Aborted, Line}
 use Rattle.vms_base.specs.Ids.{serial_of, tid_of}
 use Rattle.vms_model.specs.Transactions.{SegFail}
 use Rattle.recovery_units.specs.declared.settled.SettledUnit.{SettledUnit}
 use Rattle.volume_format.specs.declared.home.Home.{Home}
-use Rattle.volume_model.specs.Homes.{last_of}
-use Rattle.run_model.specs.Answers.{last_line}
+use Rattle.recovery_units.specs.volume_model.Homes.{last_of}
+use Rattle.world_laws.specs.run_model.Answers.{last_line}
 use Rattle.recovery_units.specs.State.{HasNoUnit, UnitsState}
-use Rattle.node_table.specs.Code.{up_of}
-use Rattle.node_table.specs.Standing.{IsUp}
+use Rattle.node_requests.specs.node_table.Code.{up_of}
+use Rattle.node_requests.specs.node_table.Standing.{IsUp}
 use Rattle.run_shared.specs.Sharing.{SharedState}
 use Rattle.dtm_node.specs.declared.node.Node.{Node}
 use Rattle.dtm_node.specs.declared.node.Parts.{Parts}
 use Rattle.dtm_node.specs.declared.node.Place as code
 use Rattle.dtm_node.specs.declared.node.Place.TheVariants as code_place
 use Rattle.node_requests.specs.Running.{HasGrown}
-use Rattle.node_standing.specs.Standing.{IsDown, IsRunning, NodeState, Place, disk_in, disk_of}
+use Rattle.node_requests.specs.node_standing.Standing.{IsDown, IsRunning, NodeState, Place, disk_in, disk_of}
 
 -- what stands over the disk
 abbrev pub place_of : {D U : Type 0} → (D → DiskState) → (U → UnitsState) → code.Place D U → Place

@@ -6,40 +6,40 @@ use Rattle.block_disk.specs.declared.disk.DiskCall.TheVariants as disk_call
 use Rattle.block_disk.specs.Sizes.{greatest_disk_size, least_disk_size}
 use Rattle.careful_write.specs.declared.down.Down.{Down}
 use Rattle.change_set.specs.Files.{free_frames}
-use Rattle.commit_protocol.specs.Messages.{Message}
-use Rattle.commit_protocol.specs.Table.{branches_of}
-use Rattle.log_laws.specs.Slots.{committed_of, records_in}
+use Rattle.emitter_model.specs.commit_protocol.Messages.{Message}
+use Rattle.emitter_model.specs.commit_protocol.Table.{branches_of}
+use Rattle.world_laws.specs.log_laws.Slots.{committed_of, records_in}
 use Rattle.tm_types.specs.Parts.{log_record_of}
-use Rattle.script_model.specs.Statements as said
+use Rattle.script_lang.specs.script_model.Statements as said
 use Rattle.transcript.specs.Forms.{HasTime, line_of}
 use Rattle.emitter_model.specs.Emitting.{Emits, Shown}
-use Rattle.transcript_model.specs.Lines as line
-use Rattle.transcript_model.specs.Lines.{Line}
+use Rattle.emitter_model.specs.transcript_model.Lines as line
+use Rattle.emitter_model.specs.transcript_model.Lines.{Line}
 use Rattle.vms_base.specs.Ids.{serial_of, tid_of}
 use Rattle.vms_base.specs.declared.protocol.LogRec.{LogRec}
 use Rattle.volume.specs.State.{VolumeState}
-use Rattle.run_model.specs.Answers.{Restarts, Serves, Task, bootable}
-use Rattle.run_model.specs.Steps.{NodeStep}
-use Rattle.run_model.specs.World as world
-use Rattle.run_model.specs.World.{Boots, MayTurnOut, Node, Outturn, Power, acted, powered}
+use Rattle.world_laws.specs.run_model.Answers.{Restarts, Serves, Task, bootable}
+use Rattle.world_laws.specs.run_model.Steps.{NodeStep}
+use Rattle.world_laws.specs.run_model.World as world
+use Rattle.world_laws.specs.run_model.World.{Boots, MayTurnOut, Node, Outturn, Power, acted, powered}
 use Rattle.world_laws.specs.Nodes.{IsKeptNode}
 use Rattle.recovery_units.specs.Calls.{BreaksAfter, IsRestarting, ReopensTo}
 use Rattle.recovery_units.specs.State.{AreOfBranches, HasNoUnit}
 use Rattle.recovery_units.specs.Told.{ReopenedTold}
 use Rattle.recovery_units.specs.Uses.{Caused, DiskAdvances}
 use Rattle.run_shared.specs.Sharing.{IsShared, SharedState}
-use Rattle.node_table.specs.Running.{IsBooted}
-use Rattle.node_table.specs.Standing.{IsUp, Up, UpRepresents}
-use Rattle.node_table.specs.Telling.{IsOfWork, wire_after}
+use Rattle.node_requests.specs.node_table.Running.{IsBooted}
+use Rattle.node_requests.specs.node_table.Standing.{IsUp, Up, UpRepresents}
+use Rattle.node_requests.specs.node_table.Telling.{IsOfWork, wire_after}
 use Rattle.dtm_node.specs.declared.node.Opened.{Opened}
 use Rattle.dtm_node.specs.declared.node.Opened.TheVariants as opened
 use Rattle.dtm_node.specs.Boots.{IsAwake, IsRaised}
 use Rattle.dtm_node.specs.Causes.{cause_of}
-use Rattle.node_standing.specs.Keeping.{IsPromised, PerformsTask}
+use Rattle.node_requests.specs.node_standing.Keeping.{IsPromised, PerformsTask}
 use Rattle.dtm_node.specs.Nodes.{last_lines_of, undone_line}
 use Rattle.node_requests.specs.Running.{HasGrown}
-use Rattle.node_standing.specs.Standing.{IsDown, IsRunning, NodeState, Place, RepresentsNode, counts_of, disk_in, disk_of, is_up}
-use Rattle.node_standing.specs.Telling.{DiskAdvancesOverCalls, TellsTask}
+use Rattle.node_requests.specs.node_standing.Standing.{IsDown, IsRunning, NodeState, Place, RepresentsNode, counts_of, disk_in, disk_of, is_up}
+use Rattle.node_requests.specs.node_standing.Telling.{DiskAdvancesOverCalls, TellsTask}
 
 -- whether a task boots a node
 abbrev pub boots_node : Task → Bool

@@ -6,12 +6,12 @@ ghost use Rattle.careful_write.specs.State.{IsIdle};
 ghost use Rattle.change_set.specs.Files.{free_frames};
 ghost use Rattle.volume.specs.Catalogs.{IsSound};
 ghost use Rattle.volume.specs.State.{Holds};
-ghost use Rattle.image_room.specs.Room.{images_end};
-ghost use Rattle.volume_model.specs.Bars.{first_bar, is_in_ring as is_in_ring_said, is_within as is_within_said, lowest_odd_ring, lowest_odd_root, no_block, odd_ring as odd_ring_said, odd_root as odd_root_said, odd_span as odd_span_said};
+ghost use Rattle.recovery_units.specs.image_room.Room.{images_end};
+ghost use Rattle.recovery_units.specs.volume_model.Bars.{first_bar, is_in_ring as is_in_ring_said, is_within as is_within_said, lowest_odd_ring, lowest_odd_root, no_block, odd_ring as odd_ring_said, odd_root as odd_root_said, odd_span as odd_span_said};
 ghost use Rattle.transcript.specs.Forms.{HasTime, line_of};
 ghost use Rattle.std.specs.Option.{IfSome, IfNone};
-ghost use Rattle.run_model.specs.Answers.{bar_line};
-ghost use Rattle.run_model.specs.World.{Node as NodeSaid};
+ghost use Rattle.world_laws.specs.run_model.Answers.{bar_line};
+ghost use Rattle.world_laws.specs.run_model.World.{Node as NodeSaid};
 ghost use Rattle.dtm_node.specs.Boots.{BootsTo, IsBootRefusal, IsBooted, IsMounted, IsOpened, IsAwake, IsInRing, IsWide, disk_booted, pool_booted};
 ghost use Rattle.recovery_units.specs.Uses.{DiskAdvances};
 

@@ -5,4 +5,5 @@ mod boot;
 mod node;
 
 pub use node::{Flow, Node};
+pub use recovery_units::RecoveryUnits;
 pub use run_shared::Shared;

@@ -8,11 +8,11 @@ use Rattle.script_model.specs.Grammar.{reading}
 use Rattle.commit_protocol.specs.Messages.{Name}
 use Rattle.commit_protocol.specs.Opening.{Image, IsAgreeing, Opening, new_volumes, no_image}
 use Rattle.commit_protocol.proofs.NewVolumes.{new_agree}
-use Rattle.run_model.specs.World.{Node}
-use Rattle.run_model.specs.Transcript.{Entry}
-use Rattle.run_agreement.specs.Laws.{image_after_init, image_here, image_told, opening_told, volume_image, with_image}
+use Rattle.world_laws.specs.run_model.World.{Node}
+use Rattle.world_laws.specs.run_model.Transcript.{Entry}
+use Rattle.statement_steps.specs.run_agreement.Laws.{image_after_init, image_here, image_told, opening_told, volume_image, with_image}
 use Rattle.run_laws.specs.Anew.{AreKnownOrAnew, IsMadeAnew, IsMadeFirst, IsMadeIn, Makes}
-use Rattle.day_model.specs.Readings.{makes_volume}
+use Rattle.day_script.specs.day_model.Readings.{makes_volume}
 use Rattle.day_run.specs.Serving.{BothMade, MakesNone}
 
 abbrev A : List ℕ

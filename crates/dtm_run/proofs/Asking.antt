@@ -4,7 +4,7 @@ use Rattle.std.specs.Str.{bytes_eq}
 use Rattle.std.proofs.lemmas.Slice.Eq.{bytes_eq-Decides}
 use Rattle.script_model.specs.Command.{are_disks_of, is_run_form}
 use Rattle.script_model.specs.LineWords.{is_empty}
-use Rattle.day_model.specs.Command.{Asked, are_a_and_b, asked_by, day_asked, plain_number}
+use Rattle.day_script.specs.day_model.Command.{Asked, are_a_and_b, asked_by, day_asked, plain_number}
 use Rattle.dtm_run.specs.Headline.{is_command}
 
 first_true : (a b : Bool) → (a && b) ≡ true → a ≡ true

@@ -6,20 +6,20 @@ use Rattle.emitter_model.specs.Emitting.{Adds, Puts, Shown}
 use Rattle.emitter_model.specs.Tally.{Tally}
 use Rattle.script_model.specs.Statements.{Bad, Blank, Reading, Says}
 use Rattle.script_model.specs.Grammar.{reading}
-use Rattle.run_model.specs.World.{Node, opened}
-use Rattle.run_model.specs.Transcript.{AreOpening, Entry}
+use Rattle.world_laws.specs.run_model.World.{Node, opened}
+use Rattle.world_laws.specs.run_model.Transcript.{AreOpening, Entry}
 use Rattle.run_laws.specs.Laws.{AgreedPromisesAreKept, PromisesAreKept}
 use Rattle.manager_laws.specs.Promises.{ManagerPromisesHold}
-use Rattle.run_said.specs.Said.{Said, said_of}
-use Rattle.run_shared.specs.Sharing.{SharedState}
-use Rattle.node_standing.specs.Standing.{NodeState, counts_of}
-use Rattle.node_standing.specs.Telling.{DiskAdvancesOverCalls}
-use Rattle.run_nodes.specs.Calls.{DisksFollowLine}
-use Rattle.run_nodes.specs.Names.{AreApart}
-use Rattle.run_nodes.proofs.Telling.{passes_same}
-use Rattle.day_model.specs.Command.{Asked}
-use Rattle.day_model.specs.Pieces.{day, dumps}
-use Rattle.day_model.specs.Days.{DayEnds, answer_text, summary, tally_of}
+use Rattle.run_laws.specs.run_said.Said.{Said, said_of}
+use Rattle.day_run.specs.run_shared.Sharing.{SharedState}
+use Rattle.day_run.specs.node_standing.Standing.{NodeState, counts_of}
+use Rattle.day_run.specs.node_standing.Telling.{DiskAdvancesOverCalls}
+use Rattle.day_run.specs.run_nodes.Calls.{DisksFollowLine}
+use Rattle.day_run.specs.run_nodes.Names.{AreApart}
+use Rattle.day_run.proofs.run_nodes.Telling.{passes_same}
+use Rattle.day_script.specs.day_model.Command.{Asked}
+use Rattle.day_script.specs.day_model.Pieces.{day, dumps}
+use Rattle.day_script.specs.day_model.Days.{DayEnds, answer_text, summary, tally_of}
 use Rattle.day_tally.specs.Ends.{end_text}
 use Rattle.day_tally.specs.declared.counts.Ended.{Ended}
 use Rattle.day_tally.specs.declared.counts.Ended.TheVariants as ended

@@ -11,30 +11,30 @@ use Rattle.script_model.specs.Grammar.{reading}
 use Rattle.script_lang.specs.declared.literals.Literals.{Literals}
 use Rattle.script_lang.specs.declared.statement.Statement as code
 use Rattle.script_lang.specs.Statements.{reading_of, statement_of}
-use Rattle.run_model.specs.World.{World, Node}
-use Rattle.run_model.specs.Transcript as model
-use Rattle.run_model.specs.Transcript.{AreOpening, EndsTooLong, Entry}
-use Rattle.run_said.specs.Said.{nothing_said}
-use Rattle.run_shared.specs.Sharing.{SharedState}
+use Rattle.world_laws.specs.run_model.World.{World, Node}
+use Rattle.world_laws.specs.run_model.Transcript as model
+use Rattle.world_laws.specs.run_model.Transcript.{AreOpening, EndsTooLong, Entry}
+use Rattle.run_laws.specs.run_said.Said.{nothing_said}
+use Rattle.day_run.specs.run_shared.Sharing.{SharedState}
 use Rattle.recovery_units.specs.State.{UnitsState}
-use Rattle.node_table.specs.Code.{up_of}
-use Rattle.node_table.specs.Standing.{IsUp, Up, UpRepresents}
-use Rattle.dtm_node.specs.declared.node.Node as node
-use Rattle.dtm_node.specs.declared.node.Place as place
-use Rattle.dtm_node.specs.declared.node.Place.TheVariants as at
-use Rattle.dtm_node.specs.Nodes.{IsPlaceOf, place_of}
-use Rattle.node_standing.specs.Standing.{NodeState, PlaceRepresents, disk_in, noted_all}
-use Rattle.run_nodes.specs.Held.{AreNodesIn}
-use Rattle.run_nodes.specs.Together.{StandAll, StandsTogether, disks_of, said_together}
-use Rattle.run_nodes.specs.Told.{kept_names}
-use Rattle.run_nodes.proofs.Entries.{kept_in}
+use Rattle.day_run.specs.node_table.Code.{up_of}
+use Rattle.day_run.specs.node_table.Standing.{IsUp, Up, UpRepresents}
+use Rattle.day_run.specs.dtm_node.declared.node.Node as node
+use Rattle.day_run.specs.dtm_node.declared.node.Place as place
+use Rattle.day_run.specs.dtm_node.declared.node.Place.TheVariants as at
+use Rattle.day_run.specs.dtm_node.Nodes.{IsPlaceOf, place_of}
+use Rattle.day_run.specs.node_standing.Standing.{NodeState, PlaceRepresents, disk_in, noted_all}
+use Rattle.day_run.specs.run_nodes.Held.{AreNodesIn}
+use Rattle.day_run.specs.run_nodes.Together.{StandAll, StandsTogether, disks_of, said_together}
+use Rattle.day_run.specs.run_nodes.Told.{kept_names}
+use Rattle.day_run.proofs.run_nodes.Entries.{kept_in}
 use Rattle.dtm_run.specs.Headline.{IsVolumeOf, Leaves, LeavesNode, LeaveNodes, DisksRepresent, exit_of}
 use Rattle.dtm_run.specs.Leading.{Beginning, RunsFrom}
 use Rattle.dtm_run.specs.Taking.{AreAtZero}
 use Rattle.dtm_run.specs.declared.top.Exit.{Exit}
 use Rattle.dtm_run.specs.declared.top.Exit.TheVariants as exit
 use Rattle.dtm_run.proofs.Entries.{AreRead, EndsWith, ends_bad, ends_cut, ends_done, ends_read_fault, ends_too_long, next_bad, next_too_long, next_too_many, read_first, read_nothing, read_shown}
-use Rattle.dtm_node.proofs.DiskLemmas.{idle_leaves}
+use Rattle.day_run.proofs.dtm_node.DiskLemmas.{idle_leaves}
 use Rattle.dtm_run.proofs.Leading.{Next, Way, logs_of, not_both, runs_from, way_blank, way_first}
 
 -- What the nodes stand for is what the run leaves.

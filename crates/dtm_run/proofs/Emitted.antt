@@ -5,7 +5,7 @@ use Rattle.transcript_model.specs.Outside.{behind}
 use Rattle.transcript_model.specs.Lines.{Line, lines_text}
 use Rattle.transcript_model.specs.Script.{ScriptLine}
 use Rattle.emitter_model.specs.Emitting.{Adds, Emits, Shown}
-use Rattle.run_model.specs.Transcript.{Continues, Entry, lines_then}
+use Rattle.world_laws.specs.run_model.Transcript.{Continues, Entry, lines_then}
 
 -- What one emitted text adds: all of it, or where a write failed a front of it.
 

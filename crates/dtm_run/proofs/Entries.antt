@@ -9,7 +9,7 @@ use Rattle.emitter_model.specs.Emitting.{Shown, Emits}
 use Rattle.transcript_model.proofs.OutsideLemmas.{behind_on, behind_none}
 use Rattle.script_model.specs.Statements.{Bad}
 use Rattle.script_model.specs.Grammar.{reading}
-use Rattle.run_model.specs.Transcript.{Entry, number_after, size_before, text_of, lines_then, Exit, Done, BadLine, TooLong, ReadFault, WriteFault, Memory, IsInLimits, AreInLimits, BeginsBad, EndsTooLong, CutIn, Ends}
+use Rattle.world_laws.specs.run_model.Transcript.{Entry, number_after, size_before, text_of, lines_then, Exit, Done, BadLine, TooLong, ReadFault, WriteFault, Memory, IsInLimits, AreInLimits, BeginsBad, EndsTooLong, CutIn, Ends}
 use Rattle.dtm_run.proofs.Emitted.{IsCutFrom, emitted_whole, emitted_cut, told_at_first, told_next, continues, anything}
 
 begins : (P : List ScriptLine → Type 0) (ahead later : Option (List ScriptLine)) (source : ScriptLine) → ahead ≡ option_map (λ more. source ∷ more) later → ((more : List ScriptLine) → P (source ∷ more)) → IfSome ahead P

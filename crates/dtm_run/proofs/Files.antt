@@ -5,15 +5,15 @@ use Rattle.std.specs.List.{AllByRecursion}
 use Rattle.file_base.specs.declared.head.FileHead.{FileHead}
 use Rattle.file_base.specs.declared.head.Organization.{Organization as Kept}
 use Rattle.file_base.specs.declared.head.Organization.TheVariants as kept
-use Rattle.record_files.specs.Any.{map_by, map_of}
+use Rattle.directory_model.specs.record_files.Any.{map_by, map_of}
 use Rattle.vms_model.specs.Keys.{End, Number, Text}
-use Rattle.recovery_model.specs.Journal as image
-use Rattle.recovery_model.specs.File.{Save, all_of}
-use Rattle.recovery_model.specs.Opening.{past_of}
-use Rattle.file_images.specs.Files.{HasSave}
-use Rattle.file_images.specs.Images.{AreOf, IsOf}
-use Rattle.save_laws.specs.Saves.{save_head}
-use Rattle.run_model.specs.World.{AreResting, Carried, File, HasPlainEnd, HavePlainEnds, IsPlainCarried, IsPlainEntry, KeepAllImages, KeepsImages, Node}
+use Rattle.world_laws.specs.recovery_model.Journal as image
+use Rattle.world_laws.specs.recovery_model.File.{Save, all_of}
+use Rattle.world_laws.specs.recovery_model.Opening.{past_of}
+use Rattle.directory_model.specs.file_images.Files.{HasSave}
+use Rattle.directory_model.specs.file_images.Images.{AreOf, IsOf}
+use Rattle.directory_model.specs.save_laws.Saves.{save_head}
+use Rattle.world_laws.specs.run_model.World.{AreResting, Carried, File, HasPlainEnd, HavePlainEnds, IsPlainCarried, IsPlainEntry, KeepAllImages, KeepsImages, Node}
 use Rattle.directory_model.specs.Files.{AreFiles, IsCarried, IsFile, IsPlace, file_at, head_at, organized_by, layout_of}
 use Rattle.directory_model.specs.Laws.{ReadsFiles}
 use Rattle.dtm_run.specs.Openings.{AreLaidOut, HasLayout}

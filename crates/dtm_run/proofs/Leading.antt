@@ -13,26 +13,26 @@ use Rattle.transcript_model.specs.Script.{ScriptLine}
 use Rattle.emitter_model.specs.Emitting.{Shown, Emits}
 use Rattle.script_model.specs.Statements.{Statement, At, Deliver, LinkDown, Settle, Request, Boot, Blank, Says}
 use Rattle.script_model.specs.Grammar.{reading}
-use Rattle.run_agreement.specs.Laws.{NamesApart}
-use Rattle.run_model.specs.World.{World, Node, Label, Volume, Sound, Faulty, Barred, Unknown, find_node, opened}
-use Rattle.run_model.specs.Transcript.{AreInLimits, AreOpening, Ends, Entry, Legal, Turn}
-use Rattle.run_model.proofs.NodeLists.{some_is}
-use Rattle.run_said.specs.Said.{Said, SaidLabel, answer_said, line_said, lines_said, nothing_said, request_said, said_here}
-use Rattle.run_shared.specs.Sharing.{SharedState}
+use Rattle.statement_steps.specs.run_agreement.Laws.{NamesApart}
+use Rattle.world_laws.specs.run_model.World.{World, Node, Label, Volume, Sound, Faulty, Barred, Unknown, find_node, opened}
+use Rattle.world_laws.specs.run_model.Transcript.{AreInLimits, AreOpening, Ends, Entry, Legal, Turn}
+use Rattle.world_laws.proofs.run_model.NodeLists.{some_is}
+use Rattle.run_laws.specs.run_said.Said.{Said, SaidLabel, answer_said, line_said, lines_said, nothing_said, request_said, said_here}
+use Rattle.day_run.specs.run_shared.Sharing.{SharedState}
 use Rattle.world_laws.specs.Nodes.{NodesAreKept}
-use Rattle.node_standing.specs.Standing.{NodeState, Place, IsDown, IsRunning, PlaceRepresents, counts_of, disk_in, is_up, noted_all}
-use Rattle.node_standing.specs.Telling.{said_label, said_node}
+use Rattle.day_run.specs.node_standing.Standing.{NodeState, Place, IsDown, IsRunning, PlaceRepresents, counts_of, disk_in, is_up, noted_all}
+use Rattle.day_run.specs.node_standing.Telling.{said_label, said_node}
 use Rattle.statement_steps.specs.Doing.{AllKept}
 use Rattle.statement_steps.proofs.Keeping.{all_kept}
 use Rattle.statement_steps.proofs.Places.{find_at}
-use Rattle.run_nodes.specs.Calls.{DisksFollowLine, LineFollows}
-use Rattle.run_nodes.specs.Held.{clocks_of}
-use Rattle.run_nodes.specs.Names.{AreApart}
-use Rattle.run_nodes.specs.Together.{AnswersTogether, ServesTogether, StandAll, StandsTogether, disks_of, said_together}
-use Rattle.run_nodes.specs.Told.{kept_names}
-use Rattle.run_nodes.specs.Untold.{BootsUnknown, IsUntold}
-use Rattle.run_nodes.proofs.Places.{world_apart}
-use Rattle.run_nodes.proofs.Telling.{passes_on, passes_same}
+use Rattle.day_run.specs.run_nodes.Calls.{DisksFollowLine, LineFollows}
+use Rattle.day_run.specs.run_nodes.Held.{clocks_of}
+use Rattle.day_run.specs.run_nodes.Names.{AreApart}
+use Rattle.day_run.specs.run_nodes.Together.{AnswersTogether, ServesTogether, StandAll, StandsTogether, disks_of, said_together}
+use Rattle.day_run.specs.run_nodes.Told.{kept_names}
+use Rattle.day_run.specs.run_nodes.Untold.{BootsUnknown, IsUntold}
+use Rattle.day_run.proofs.run_nodes.Places.{world_apart}
+use Rattle.day_run.proofs.run_nodes.Telling.{passes_on, passes_same}
 use Rattle.dtm_run.specs.Headline.{AllGo, DiskRepresents, DisksRepresent, Leaves, exit_of, is_known}
 use Rattle.dtm_run.specs.Leading.{Beginning, Begins, IsUnknown, KeepKnown, Leads, LeadsNowhere, LeavesOver, RunsFrom, are_resting, are_unset, is_unused, is_unused_behind, said_node_of, said_world, world_at}
 use Rattle.dtm_run.specs.Taking.{AreAtZero}

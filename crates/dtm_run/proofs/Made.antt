@@ -10,22 +10,22 @@ use Rattle.transcript_model.specs.Lines.{Line, Normal}
 use Rattle.transcript_model.specs.Script.{lines_of}
 use Rattle.script_model.specs.Statements.{At, Boot, Deliver, Init, LinkDown, Request, Says, Settle, Statement}
 use Rattle.script_model.specs.Grammar.{reading}
-use Rattle.run_agreement.specs.Seen.{IsKnown}
-use Rattle.run_model.specs.World.{Node, Shared, Unknown, World, find_node}
-use Rattle.run_model.specs.Answers.{Serves, is_volume_form, refused_before_reading, task_service}
-use Rattle.run_model.specs.Operations.{first_of, refused_if}
-use Rattle.run_model.specs.Steps as task
-use Rattle.run_model.specs.Steps.{Choice, Cut, Unpowered, Whole, WithoutMemory, ready_node, task_effect}
-use Rattle.run_model.specs.Statements.{Begins, Phases, Step, begun_with, phases_of, refused_at_once, stops_at}
-use Rattle.run_model.specs.Transcript.{AreInLimits, Ends, Entry, Legal, Turn}
-use Rattle.run_model.proofs.NodeLists.{some_is}
-use Rattle.run_model.proofs.PartLemmas.{turn}
+use Rattle.statement_steps.specs.run_agreement.Seen.{IsKnown}
+use Rattle.world_laws.specs.run_model.World.{Node, Shared, Unknown, World, find_node}
+use Rattle.world_laws.specs.run_model.Answers.{Serves, is_volume_form, refused_before_reading, task_service}
+use Rattle.world_laws.specs.run_model.Operations.{first_of, refused_if}
+use Rattle.world_laws.specs.run_model.Steps as task
+use Rattle.world_laws.specs.run_model.Steps.{Choice, Cut, Unpowered, Whole, WithoutMemory, ready_node, task_effect}
+use Rattle.world_laws.specs.run_model.Statements.{Begins, Phases, Step, begun_with, phases_of, refused_at_once, stops_at}
+use Rattle.world_laws.specs.run_model.Transcript.{AreInLimits, Ends, Entry, Legal, Turn}
+use Rattle.world_laws.proofs.run_model.NodeLists.{some_is}
+use Rattle.world_laws.proofs.run_model.PartLemmas.{turn}
 use Rattle.run_laws.specs.Anew.{IsMadeFirst, Makes}
 use Rattle.run_laws.specs.Promises.{KeptPromises}
 use Rattle.manager_laws.specs.Promises.{ManagerPromises}
 use Rattle.recovery_runs.specs.Promises.{RecoveryPromises}
 use Rattle.statement_steps.proofs.Stepping.{request_missing, request_there}
-use Rattle.run_nodes.specs.Untold.{BootsUnknown, IsUntold}
+use Rattle.day_run.specs.run_nodes.Untold.{BootsUnknown, IsUntold}
 use Rattle.world_laws.proofs.Induction.{acts_name}
 use Rattle.dtm_run.specs.Headline.{KeepsAgreed, Leaves, WholeRun, exit_of, is_known}
 use Rattle.dtm_run.specs.Leading.{AreKnown, AreMadeFirst, Beginning, IsUnknown, KnownRunsAreWhole, Leads, LeadsNowhere, LeavesOver, MadeRunsAreWhole, RunOver, world_at}

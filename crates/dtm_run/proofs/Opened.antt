@@ -5,10 +5,10 @@ use Rattle.careful_write.specs.Content.{content_of}
 use Rattle.careful_write.specs.Load.{fitting}
 use Rattle.careful_write.proofs.GroupParts.{stop_reading}
 use Rattle.unit_laws.specs.Journal.{empty_journal}
-use Rattle.run_model.specs.World.{Durable, Node, IsOpening, Volume, Unknown, nothing_volatile}
+use Rattle.world_laws.specs.run_model.World.{Durable, Node, IsOpening, Volume, Unknown, nothing_volatile}
 use Rattle.recovery_units.specs.Uses.{IsCounted}
-use Rattle.dtm_node.specs.Boots.{AllHave}
-use Rattle.dtm_node.proofs.DiskLemmas.{as_it_was}
+use Rattle.day_run.specs.dtm_node.Boots.{AllHave}
+use Rattle.day_run.proofs.dtm_node.DiskLemmas.{as_it_was}
 use Rattle.dtm_run.specs.Headline.{DiskRepresents}
 
 -- each image of a disk on which nothing is pending is what it reads as

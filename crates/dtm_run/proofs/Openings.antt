@@ -3,7 +3,7 @@ use Rattle.std.proofs.Common.{◌≡◌, ◌∙◌, ⊎_elim, ℕ, zero, suc, Li
 use Rattle.std.specs.Str.{bytes_eq}
 use Rattle.file_base.specs.declared.head.FileHead.{FileHead}
 use Rattle.vms_model.specs.Ids.{Id}
-use Rattle.recovery_model.specs.Opening.{IsOpening as IsTellingOpening, as_found}
+use Rattle.world_laws.specs.recovery_model.Opening.{IsOpening as IsTellingOpening, as_found}
 use Rattle.world_laws.specs.Running.{AllFound}
 use Rattle.directory_model.specs.Files.{IsPlace, file_at, head_at}
 use Rattle.block_disk.specs.Disk.{DiskState}
@@ -13,21 +13,21 @@ use Rattle.volume.specs.Catalogs.{IsSound}
 use Rattle.volume.specs.Contents.{HasFinding, HasSound, SoundOrFinding}
 use Rattle.commit_protocol.specs.Messages.{LogRecord}
 use Rattle.commit_protocol.specs.World.{In}
-use Rattle.log_laws.specs.Slots.{prepared_of}
-use Rattle.run_model.specs.World.{Barred, Faulty, File, IsOpening, Node, Sound, Unknown, Volume, find_file, state_of}
-use Rattle.run_agreement.specs.Seen.{has_volume}
+use Rattle.world_laws.specs.log_laws.Slots.{prepared_of}
+use Rattle.world_laws.specs.run_model.World.{Barred, Faulty, File, IsOpening, Node, Sound, Unknown, Volume, find_file, state_of}
+use Rattle.statement_steps.specs.run_agreement.Seen.{has_volume}
 use Rattle.run_laws.specs.Promises.{AreLastApart, IsLastApart}
-use Rattle.run_chains.specs.Chains.{IsNew}
-use Rattle.run_model.specs.Transcript.{AreOpening}
+use Rattle.recovery_runs.specs.run_chains.Chains.{IsNew}
+use Rattle.world_laws.specs.run_model.Transcript.{AreOpening}
 use Rattle.directory_model.specs.Laws.{ReadsFiles}
-use Rattle.volume_model.specs.Homes.{last_of}
-use Rattle.volume_model.specs.Volumes.{IsLeftBy}
+use Rattle.recovery_units.specs.volume_model.Homes.{last_of}
+use Rattle.recovery_units.specs.volume_model.Volumes.{IsLeftBy}
 use Rattle.volume_laws.specs.Falls.{VolumeFalls}
-use Rattle.dtm_node.proofs.DiskLemmas.{have_disk}
+use Rattle.day_run.proofs.dtm_node.DiskLemmas.{have_disk}
 use Rattle.dtm_run.specs.Headline.{DiskRepresents, DisksRepresent, is_known}
 use Rattle.dtm_run.specs.Leading.{AreKnown}
 use Rattle.dtm_run.specs.Openings.{AreMade, AreTelling, AreTold, IsLeftByOne, IsLeftWhole, IsMade, IsMadeWhole, IsTold, OpeningsExist, Rests, RestsWhole, TellsMoments}
-use Rattle.run_chains.specs.Reopenings.{rebased_file, reopened}
+use Rattle.recovery_runs.specs.run_chains.Reopenings.{rebased_file, reopened}
 use Rattle.recovery_runs.specs.Runs.{HasNoGaps}
 use Rattle.dtm_run.proofs.Contents.{content_count, content_is}
 use Rattle.dtm_run.proofs.Files.{AllKeep, RestingFiles, has_files, keep_all}

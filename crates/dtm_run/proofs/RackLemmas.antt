@@ -11,7 +11,7 @@ use Rattle.dtm_run.specs.declared.rack.RackCause.TheVariants as cause
 use Rattle.std.proofs.lemmas.List.{map-append, length-append}
 use Rattle.dtm_run.specs.declared.rack.Rack.{Rack}
 use Rattle.dtm_run.specs.Racks.{names_in, states_in, refusal_of, AreSized, IsRack}
-use Rattle.run_nodes.specs.Names.{AreApart, is_among}
+use Rattle.day_run.specs.run_nodes.Names.{AreApart, is_among}
 
 pub sized_more : (ds : List DiskState) (d : DiskState) → 4096 ≤ d.size → d.size ≤ 65536 → AreSized ds → AreSized (ds ++ d ∷ [])
 sized_more [] d low high h = (low, high, tt)

@@ -8,16 +8,16 @@ use Rattle.block_disk.specs.Disk.{CallLog, DiskState}
 use Rattle.volume.specs.declared.catalog.Catalog.{Catalog}
 use Rattle.transcript_model.specs.Lines.{Line}
 use Rattle.script_model.specs.Statements.{At, Boot, Says}
-use Rattle.run_model.specs.World.{Act, Barred, Faulty, IsOpening, Node, Sound, Unknown, Volume, aborted_prepared}
-use Rattle.run_model.specs.Transcript.{AreOpening}
-use Rattle.run_said.specs.Said.{Said}
-use Rattle.volume_model.specs.Volumes.{HasDisk, IsEitherOf, IsLeftBy, LeavesVolume}
+use Rattle.world_laws.specs.run_model.World.{Act, Barred, Faulty, IsOpening, Node, Sound, Unknown, Volume, aborted_prepared}
+use Rattle.world_laws.specs.run_model.Transcript.{AreOpening}
+use Rattle.run_laws.specs.run_said.Said.{Said}
+use Rattle.recovery_units.specs.volume_model.Volumes.{HasDisk, IsEitherOf, IsLeftBy, LeavesVolume}
 use Rattle.recovery_units.specs.Uses.{IsCounted}
-use Rattle.dtm_node.proofs.DiskLemmas.{DiskBy}
-use Rattle.node_standing.specs.Standing.{IsDown, IsRunning, NodeState, Place, PlaceRepresents, disk_in}
-use Rattle.run_nodes.specs.Calls.{DisksFollowLine}
-use Rattle.run_nodes.specs.Together.{StandAll, disks_of}
-use Rattle.run_nodes.specs.Told.{kept_names}
+use Rattle.day_run.proofs.dtm_node.DiskLemmas.{DiskBy}
+use Rattle.day_run.specs.node_standing.Standing.{IsDown, IsRunning, NodeState, Place, PlaceRepresents, disk_in}
+use Rattle.day_run.specs.run_nodes.Calls.{DisksFollowLine}
+use Rattle.day_run.specs.run_nodes.Together.{StandAll, disks_of}
+use Rattle.day_run.specs.run_nodes.Told.{kept_names}
 use Rattle.dtm_run.specs.Headline.{DiskRepresents, DisksRepresent, is_known}
 use Rattle.dtm_run.specs.Leading.{KeepKnown, as_first}
 use Rattle.dtm_run.proofs.Opened.{nothing_opening, unknown_node, unknown_stands}

@@ -18,21 +18,21 @@ use Rattle.records_model.specs.History.{LiveChanges, changes_by, same_id}
 use Rattle.table_keys.specs.IdLaws.{same_id_decides}
 use Rattle.unit_laws.specs.Units.{SerialsDiffer}
 use Rattle.commit_protocol.specs.Messages.{LogRecord}
-use Rattle.run_model.specs.Locks.{Lock, with_locks}
+use Rattle.world_laws.specs.run_model.Locks.{Lock, with_locks}
 use Rattle.journal_model.specs.Entries.{Entry}
-use Rattle.volume_model.specs.Entries.{AreEntries, IsFileOf}
+use Rattle.recovery_units.specs.volume_model.Entries.{AreEntries, IsFileOf}
 use Rattle.unit_laws.specs.Journal.{is_of_file, Journal, JournalEntry, ChangeEntry, PreparedEntry, SettledEntry}
-use Rattle.run_model.specs.World.{Durable, FollowOneAnother, HasPlainEnd, HavePlainEnds, IsLogInOrder, keys_left, prepared_left, relocked, relocked_by, relocked_for, AreUnitsOf, File, IsOpening, LastIsReached, Node, Settlement, TellsUnits, AreResting, find_file, KeepAllImages, KeepsImages}
+use Rattle.world_laws.specs.run_model.World.{Durable, FollowOneAnother, HasPlainEnd, HavePlainEnds, IsLogInOrder, keys_left, prepared_left, relocked, relocked_by, relocked_for, AreUnitsOf, File, IsOpening, LastIsReached, Node, Settlement, TellsUnits, AreResting, find_file, KeepAllImages, KeepsImages}
 use Rattle.world_laws.specs.Ordered.{IsJournalInOrder, IsNoteOf, Suits}
 use Rattle.world_laws.proofs.EntryLemmas.{all_more}
 use Rattle.world_laws.specs.Nodes.{IsKeptDisk}
 use Rattle.directory_model.specs.Files.{file_at, head_at}
 use Rattle.directory_model.specs.Restoring.{AreLeft, IsLayoutOf, IsLeft, IsPlaceLeft, IsPlacePrepared, StandPrepared}
-use Rattle.volume_model.specs.Volumes.{IsLeftBy, LeavesVolume}
+use Rattle.recovery_units.specs.volume_model.Volumes.{IsLeftBy, LeavesVolume}
 use Rattle.recovery_units.specs.Uses.{IsCounted}
-use Rattle.dtm_node.proofs.DiskLemmas.{ContentBy, have_disk}
+use Rattle.day_run.proofs.dtm_node.DiskLemmas.{ContentBy, have_disk}
 use Rattle.dtm_run.specs.Headline.{DiskRepresents}
-use Rattle.run_chains.specs.Reopenings.{rebased_file, rebased_files, reopened}
+use Rattle.recovery_runs.specs.run_chains.Reopenings.{rebased_file, rebased_files, reopened}
 use Rattle.dtm_run.proofs.Opened.{all_have, is_told}
 
 -- Files.

@@ -9,15 +9,15 @@ use Rattle.volume.specs.Catalogs.{IsNew, IsSound}
 use Rattle.unit_laws.proofs.NoteLemmas.{unchanged_has_notes}
 use Rattle.std.specs.List.{AllByRecursion, list_any}
 use Rattle.commit_protocol.specs.World.{In}
-use Rattle.log_laws.specs.Slots.{Slots, committed_of, prepared_of, records_in}
-use Rattle.lmcp_log.specs.Keeping.{IsWhole as IsWholeLog, Keeps}
+use Rattle.world_laws.specs.log_laws.Slots.{Slots, committed_of, prepared_of, records_in}
+use Rattle.recovery_units.specs.lmcp_log.Keeping.{IsWhole as IsWholeLog, Keeps}
 use Rattle.records_model.specs.History.{LiveChanges}
 use Rattle.unit_laws.specs.Journal.{Journal, find_unit, is_of_file, units_in}
-use Rattle.run_model.specs.World.{AreUnitsOf, IsLogInOrder, IsPreparedUnit, booted, File, LastIsReached, Node, OneMovesEndOf, Organization, Sequential, Relative, Indexed, Settlement, Sound, TellsUnits}
+use Rattle.world_laws.specs.run_model.World.{AreUnitsOf, IsLogInOrder, IsPreparedUnit, booted, File, LastIsReached, Node, OneMovesEndOf, Organization, Sequential, Relative, Indexed, Settlement, Sound, TellsUnits}
 use Rattle.directory_model.specs.Files.{AreFiles, IsPlace, file_at, head_at}
 use Rattle.directory_model.specs.Restoring.{CanRestore, IsPlaceRestorable}
-use Rattle.volume_model.specs.Homes.{last_of}
-use Rattle.volume_model.specs.Volumes.{HasVolume}
+use Rattle.recovery_units.specs.volume_model.Homes.{last_of}
+use Rattle.recovery_units.specs.volume_model.Volumes.{HasVolume}
 use Rattle.dtm_run.specs.Openings.{Rests}
 
 -- the journal without entries

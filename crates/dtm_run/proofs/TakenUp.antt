@@ -6,25 +6,25 @@ use Rattle.careful_write.specs.Load.{fitting}
 use Rattle.careful_write.specs.State.{EachWhole}
 use Rattle.volume.specs.Conditions.{IsFirstFinding}
 use Rattle.unit_laws.specs.Units.{Map}
-use Rattle.run_model.specs.World.{Act, Barred, Boots, Durable, Faulty, Half, IsOpening, LastIsReached, MayTurnOut, Node, Settlement, Shared, Sound, Bar, Unknown, Volume, aborted_prepared, acted, durable_after, opened, powered, with_half}
-use Rattle.run_model.specs.World.{find_node}
-use Rattle.run_model.specs.Transcript.{AreOpening}
-use Rattle.run_model.proofs.NodeLists.{found_name}
-use Rattle.run_agreement.specs.Laws.{NamesApart}
+use Rattle.world_laws.specs.run_model.World.{Act, Barred, Boots, Durable, Faulty, Half, IsOpening, LastIsReached, MayTurnOut, Node, Settlement, Shared, Sound, Bar, Unknown, Volume, aborted_prepared, acted, durable_after, opened, powered, with_half}
+use Rattle.world_laws.specs.run_model.World.{find_node}
+use Rattle.world_laws.specs.run_model.Transcript.{AreOpening}
+use Rattle.world_laws.proofs.run_model.NodeLists.{found_name}
+use Rattle.statement_steps.specs.run_agreement.Laws.{NamesApart}
 use Rattle.run_laws.proofs.Keeping.{Kept}
 use Rattle.run_laws.proofs.Once.{once, once_keeps}
 use Rattle.run_laws.proofs.SoundWorlds.{legal_sound, opening_sound}
 use Rattle.vms_model.specs.Ids.{Id}
 use Rattle.world_laws.specs.Nodes.{IsKeptDisk, IsKeptNode, IsOf, NodesAreKept, on}
 use Rattle.world_laws.proofs.NodeLemmas.{acted_disk, acted_name, kept_as, powered_ready}
-use Rattle.volume_model.specs.Volumes.{HasBarred, IsLeftBy, half_done}
+use Rattle.recovery_units.specs.volume_model.Volumes.{HasBarred, IsLeftBy, half_done}
 use Rattle.volume_laws.specs.Falls.{VolumeFalls}
-use Rattle.node_standing.specs.Standing.{counts_of}
-use Rattle.dtm_node.proofs.DiskLemmas.{DiskBy, have_disk}
+use Rattle.day_run.specs.node_standing.Standing.{counts_of}
+use Rattle.day_run.proofs.dtm_node.DiskLemmas.{DiskBy, have_disk}
 use Rattle.dtm_run.specs.Headline.{DiskRepresents, DisksRepresent, IsVolumeOf, LeaveNodes, LeavesNode}
-use Rattle.run_chains.specs.Chains.{AreNext, IsNext}
-use Rattle.run_chains.specs.Reopenings.{IsReopened, reopened}
-use Rattle.run_chains.proofs.Names.{found_behind, found_first, legal_names, names_of, same_apart}
+use Rattle.recovery_runs.specs.run_chains.Chains.{AreNext, IsNext}
+use Rattle.recovery_runs.specs.run_chains.Reopenings.{IsReopened, reopened}
+use Rattle.recovery_runs.proofs.run_chains.Names.{found_behind, found_first, legal_names, names_of, same_apart}
 use Rattle.dtm_run.specs.Reopenings.{AreTakenUp, IsTakenUp, LeftNodesOpen, LeftRacksOpen}
 use Rattle.dtm_run.proofs.Contents.{content_is}
 use Rattle.dtm_run.proofs.Opened.{all_have, is_told, nothing_durable, nothing_opening, resting_node, unknown_node, unknown_stands}

@@ -4,18 +4,18 @@ use Rattle.std.proofs.Common.{◌≡◌, ℕ, zero, suc, ◌+◌, ◌<◌, ◌�
 use Rattle.std.specs.Str.{bytes_eq}
 use Rattle.block_disk.specs.Disk.{DiskState}
 use Rattle.recovery_units.specs.State.{UnitsState}
-use Rattle.run_said.specs.Said.{nothing_said}
-use Rattle.run_shared.specs.Sharing.{SharedState}
-use Rattle.run_model.proofs.NodeLists.{some_is}
-use Rattle.dtm_node.specs.Nodes.{IsNode, kept_of}
-use Rattle.node_standing.specs.Standing.{NodeState, disk_in}
-use Rattle.node_standing.specs.Telling.{said_node}
-use Rattle.dtm_node.specs.declared.node.Node.{Node}
-use Rattle.run_nodes.specs.Held.{AreNodesIn}
-use Rattle.run_nodes.specs.Names.{AreApart, is_among}
-use Rattle.run_nodes.specs.Together.{disks_of, said_together}
-use Rattle.run_nodes.proofs.Entries.{kept_in, names_in}
-use Rattle.run_nodes.proofs.Places.{either_false, turned}
+use Rattle.run_laws.specs.run_said.Said.{nothing_said}
+use Rattle.day_run.specs.run_shared.Sharing.{SharedState}
+use Rattle.world_laws.proofs.run_model.NodeLists.{some_is}
+use Rattle.day_run.specs.dtm_node.Nodes.{IsNode, kept_of}
+use Rattle.day_run.specs.node_standing.Standing.{NodeState, disk_in}
+use Rattle.day_run.specs.node_standing.Telling.{said_node}
+use Rattle.day_run.specs.dtm_node.declared.node.Node.{Node}
+use Rattle.day_run.specs.run_nodes.Held.{AreNodesIn}
+use Rattle.day_run.specs.run_nodes.Names.{AreApart, is_among}
+use Rattle.day_run.specs.run_nodes.Together.{disks_of, said_together}
+use Rattle.day_run.proofs.run_nodes.Entries.{kept_in, names_in}
+use Rattle.day_run.proofs.run_nodes.Places.{either_false, turned}
 use Rattle.dtm_run.specs.Taking.{AreAtZero, AreNew, new_kept}
 
 -- Lists.

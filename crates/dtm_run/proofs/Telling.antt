@@ -7,15 +7,15 @@ use Rattle.transcript_model.specs.Script.{ScriptLine, size_of, IsWithinLimits, B
 use Rattle.emitter_model.specs.Emitting.{Shown, Emits}
 use Rattle.script_model.specs.Statements.{Statement, Blank, Says, Bad}
 use Rattle.script_model.specs.Grammar.{reading}
-use Rattle.run_said.specs.Said.{Said, nothing_said, said_here, said_of}
-use Rattle.run_model.specs.Transcript as model
-use Rattle.run_model.specs.Transcript.{Entry}
-use Rattle.run_shared.specs.Sharing.{SharedState}
-use Rattle.node_standing.specs.Standing.{NodeState}
-use Rattle.run_nodes.specs.Calls.{DisksFollowLine, LineFollows}
+use Rattle.run_laws.specs.run_said.Said.{Said, nothing_said, said_here, said_of}
+use Rattle.world_laws.specs.run_model.Transcript as model
+use Rattle.world_laws.specs.run_model.Transcript.{Entry}
+use Rattle.day_run.specs.run_shared.Sharing.{SharedState}
+use Rattle.day_run.specs.node_standing.Standing.{NodeState}
+use Rattle.day_run.specs.run_nodes.Calls.{DisksFollowLine, LineFollows}
 use Rattle.day_run.specs.Tells.{EntriesTell}
-use Rattle.run_nodes.specs.Together.{AnswersTogether, disks_of, said_together}
-use Rattle.run_nodes.specs.Told.{kept_names}
+use Rattle.day_run.specs.run_nodes.Together.{AnswersTogether, disks_of, said_together}
+use Rattle.day_run.specs.run_nodes.Told.{kept_names}
 use Rattle.dtm_run.specs.Headline.{exit_of}
 use Rattle.dtm_run.specs.Calls.{DisksFollowRun}
 use Rattle.dtm_run.specs.declared.top.Exit.{Exit}

@@ -5,16 +5,16 @@ use Rattle.std.specs.Option.{option_map}
 use Rattle.block_disk.specs.Disk.{DiskState}
 use Rattle.transcript_model.specs.Script.{ScriptLine, lines_of}
 use Rattle.transcript_model.specs.Outside.{Rose}
-use Rattle.run_agreement.specs.Laws.{NamesApart}
-use Rattle.run_model.specs.World.{Node, World}
-use Rattle.run_model.specs.Transcript.{AreOpening, Entry}
-use Rattle.run_model.proofs.NodeLists.{some_is}
+use Rattle.statement_steps.specs.run_agreement.Laws.{NamesApart}
+use Rattle.world_laws.specs.run_model.World.{Node, World}
+use Rattle.world_laws.specs.run_model.Transcript.{AreOpening, Entry}
+use Rattle.world_laws.proofs.run_model.NodeLists.{some_is}
 use Rattle.run_laws.specs.Laws.{AgreedPromisesAreKept, PromisesAreKept}
 use Rattle.manager_laws.specs.Promises.{ManagerPromisesHold}
 use Rattle.recovery_runs.specs.Promises.{RecoveryPromisesHold}
-use Rattle.node_standing.specs.Standing.{counts_of, noted_all}
-use Rattle.run_nodes.specs.Names.{AreApart}
-use Rattle.run_nodes.proofs.Places.{apart_nodes}
+use Rattle.day_run.specs.node_standing.Standing.{counts_of, noted_all}
+use Rattle.day_run.specs.run_nodes.Names.{AreApart}
+use Rattle.day_run.proofs.run_nodes.Places.{apart_nodes}
 use Rattle.dtm_run.specs.Racks.{names_in, states_in, AreSized, IsRack}
 use Rattle.dtm_run.specs.Headline.{AllGo, DisksRepresent, LeaveNodes}
 use Rattle.dtm_run.specs.Leading.{Beginning, Leads, RunsFrom, RunOver, world_at}

@@ -10,25 +10,25 @@ use Rattle.script_model.specs.Statements.{At, Bad, Blank, Boot, Clock, Deliver, 
 use Rattle.script_model.specs.Grammar.{reading}
 use Rattle.commit_protocol.specs.Messages.{LogRecord, Name}
 use Rattle.commit_protocol.proofs.Lists.{cases_name}
-use Rattle.log_laws.specs.Slots.{prepared_of}
-use Rattle.run_model.specs.Locks.{Lock}
-use Rattle.run_model.specs.World as world
-use Rattle.run_model.specs.World.{DiskCounts, Durable, File, IsOpening, LastIsReached, Node, Outturn, Settlement, Shared, Unknown, World, find_node, made_volume, opened, powered, prepared_left, relocked, relocked_by, with_node}
-use Rattle.run_model.specs.Operations.{first_of, refused_if}
-use Rattle.run_model.specs.Answers as answers
-use Rattle.run_model.specs.Answers.{Hears, LosesLink, Restarts, RunsDown, Serves, Service, Takes, Task, Ticks, occupies, refused_before_reading, task_service}
-use Rattle.run_model.specs.Steps as steps
-use Rattle.run_model.specs.Steps.{Choice, Cut, ServiceAllowed, TaskAllowed, TaskEffect, Unpowered, Whole, WithoutMemory, ready_node, service_effect, shared_after_rows, shared_then, task_effect}
-use Rattle.run_model.specs.Statements.{Allowed, Begins, Part, PartEffect, Phases, Step, begun_with, ended_by, no_node, nothing_done, part_effect, phases_of, put_into, refused_at_once, stops_at, RoseAt}
-use Rattle.run_model.specs.Transcript.{AreOpening, Entry, Legal, Turn}
+use Rattle.world_laws.specs.log_laws.Slots.{prepared_of}
+use Rattle.world_laws.specs.run_model.Locks.{Lock}
+use Rattle.world_laws.specs.run_model.World as world
+use Rattle.world_laws.specs.run_model.World.{DiskCounts, Durable, File, IsOpening, LastIsReached, Node, Outturn, Settlement, Shared, Unknown, World, find_node, made_volume, opened, powered, prepared_left, relocked, relocked_by, with_node}
+use Rattle.world_laws.specs.run_model.Operations.{first_of, refused_if}
+use Rattle.world_laws.specs.run_model.Answers as answers
+use Rattle.world_laws.specs.run_model.Answers.{Hears, LosesLink, Restarts, RunsDown, Serves, Service, Takes, Task, Ticks, occupies, refused_before_reading, task_service}
+use Rattle.world_laws.specs.run_model.Steps as steps
+use Rattle.world_laws.specs.run_model.Steps.{Choice, Cut, ServiceAllowed, TaskAllowed, TaskEffect, Unpowered, Whole, WithoutMemory, ready_node, service_effect, shared_after_rows, shared_then, task_effect}
+use Rattle.world_laws.specs.run_model.Statements.{Allowed, Begins, Part, PartEffect, Phases, Step, begun_with, ended_by, no_node, nothing_done, part_effect, phases_of, put_into, refused_at_once, stops_at, RoseAt}
+use Rattle.world_laws.specs.run_model.Transcript.{AreOpening, Entry, Legal, Turn}
 use Rattle.commit_protocol.specs.Table.{coordinator_of}
-use Rattle.run_model.proofs.PartLemmas.{Doubted, Done, Idle, Missing, Way, phases_fold, way}
-use Rattle.run_agreement.proofs.Bases.{used_part}
-use Rattle.run_agreement.proofs.Barred.{quiet_powered}
-use Rattle.run_agreement.proofs.Begun.{AnyPart, any_phases}
-use Rattle.run_agreement.proofs.Found.{found_put, found_there, name_found, some_is}
-use Rattle.run_agreement.proofs.Serving.{first_none, not_false, parts_true, refused_none}
-use Rattle.run_agreement.proofs.Tasks.{IsBoot, awake_refused, boot_is, none_some, nothing_cut, ready_is, restart_is}
+use Rattle.world_laws.proofs.run_model.PartLemmas.{Doubted, Done, Idle, Missing, Way, phases_fold, way}
+use Rattle.run_laws.proofs.run_agreement.Bases.{used_part}
+use Rattle.run_laws.proofs.run_agreement.Barred.{quiet_powered}
+use Rattle.run_laws.proofs.run_agreement.Begun.{AnyPart, any_phases}
+use Rattle.run_laws.proofs.run_agreement.Found.{found_put, found_there, name_found, some_is}
+use Rattle.run_laws.proofs.run_agreement.Serving.{first_none, not_false, parts_true, refused_none}
+use Rattle.run_laws.proofs.run_agreement.Tasks.{IsBoot, awake_refused, boot_is, none_some, nothing_cut, ready_is, restart_is}
 use Rattle.world_laws.proofs.EffectLemmas.{made_log, none_in}
 use Rattle.world_laws.proofs.Induction.{acts_name}
 use Rattle.world_laws.proofs.WorldLemmas.{each_opening}

@@ -1,7 +1,7 @@
 -- What the words of a command ask for.
 use Rattle.std.specs.Prelude.{◌≡◌, ◌≤◌, ℕ, List, false, true, Some, None}
 use Rattle.script_model.specs.Command.{is_run_form}
-use Rattle.day_model.specs.Command.{day_asked}
+use Rattle.day_script.specs.day_model.Command.{day_asked}
 use Rattle.day_script.specs.Days.{asked_of}
 use Rattle.dtm_run.specs.declared.command.Command.{Command}
 use Rattle.dtm_run.specs.declared.command.Command.TheVariants as command

@@ -3,7 +3,7 @@ use Rattle.std.specs.Prelude.{◌≡◌, ℕ, List, Option}
 use Rattle.block_disk.specs.Disk.{DiskState}
 use Rattle.transcript_model.specs.Script.{ScriptLine}
 use Rattle.transcript_model.specs.Outside.{behind}
-use Rattle.run_model.specs.Transcript.{AreInLimits, Ends, Entry}
+use Rattle.world_laws.specs.run_model.Transcript.{AreInLimits, Ends, Entry}
 use Rattle.day_run.specs.Tells.{EntriesTell}
 use Rattle.dtm_run.specs.Headline.{exit_of}
 use Rattle.dtm_run.specs.declared.top.Exit.{Exit}

@@ -2,13 +2,13 @@
 use Rattle.std.specs.Prelude.{◌≡◌, ◌≤◌, ◌⊎◌, ℕ, List, ◌++◌, Option, length, map}
 use Rattle.block_disk.specs.Disk.{DiskState}
 use Rattle.transcript_model.specs.Outside.{behind}
-use Rattle.run_model.specs.World.{Node, World, opened}
-use Rattle.run_model.specs.Transcript.{Entry, Legal}
+use Rattle.world_laws.specs.run_model.World.{Node, World, opened}
+use Rattle.world_laws.specs.run_model.Transcript.{Entry, Legal}
 use Rattle.run_laws.specs.Laws.{AgreedPromises}
 use Rattle.run_laws.specs.Promises.{KeptPromises}
 use Rattle.manager_laws.specs.Promises.{ManagerPromises}
-use Rattle.node_standing.specs.Standing.{counts_of}
-use Rattle.day_model.specs.Days.{DayEnds}
+use Rattle.day_run.specs.node_standing.Standing.{counts_of}
+use Rattle.day_script.specs.day_model.Days.{DayEnds}
 use Rattle.day_run.specs.Tells.{EntriesTell}
 use Rattle.dtm_run.specs.Headline.{Leaves}
 use Rattle.dtm_run.specs.declared.top.Exit.{Exit}

@@ -6,23 +6,23 @@ use Rattle.careful_write.specs.State.{Leaves as DiskLeaves}
 use Rattle.transcript_model.specs.Script.{ScriptLine, lines_of}
 use Rattle.transcript_model.specs.Outside.{behind}
 use Rattle.script_model.specs.Command.{is_run_form}
-use Rattle.day_model.specs.Command.{day_asked}
+use Rattle.day_script.specs.day_model.Command.{day_asked}
 use Rattle.commit_protocol.specs.Opening.{IsAgreeing}
-use Rattle.run_agreement.specs.Laws.{opening_told}
-use Rattle.run_model.specs.World.{World, Node, Volume, Sound, Faulty, Barred, Unknown, opened}
-use Rattle.run_model.specs.Transcript as model
-use Rattle.run_model.specs.Transcript.{Entry, Ran, EndsUnread}
+use Rattle.statement_steps.specs.run_agreement.Laws.{opening_told}
+use Rattle.world_laws.specs.run_model.World.{World, Node, Volume, Sound, Faulty, Barred, Unknown, opened}
+use Rattle.world_laws.specs.run_model.Transcript as model
+use Rattle.world_laws.specs.run_model.Transcript.{Entry, Ran, EndsUnread}
 use Rattle.run_laws.specs.Anew.{AreKnownOrAnew}
 use Rattle.run_laws.specs.Laws.{AgreedPromises}
 use Rattle.run_laws.specs.Promises.{KeptPromises}
 use Rattle.manager_laws.specs.Promises.{ManagerPromises}
 use Rattle.recovery_runs.specs.Promises.{RecoveryPromises}
-use Rattle.node_standing.specs.Telling.{DiskAdvancesOverCalls}
+use Rattle.day_run.specs.node_standing.Telling.{DiskAdvancesOverCalls}
 use Rattle.volume.specs.declared.catalog.Catalog.{Catalog}
 use Rattle.volume.specs.Catalogs.{IsSound, TellsCatalog}
-use Rattle.volume_model.specs.Volumes.{HasDisk, HasVolume}
+use Rattle.recovery_units.specs.volume_model.Volumes.{HasDisk, HasVolume}
 use Rattle.recovery_units.specs.Uses.{IsCounted}
-use Rattle.node_standing.specs.Standing.{counts_of, noted_all}
+use Rattle.day_run.specs.node_standing.Standing.{counts_of, noted_all}
 use Rattle.dtm_run.specs.declared.top.Exit.{Exit}
 use Rattle.dtm_run.specs.declared.top.Exit.TheVariants as exit
 

@@ -8,17 +8,17 @@ use Rattle.transcript_model.specs.Outside.{behind}
 use Rattle.transcript_model.specs.Script.{ScriptLine, lines_of}
 use Rattle.script_model.specs.Statements.{Says, Statement}
 use Rattle.script_model.specs.Grammar.{reading}
-use Rattle.run_model.specs.World.{Node, Unknown, World, nothing_volatile, opened}
-use Rattle.run_model.specs.Transcript.{AreInLimits, AreOpening, Ends, Entry, Turn}
+use Rattle.world_laws.specs.run_model.World.{Node, Unknown, World, nothing_volatile, opened}
+use Rattle.world_laws.specs.run_model.Transcript.{AreInLimits, AreOpening, Ends, Entry, Turn}
 use Rattle.run_laws.specs.Anew.{IsMadeFirst}
 use Rattle.run_laws.specs.Promises.{KeptPromises}
 use Rattle.manager_laws.specs.Promises.{ManagerPromises}
 use Rattle.recovery_runs.specs.Promises.{RecoveryPromises}
-use Rattle.run_said.specs.Said.{Said, SaidNode, is_settling, said_here}
-use Rattle.node_standing.specs.Standing.{counts_of}
-use Rattle.node_standing.specs.Telling.{said_label}
-use Rattle.run_nodes.specs.Calls.{DisksFollowLine, LineFollows}
-use Rattle.run_nodes.specs.Untold.{BootsUnknown}
+use Rattle.run_laws.specs.run_said.Said.{Said, SaidNode, is_settling, said_here}
+use Rattle.day_run.specs.node_standing.Standing.{counts_of}
+use Rattle.day_run.specs.node_standing.Telling.{said_label}
+use Rattle.day_run.specs.run_nodes.Calls.{DisksFollowLine, LineFollows}
+use Rattle.day_run.specs.run_nodes.Untold.{BootsUnknown}
 use Rattle.dtm_run.specs.Headline.{AllGo, DisksRepresent, KeepsAgreed, Leaves, WholeRun, exit_of, is_known}
 use Rattle.dtm_run.specs.declared.top.Exit.{Exit}
 

@@ -7,25 +7,25 @@ use Rattle.block_disk.specs.Sizes.{least_disk_size}
 use Rattle.vms_model.specs.Limits.{file_limit, slot_limit}
 use Rattle.careful_write.specs.Content.{content_of}
 use Rattle.file_base.specs.declared.head.FileHead.{FileHead}
-use Rattle.record_files.specs.Any.{IsFile, IsLaidOut}
+use Rattle.directory_model.specs.record_files.Any.{IsFile, IsLaidOut}
 use Rattle.volume.specs.declared.catalog.Catalog.{Catalog}
 use Rattle.volume.specs.Catalogs.{IsSound, TellsCatalog}
-use Rattle.log_laws.specs.Slots.{Slots, records_in}
-use Rattle.lmcp_log.specs.Keeping.{IsWhole as IsWholeLog, Keeps}
+use Rattle.world_laws.specs.log_laws.Slots.{Slots, records_in}
+use Rattle.recovery_units.specs.lmcp_log.Keeping.{IsWhole as IsWholeLog, Keeps}
 use Rattle.vms_model.specs.Ids.{Id}
-use Rattle.recovery_model.specs.Opening.{IsLawful, IsOpening as IsTellingOpening, as_found}
-use Rattle.run_model.specs.World.{Carried, File, IsOpening, KeepsImages, LastIsReached, Node, state_of}
+use Rattle.world_laws.specs.recovery_model.Opening.{IsLawful, IsOpening as IsTellingOpening, as_found}
+use Rattle.world_laws.specs.run_model.World.{Carried, File, IsOpening, KeepsImages, LastIsReached, Node, state_of}
 use Rattle.world_laws.specs.Running.{AllFound}
-use Rattle.run_model.specs.Transcript.{AreOpening}
+use Rattle.world_laws.specs.run_model.Transcript.{AreOpening}
 use Rattle.world_laws.specs.Nodes.{IsKeptDisk}
 use Rattle.directory_model.specs.Files.{IsCarried, IsFile as IsFileOf, head_at}
-use Rattle.volume_model.specs.Homes.{last_of}
-use Rattle.volume_model.specs.Volumes.{LeavesVolume}
+use Rattle.recovery_units.specs.volume_model.Homes.{last_of}
+use Rattle.recovery_units.specs.volume_model.Volumes.{LeavesVolume}
 use Rattle.recovery_units.specs.Uses.{IsCounted}
-use Rattle.run_agreement.specs.Seen.{has_volume}
+use Rattle.statement_steps.specs.run_agreement.Seen.{has_volume}
 use Rattle.run_laws.specs.Promises.{AreLastApart, IsLastApart}
-use Rattle.run_chains.specs.Chains.{IsNew}
-use Rattle.run_chains.specs.Reopenings.{rebased_file}
+use Rattle.recovery_runs.specs.run_chains.Chains.{IsNew}
+use Rattle.recovery_runs.specs.run_chains.Reopenings.{rebased_file}
 use Rattle.recovery_runs.specs.Runs.{HasNoGaps}
 use Rattle.dtm_run.specs.Headline.{DiskRepresents, DisksRepresent, is_known}
 use Rattle.dtm_run.specs.Leading.{AreKnown}

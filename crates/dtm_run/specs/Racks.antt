@@ -2,7 +2,7 @@
 use Rattle.std.specs.Prelude.{ℕ, ◌≤◌, ◌||◌, List, [], ◌∷◌, Option, Some, None, map, length, if◌then◌else◌, nat_lt, nat_le}
 use Rattle.block_disk.specs.Disk.{DiskState}
 use Rattle.block_disk.specs.Sizes.{greatest_disk_size, least_disk_size}
-use Rattle.run_nodes.specs.Names.{AreApart, is_among}
+use Rattle.day_run.specs.run_nodes.Names.{AreApart, is_among}
 use Rattle.dtm_run.specs.declared.rack.Rack.{Rack}
 use Rattle.dtm_run.specs.declared.rack.RackCause.{RackCause}
 use Rattle.dtm_run.specs.declared.rack.RackCause.TheVariants as cause

@@ -4,12 +4,12 @@ use Rattle.std.specs.List.{All}
 use Rattle.block_disk.specs.Blocks.{IsWhole, block_at}
 use Rattle.block_disk.specs.Disk.{DiskState, MayLeave}
 use Rattle.block_disk.specs.Sizes.{least_disk_size}
-use Rattle.run_model.specs.World.{World, Node, DiskCounts, IsOpening, find_node, opened}
-use Rattle.run_model.specs.Transcript.{AreOpening, Entry, Legal}
-use Rattle.run_agreement.specs.Laws.{NamesApart}
-use Rattle.run_chains.specs.Chains.{AreNext, IsNext}
+use Rattle.world_laws.specs.run_model.World.{World, Node, DiskCounts, IsOpening, find_node, opened}
+use Rattle.world_laws.specs.run_model.Transcript.{AreOpening, Entry, Legal}
+use Rattle.statement_steps.specs.run_agreement.Laws.{NamesApart}
+use Rattle.recovery_runs.specs.run_chains.Chains.{AreNext, IsNext}
 use Rattle.recovery_units.specs.Uses.{IsCounted}
-use Rattle.node_standing.specs.Standing.{counts_of}
+use Rattle.day_run.specs.node_standing.Standing.{counts_of}
 use Rattle.dtm_run.specs.Headline.{DiskRepresents, DisksRepresent, LeaveNodes, LeavesNode}
 
 -- The disk of the next run has one of the images that a power loss may leave of the disk of this one, and nothing is pending on it. It has 4,096 blocks or more,

@@ -2,10 +2,10 @@
 use Rattle.std.specs.Prelude.{◌≡◌, ℕ, List, [], ◌∷◌, false}
 use Rattle.block_disk.specs.Disk.{DiskState}
 use Rattle.recovery_units.specs.State.{UnitsState}
-use Rattle.run_shared.specs.Sharing.{SharedState}
-use Rattle.dtm_node.specs.Nodes.{IsNode, kept_of}
-use Rattle.node_standing.specs.Standing.{IsDown, NodeState}
-use Rattle.dtm_node.specs.declared.node.Node.{Node}
+use Rattle.day_run.specs.run_shared.Sharing.{SharedState}
+use Rattle.day_run.specs.dtm_node.Nodes.{IsNode, kept_of}
+use Rattle.day_run.specs.node_standing.Standing.{IsDown, NodeState}
+use Rattle.day_run.specs.dtm_node.declared.node.Node.{Node}
 
 -- what is kept of a node that was not booted yet
 abbrev pub new_kept : List ℕ → DiskState → NodeState

@@ -4,7 +4,7 @@ ghost use Rattle.std.specs.Option.{option_map};
 ghost use Rattle.indexmap.specs.IndexMap.{spare};
 ghost use Rattle.block_disk.specs.Disk.{DiskState};
 ghost use Rattle.dtm_run.specs.Racks.{names_in, disks_in, refusal_of, IsRack};
-ghost use Rattle.run_nodes.specs.Names.{is_among};
+ghost use Rattle.day_run.specs.run_nodes.Names.{is_among};
 
 use block_disk::Disk;
 use indexmap::IndexMap;

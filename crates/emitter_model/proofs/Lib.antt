@@ -1,1 +1,3 @@
 pub mod EmittingLemmas
+pub mod commit_protocol
+pub mod transcript_model

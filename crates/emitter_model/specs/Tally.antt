@@ -1,6 +1,6 @@
 -- What is counted of the lines of a transcript, where its text is not kept.
 use Rattle.std.specs.Prelude.{ℕ, ◌+◌, ◌-◌, ◌^◌, List, [], ◌∷◌, Option, Some, None, if◌then◌else◌, min}
-use Rattle.commit_protocol.specs.Messages.{same_id}
+use Rattle.transcript_model.specs.commit_protocol.Messages.{same_id}
 use Rattle.transcript_model.specs.Lines as line
 use Rattle.transcript_model.specs.Lines.{Line}
 

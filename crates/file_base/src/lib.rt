@@ -6,3 +6,6 @@ mod head;
 
 pub use bytes::{splice, splice_zeros};
 pub use head::{FileHead, Marks, NO_MARKS, NO_SAVE, NO_SPAN, Organization, Save, Span};
+pub use vms_base::{
+    FileName, Id, Key, Moment, NodeName, Reason, Record, Serial, Tid, get_id, put_id,
+};

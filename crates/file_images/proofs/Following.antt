@@ -3,16 +3,16 @@ use Rattle.std.proofs.Common.{◌≡◌, ℕ, ◌+◌, ◌-◌, true, false, Lis
 use Rattle.std.specs.Prelude.{if◌then◌else◌, reverse}
 use Rattle.std.specs.List.{flat_map, AllByRecursion}
 use Rattle.std.proofs.lemmas.List.{map-append, reverse-append}
-use Rattle.file_base.specs.declared.head.Span.{Span}
+use Rattle.unit_entries.specs.file_base.declared.head.Span.{Span}
 use Rattle.vms_model.specs.Ids.{Id}
-use Rattle.journal_model.specs.Entries.{Entry, IsEntry, spelling}
-use Rattle.journal_model.specs.Ring.{stream, put_stream, IsJournal}
-use Rattle.journal_store.proofs.EntriesAt.{length-stream}
-use Rattle.journal_store.proofs.Journals.{appended}
+use Rattle.unit_entries.specs.journal_model.Entries.{Entry, IsEntry, spelling}
+use Rattle.unit_entries.specs.journal_model.Ring.{stream, put_stream, IsJournal}
+use Rattle.unit_entries.proofs.journal_store.EntriesAt.{length-stream}
+use Rattle.unit_entries.proofs.journal_store.Journals.{appended}
 use Rattle.unit_entries.proofs.ReadLemmas.{spelled_more}
-use Rattle.recovery_model.specs.Journal as image
-use Rattle.recovery_model.specs.Journal.{entry_length}
-use Rattle.recovery_model.specs.File.{Placed, ImageJournal, append, entries_length}
+use Rattle.unit_entries.specs.recovery_model.Journal as image
+use Rattle.unit_entries.specs.recovery_model.Journal.{entry_length}
+use Rattle.unit_entries.specs.recovery_model.File.{Placed, ImageJournal, append, entries_length}
 use Rattle.file_images.specs.Images.{disk_entry, disk_entries, HasImageJournal}
 use Rattle.file_images.specs.Laws.{next_placed, ImagesStand, ImagesGrow, ImagesBegin}
 use Rattle.file_images.proofs.Sizes.{entry_long}

@@ -1,11 +1,11 @@
 -- A record suits a head just where it suits the form of the head.
 use Rattle.std.proofs.Common.{ℕ, List, Option}
-use Rattle.file_base.specs.declared.head.FileHead.{FileHead}
-use Rattle.file_base.specs.declared.head.Organization.{Organization}
-use Rattle.file_base.specs.declared.head.Organization.TheVariants.{Sequential, Relative, Indexed}
+use Rattle.unit_entries.specs.file_base.declared.head.FileHead.{FileHead}
+use Rattle.unit_entries.specs.file_base.declared.head.Organization.{Organization}
+use Rattle.unit_entries.specs.file_base.declared.head.Organization.TheVariants.{Sequential, Relative, Indexed}
 use Rattle.vms_model.specs.Keys.{Key, Number, Text, End}
-use Rattle.record_files.specs.Any.{SuitsBy}
-use Rattle.recovery_model.specs.Journal.{Entry, Changed, Settled}
+use Rattle.save_laws.specs.record_files.Any.{SuitsBy}
+use Rattle.unit_entries.specs.recovery_model.Journal.{Entry, Changed, Settled}
 use Rattle.file_images.specs.Images.{IsSuited}
 use Rattle.file_images.specs.Files.{form_of}
 

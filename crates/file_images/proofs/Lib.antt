@@ -3,3 +3,12 @@ pub mod Rings
 pub mod Following
 pub mod Forms
 pub mod Sides
+pub mod change_set
+pub mod indexed_file
+pub mod indexed_tree
+pub mod journal_format
+pub mod journal_store
+pub mod relative_file
+pub mod seq_file
+pub mod sequence_laws
+pub mod unit_laws

@@ -2,9 +2,9 @@
 use Rattle.std.proofs.Common.{◌≡◌, ℕ, zero, suc, ◌+◌, ◌-◌, ◌%◌, ◌<◌, List, ◌∷◌, refl, ◌∙◌, ap, arith}
 use Rattle.std.specs.Prelude.{slice_index}
 use Rattle.std.proofs.lemmas.Nat.{mod_below, div-add-mod'}
-use Rattle.file_base.specs.declared.head.Span.{Span}
-use Rattle.journal_model.specs.Entries.{Entry}
-use Rattle.journal_model.specs.Ring.{ring_size, block_of, place_of, byte_at, stream, IsJournal}
+use Rattle.unit_entries.specs.file_base.declared.head.Span.{Span}
+use Rattle.unit_entries.specs.journal_model.Entries.{Entry}
+use Rattle.unit_entries.specs.journal_model.Ring.{ring_size, block_of, place_of, byte_at, stream, IsJournal}
 use Rattle.file_images.specs.Files.{SameRing}
 
 block_within : (s : Span) (p : ℕ) → 0 < s.blocks → block_of s p < s.start - 518 + s.blocks

@@ -3,20 +3,20 @@ use Rattle.std.proofs.Common.{◌≡◌, ℕ, ◌+◌, ◌-◌, ◌*◌, ◌<◌
 use Rattle.std.specs.Prelude.{if◌then◌else◌, ◌&&◌, nat_le, nat_lt}
 use Rattle.std.proofs.lemmas.Bool.Decides.{nat_tests}
 use Rattle.std.specs.FinMap.{get}
-use Rattle.file_base.specs.declared.head.FileHead.{FileHead}
-use Rattle.file_base.specs.declared.head.Marks.{Marks}
-use Rattle.file_base.specs.declared.head.Save.{Save as HeadSave}
-use Rattle.file_base.specs.declared.head.Span.{Span}
-use Rattle.change_set.specs.Files.{AgreesOn}
-use Rattle.change_set.specs.Maps.{Map}
-use Rattle.record_files.specs.Any.{IsFile, IsLaidOut, map_of}
+use Rattle.unit_entries.specs.file_base.declared.head.FileHead.{FileHead}
+use Rattle.unit_entries.specs.file_base.declared.head.Marks.{Marks}
+use Rattle.unit_entries.specs.file_base.declared.head.Save.{Save as HeadSave}
+use Rattle.unit_entries.specs.file_base.declared.head.Span.{Span}
+use Rattle.unit_entries.specs.change_set.Files.{AgreesOn}
+use Rattle.unit_entries.specs.change_set.Maps.{Map}
+use Rattle.save_laws.specs.record_files.Any.{IsFile, IsLaidOut, map_of}
 use Rattle.vms_model.specs.Ids.{Id}
 use Rattle.vms_model.specs.Keys.{Key}
-use Rattle.records_model.specs.Records.{Records}
-use Rattle.journal_model.specs.Entries.{IsEntry, spelling}
-use Rattle.journal_model.specs.Ring.{ring_size, put_stream, HasRing}
-use Rattle.recovery_model.specs.Journal.{Entry, entry_length}
-use Rattle.recovery_model.specs.File.{ImageJournal, Save, all_of, append, ended, renewed, next_span}
+use Rattle.unit_entries.specs.records_model.Records.{Records}
+use Rattle.unit_entries.specs.journal_model.Entries.{IsEntry, spelling}
+use Rattle.unit_entries.specs.journal_model.Ring.{ring_size, put_stream, HasRing}
+use Rattle.unit_entries.specs.recovery_model.Journal.{Entry, entry_length}
+use Rattle.unit_entries.specs.recovery_model.File.{ImageJournal, Save, all_of, append, ended, renewed, next_span}
 use Rattle.save_laws.specs.Saves.{IsOfNow, KeepsSave, StandAt, save_head}
 use Rattle.save_laws.proofs.Copies.{saves_read, saves_stay}
 use Rattle.file_images.specs.Images.{AreOf, AreSuited, IsOf, IsSuited, disk_entries, entry_by}

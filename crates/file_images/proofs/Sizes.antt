@@ -2,12 +2,12 @@
 use Rattle.std.proofs.Common.{◌≡◌, ℕ, ◌<◌, List, length, Option, Some, None, refl, arith}
 use Rattle.vms_model.specs.Ids.{Id}
 use Rattle.vms_model.specs.Keys.{Key, Number, Text, End}
-use Rattle.records_model.specs.Slots.{size_of}
-use Rattle.unit_laws.specs.Journal.{key_size}
-use Rattle.journal_model.specs.Entries.{IsEntry, spelling}
-use Rattle.journal_format.proofs.Decoding.{total_is}
-use Rattle.recovery_model.specs.Journal.{Entry, Changed, Settled, entry_length}
-use Rattle.recovery_model.specs.File.{Placed}
+use Rattle.unit_entries.specs.records_model.Slots.{size_of}
+use Rattle.unit_entries.specs.unit_laws.Journal.{key_size}
+use Rattle.unit_entries.specs.journal_model.Entries.{IsEntry, spelling}
+use Rattle.unit_entries.proofs.journal_format.Decoding.{total_is}
+use Rattle.unit_entries.specs.recovery_model.Journal.{Entry, Changed, Settled, entry_length}
+use Rattle.unit_entries.specs.recovery_model.File.{Placed}
 use Rattle.file_images.specs.Images.{key_bytes, image_bytes, disk_entry, entry_by}
 
 key_long : (key : Key) → length (key_bytes key) ≡ key_size key

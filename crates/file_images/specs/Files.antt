@@ -1,13 +1,13 @@
 -- What a content has of a file's journals of images and of its save.
 use Rattle.std.specs.Prelude.{◌≡◌, ◌≤◌, ◌<◌, ◌+◌, ◌-◌, ℕ, Bool, true, false, List, [], Option, Some, None, length}
 use Rattle.std.specs.FinMap.{get}
-use Rattle.block_disk.specs.Blocks.{block_at}
-use Rattle.block_disk.specs.Sizes.{content_start}
-use Rattle.file_base.specs.declared.head.FileHead.{FileHead}
-use Rattle.file_base.specs.declared.head.Span.{Span}
+use Rattle.unit_entries.specs.block_disk.Blocks.{block_at}
+use Rattle.unit_entries.specs.block_disk.Sizes.{content_start}
+use Rattle.unit_entries.specs.file_base.declared.head.FileHead.{FileHead}
+use Rattle.unit_entries.specs.file_base.declared.head.Span.{Span}
 use Rattle.vms_model.specs.Keys.{Key}
-use Rattle.record_files.specs.Any.{IsFile, IsLaidOut, map_of}
-use Rattle.recovery_model.specs.File.{ImageJournal, Save, all_of}
+use Rattle.save_laws.specs.record_files.Any.{IsFile, IsLaidOut, map_of}
+use Rattle.unit_entries.specs.recovery_model.File.{ImageJournal, Save, all_of}
 use Rattle.save_laws.specs.Saves.{save_head}
 use Rattle.file_images.specs.Images.{HasImageJournal, AreOf, AreSuited}
 

@@ -2,19 +2,19 @@
 use Rattle.std.specs.Prelude.{◌≡◌, ℕ, List, [], true, map, reverse, Option, Some, None, is_some, if◌then◌else◌}
 use Rattle.std.specs.Int.{w32, to_le_bytes}
 use Rattle.std.specs.List.{AllByRecursion}
-use Rattle.file_base.specs.declared.head.FileHead.{FileHead}
-use Rattle.file_base.specs.declared.head.Organization.{Organization}
-use Rattle.file_base.specs.declared.head.Span.{Span}
+use Rattle.unit_entries.specs.file_base.declared.head.FileHead.{FileHead}
+use Rattle.unit_entries.specs.file_base.declared.head.Organization.{Organization}
+use Rattle.unit_entries.specs.file_base.declared.head.Span.{Span}
 use Rattle.vms_model.specs.Ids.{Id}
 use Rattle.vms_model.specs.Keys.{Key, Number, Text, End}
 use Rattle.vms_model.specs.Transactions.{Outcome, Commit, Abort}
-use Rattle.journal_model.specs.Entries.{Entry}
-use Rattle.journal_model.specs.Ring.{IsJournal}
-use Rattle.record_files.specs.Any.{Suits}
+use Rattle.unit_entries.specs.journal_model.Entries.{Entry}
+use Rattle.unit_entries.specs.journal_model.Ring.{IsJournal}
+use Rattle.save_laws.specs.record_files.Any.{Suits}
 use Rattle.unit_entries.specs.Keys.{key_in}
-use Rattle.recovery_model.specs.Journal.{Changed, Settled}
-use Rattle.recovery_model.specs.Journal as image
-use Rattle.recovery_model.specs.File.{Placed, ImageJournal, StandFrom}
+use Rattle.unit_entries.specs.recovery_model.Journal.{Changed, Settled}
+use Rattle.unit_entries.specs.recovery_model.Journal as image
+use Rattle.unit_entries.specs.recovery_model.File.{Placed, ImageJournal, StandFrom}
 
 -- the bytes of a key in an entry
 abbrev pub key_bytes : Key → List ℕ

@@ -1,19 +1,19 @@
 -- How the bytes of a ring follow a journal of images, and how those of a save stand.
 use Rattle.std.specs.Prelude.{◌≡◌, ℕ, ◌+◌, ◌-◌, ◌*◌, ◌/◌, ◌≤◌, Bool, true, false, List, length, Option, Some}
 use Rattle.std.specs.FinMap.{get}
-use Rattle.file_base.specs.declared.head.FileHead.{FileHead}
-use Rattle.file_base.specs.declared.head.Marks.{Marks}
-use Rattle.file_base.specs.declared.head.Save.{Save as HeadSave}
-use Rattle.file_base.specs.declared.head.Span.{Span}
-use Rattle.change_set.specs.Files.{AgreesOn}
-use Rattle.record_files.specs.Any.{IsFile, IsLaidOut, map_of}
+use Rattle.unit_entries.specs.file_base.declared.head.FileHead.{FileHead}
+use Rattle.unit_entries.specs.file_base.declared.head.Marks.{Marks}
+use Rattle.unit_entries.specs.file_base.declared.head.Save.{Save as HeadSave}
+use Rattle.unit_entries.specs.file_base.declared.head.Span.{Span}
+use Rattle.unit_entries.specs.change_set.Files.{AgreesOn}
+use Rattle.save_laws.specs.record_files.Any.{IsFile, IsLaidOut, map_of}
 use Rattle.vms_model.specs.Ids.{Id}
 use Rattle.vms_model.specs.Keys.{Key}
-use Rattle.records_model.specs.Records.{Records}
-use Rattle.journal_model.specs.Entries.{Entry as DiskEntry, IsEntry, spelling}
-use Rattle.journal_model.specs.Ring.{IsJournal, ring_size, put_stream, HasRing}
-use Rattle.recovery_model.specs.Journal.{Entry, entry_length}
-use Rattle.recovery_model.specs.File.{Placed, ImageJournal, Save, append, ended, next_span, renewed, IsInOrder}
+use Rattle.unit_entries.specs.records_model.Records.{Records}
+use Rattle.unit_entries.specs.journal_model.Entries.{Entry as DiskEntry, IsEntry, spelling}
+use Rattle.unit_entries.specs.journal_model.Ring.{IsJournal, ring_size, put_stream, HasRing}
+use Rattle.unit_entries.specs.recovery_model.Journal.{Entry, entry_length}
+use Rattle.unit_entries.specs.recovery_model.File.{Placed, ImageJournal, Save, append, ended, next_span, renewed, IsInOrder}
 use Rattle.save_laws.specs.Saves.{IsOfNow, KeepsSave, StandAt, save_head}
 use Rattle.file_images.specs.Images.{disk_entry, entry_by, HasImageJournal, IsOf, IsSuited}
 use Rattle.file_images.specs.Files.{HasSide, HasSave, SameRing, form_of}

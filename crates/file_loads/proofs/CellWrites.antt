@@ -5,7 +5,7 @@ use Rattle.std.proofs.Math.Nat.{div-mul-le_self}
 use Rattle.block_disk.specs.Disk.{DiskState}
 use Rattle.file_base.specs.declared.head.FileHead.{FileHead}
 use Rattle.change_set.specs.Files.{IsPlaced}
-use Rattle.relative_file.specs.Cells.{cells_in}
+use Rattle.load_pages.specs.relative_file.Cells.{cells_in}
 
 thrice : (a c : ℕ) → a * (c * 3) ≡ 3 * (a * c)
 thrice a c = omega arith

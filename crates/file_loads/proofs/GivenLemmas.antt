@@ -11,13 +11,13 @@ use Rattle.bucket_page.specs.declared.kind.PageKind.{PageKind}
 use Rattle.bucket_page.specs.declared.kind.PageKind.TheVariants.{Seq}
 use Rattle.bucket_page.specs.Pages.{u16_at, suits}
 use Rattle.change_set.proofs.NumberKeys.{below_number}
-use Rattle.record_files.specs.Any.{SuitsBy}
-use Rattle.indexed_file.specs.Chain.{kind_of}
-use Rattle.load_laws.specs.Records.{Keyed, values_of}
-use Rattle.load_laws.specs.Chains.{raw_for}
-use Rattle.load_laws.specs.Cells.{number_in, Climbs, IsBehind, AllShort}
-use Rattle.load_laws.specs.Loads.{AllSuitBy}
-use Rattle.load_laws.proofs.RawLemmas.{is_text, text_long}
+use Rattle.load_pages.specs.record_files.Any.{SuitsBy}
+use Rattle.load_pages.specs.indexed_file.Chain.{kind_of}
+use Rattle.load_pages.specs.load_laws.Records.{Keyed, values_of}
+use Rattle.load_pages.specs.load_laws.Chains.{raw_for}
+use Rattle.load_pages.specs.load_laws.Cells.{number_in, Climbs, IsBehind, AllShort}
+use Rattle.load_pages.specs.load_laws.Loads.{AllSuitBy}
+use Rattle.load_pages.proofs.load_laws.RawLemmas.{is_text, text_long}
 use Rattle.load_pages.specs.declared.records.KeyedRecord.{KeyedRecord}
 use Rattle.load_pages.specs.Given.{keyed, raw_of, AllRaw}
 

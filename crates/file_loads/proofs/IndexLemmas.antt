@@ -2,13 +2,13 @@
 use Rattle.std.proofs.Common.{◌≡◌, ◌<◌, ◌≤◌, ◌+◌, ◌-◌, ℕ, zero, suc, Bool, true, false, List, [], ◌∷◌, ◌++◌, length, map, take, drop, nat_le, if◌then◌else◌, Option, refl, sym, ap, subst, ◌∙◌, length-append, arith}
 use Rattle.std.proofs.lemmas.List.{length-map}
 use Rattle.file_base.specs.declared.head.FileHead.{FileHead}
-use Rattle.tree_model.proofs.Tests.{fits_test, over_test, tests_fit}
-use Rattle.index_model.specs.Indexes.{Entry, first_separator}
+use Rattle.load_model.proofs.tree_model.Tests.{fits_test, over_test, tests_fit}
+use Rattle.index_blocks.specs.index_model.Indexes.{Entry, first_separator}
 use Rattle.load_model.specs.Nodes.{entries_by, grouped, level_over, keys_of, nodes_over, all_nodes}
 use Rattle.load_model.proofs.Levels.{shares_few, length_level}
-use Rattle.index_bucket.specs.Entries.{sizes_of}
-use Rattle.load_laws.specs.Pages.{Page, Entries, Adds}
-use Rattle.load_laws.specs.Keys.{entry_pages, index_pages, every, AllKeys}
+use Rattle.index_blocks.specs.index_bucket.Entries.{sizes_of}
+use Rattle.load_pages.specs.load_laws.Pages.{Page, Entries, Adds}
+use Rattle.load_pages.specs.load_laws.Keys.{entry_pages, index_pages, every, AllKeys}
 use Rattle.file_loads.proofs.LoopLemmas.{entries_drop}
 use Rattle.file_loads.proofs.PageLemmas.{adds_none, adds_more}
 

@@ -3,16 +3,16 @@ use Rattle.std.proofs.Common.{◌≡◌, ◌<◌, ◌≤◌, ◌+◌, ◌-◌, �
 use Rattle.std.proofs.lemmas.Bool.Decides.{nat_tests}
 use Rattle.file_base.specs.declared.head.FileHead.{FileHead}
 use Rattle.bucket_page.specs.declared.kind.PageKind.{PageKind}
-use Rattle.index_model.specs.Indexes.{Entry}
+use Rattle.index_blocks.specs.index_model.Indexes.{Entry}
 use Rattle.load_model.specs.Nodes.{entries_by, grouped}
-use Rattle.relative_file.specs.Cells.{cells_in}
-use Rattle.load_laws.specs.Records.{Keyed}
-use Rattle.load_laws.specs.Pages.{Page, Slots, Entries, Cells, StandTold, Adds}
-use Rattle.load_laws.specs.Chains.{packed, parts_of, next_for, chain_pages}
-use Rattle.load_laws.specs.Cells.{values_behind, cell_pages}
-use Rattle.load_laws.specs.Keys.{entry_pages}
-use Rattle.load_laws.proofs.ChainLemmas.{packed_some}
-use Rattle.load_laws.proofs.CellLemmas.{length_cell_pages}
+use Rattle.load_pages.specs.relative_file.Cells.{cells_in}
+use Rattle.load_pages.specs.load_laws.Records.{Keyed}
+use Rattle.load_pages.specs.load_laws.Pages.{Page, Slots, Entries, Cells, StandTold, Adds}
+use Rattle.load_pages.specs.load_laws.Chains.{packed, parts_of, next_for, chain_pages}
+use Rattle.load_pages.specs.load_laws.Cells.{values_behind, cell_pages}
+use Rattle.load_pages.specs.load_laws.Keys.{entry_pages}
+use Rattle.load_pages.proofs.load_laws.ChainLemmas.{packed_some}
+use Rattle.load_pages.proofs.load_laws.CellLemmas.{length_cell_pages}
 use Rattle.file_loads.proofs.PageLemmas.{adds_more}
 
 -- A chain.

@@ -5,7 +5,7 @@ use Rattle.change_set.specs.Buckets.{with_bucket}
 use Rattle.change_set.proofs.BucketLaws.{block_at-with_bucket_other, bucket_bytes_agree, bucket_bytes-with_bucket}
 use Rattle.change_set.proofs.Extents.{ranges_apart}
 use Rattle.index_blocks.specs.Buckets.{bucket_first, bucket_at}
-use Rattle.load_laws.specs.Pages.{Page, IsPage, Stand, StandTold, Adds}
+use Rattle.load_pages.specs.load_laws.Pages.{Page, IsPage, Stand, StandTold, Adds}
 
 -- bucket n was written, and those before it have what they had
 before_same : (h : FileHead) (b : List (List ℕ)) (bytes : List ℕ) (i n : ℕ) → i < n → bucket_at h (with_bucket bytes b (bucket_first h n) h.bucket) i ≡ bucket_at h b i

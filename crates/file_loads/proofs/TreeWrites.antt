@@ -7,16 +7,16 @@ use Rattle.file_base.specs.declared.head.Organization.{Organization}
 use Rattle.file_base.specs.declared.head.Organization.TheVariants.{Sequential, Indexed}
 use Rattle.bucket_page.specs.Pages.{key_in, joined}
 use Rattle.change_set.specs.Files.{IsPlaced}
-use Rattle.indexed_file.specs.Chain.{HasKeys, kind_of}
+use Rattle.load_pages.specs.indexed_file.Chain.{HasKeys, kind_of}
 use Rattle.bucket_page.specs.declared.kind.PageKind.TheVariants.{Seq}
-use Rattle.load_laws.specs.Records.{Keyed, values_of}
-use Rattle.load_laws.specs.Pages.{StandTold, Adds}
-use Rattle.load_laws.specs.Chains.{raw_for, packed, chain_pages}
-use Rattle.load_laws.specs.Keys.{first_raw_key, lowest_keys, index_pages, AllKeys}
-use Rattle.load_laws.specs.Loads.{AreLoadable, AllSuitBy, HeadBy, leaf_parts, pages_by}
-use Rattle.load_laws.proofs.RawLemmas.{is_text}
-use Rattle.load_laws.proofs.TreeLaws.{length_chain, length_lowest}
-use Rattle.load_laws.proofs.LoadLaws.{pages_count}
+use Rattle.load_pages.specs.load_laws.Records.{Keyed, values_of}
+use Rattle.load_pages.specs.load_laws.Pages.{StandTold, Adds}
+use Rattle.load_pages.specs.load_laws.Chains.{raw_for, packed, chain_pages}
+use Rattle.load_pages.specs.load_laws.Keys.{first_raw_key, lowest_keys, index_pages, AllKeys}
+use Rattle.load_pages.specs.load_laws.Loads.{AreLoadable, AllSuitBy, HeadBy, leaf_parts, pages_by}
+use Rattle.load_pages.proofs.load_laws.RawLemmas.{is_text}
+use Rattle.load_pages.proofs.load_laws.TreeLaws.{length_chain, length_lowest}
+use Rattle.load_pages.proofs.load_laws.LoadLaws.{pages_count}
 use Rattle.load_pages.specs.declared.records.KeyedRecord.{KeyedRecord}
 use Rattle.load_pages.specs.Given.{keyed, raw_of}
 use Rattle.load_pages.proofs.KeyLemmas.{key_of_raw}

@@ -14,7 +14,7 @@ use Rattle.change_set.specs.Files.{IsPlaced, in_extent, AgreesOut, LeavesOut}
 use Rattle.change_set.proofs.Extents.{agrees_bucket}
 use Rattle.change_set.proofs.Frames.{lent_taken, lent_staged, lent_written, lent_given}
 use Rattle.change_set.proofs.Loading.{length-with_numbers}
-use Rattle.relative_file.proofs.MakeLaws.{agrees_more}
+use Rattle.load_pages.proofs.relative_file.MakeLaws.{agrees_more}
 use Rattle.index_blocks.specs.Buckets.{bucket_first, with_blocks_of}
 use Rattle.file_loads.specs.Writes.{StagesBucket, IsApart, HasWritten, LeavesApart}
 

@@ -8,9 +8,9 @@ use Rattle.file_base.specs.declared.head.FileHead.{FileHead}
 use Rattle.change_set.specs.Files.{in_extent, AgreesOut, LeavesOut, unstaged}
 use Rattle.file_base.specs.declared.head.Organization.{Organization}
 use Rattle.file_base.specs.declared.head.Organization.TheVariants.{Sequential, Relative, Indexed}
-use Rattle.load_laws.specs.Records.{Keyed}
-use Rattle.load_laws.specs.Keys.{lowest_keys}
-use Rattle.load_laws.specs.Loads.{leaf_parts}
+use Rattle.load_pages.specs.load_laws.Records.{Keyed}
+use Rattle.load_pages.specs.load_laws.Keys.{lowest_keys}
+use Rattle.load_pages.specs.load_laws.Loads.{leaf_parts}
 use Rattle.file_loads.specs.declared.loads.LoadErr.{LoadErr}
 use Rattle.file_loads.specs.declared.loads.LoadErr.TheVariants as err
 

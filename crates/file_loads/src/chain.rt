@@ -5,9 +5,9 @@ ghost use Rattle.careful_write.specs.Down.{Counts};
 ghost use Rattle.careful_write.specs.State.{IsReady};
 ghost use Rattle.bucket_page.specs.Pages.{Packs, no_next};
 ghost use Rattle.change_set.specs.Files.{IsPlaced, free_frames};
-ghost use Rattle.load_laws.specs.Pages.{Page, Slots, Adds, StandTold};
+ghost use Rattle.load_pages.specs.load_laws.Pages.{Page, Slots, Adds, StandTold};
 ghost use Rattle.file_loads.specs.Writes.{HasWritten, LeavesApart};
-ghost use Rattle.load_laws.specs.Chains.{packed, parts_of, next_for, chain_pages};
+ghost use Rattle.load_pages.specs.load_laws.Chains.{packed, parts_of, next_for, chain_pages};
 ghost use Rattle.load_pages.specs.Given.{raw_of, AllRaw};
 
 use crate::group::put_bucket;

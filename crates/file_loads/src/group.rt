@@ -3,7 +3,7 @@ ghost use Rattle.std.specs.Prelude.{◌≡◌, ◌≤◌, ◌<◌, ◌+◌, ◌-
 ghost use Rattle.careful_write.specs.Down.{Counts};
 ghost use Rattle.careful_write.specs.State.{IsReady};
 ghost use Rattle.change_set.specs.Files.{IsPlaced, free_frames};
-ghost use Rattle.load_laws.specs.Pages.{Page, IsPage, Adds};
+ghost use Rattle.load_pages.specs.load_laws.Pages.{Page, IsPage, Adds};
 ghost use Rattle.file_loads.specs.Writes.{StagesBucket, HasWritten, LeavesApart};
 
 use block_disk::Disk;

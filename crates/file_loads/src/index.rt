@@ -6,10 +6,10 @@ ghost use Rattle.vms_model.specs.Limits.{key_limit};
 ghost use Rattle.careful_write.specs.Down.{Counts};
 ghost use Rattle.careful_write.specs.State.{IsReady};
 ghost use Rattle.change_set.specs.Files.{IsPlaced, free_frames};
-ghost use Rattle.index_bucket.specs.Entries.{sizes_of};
+ghost use Rattle.index_blocks.specs.index_bucket.Entries.{sizes_of};
 ghost use Rattle.load_model.specs.Nodes.{entries_by, grouped, level_over, keys_of, nodes_over, all_nodes};
-ghost use Rattle.load_laws.specs.Pages.{HasEntries, Adds};
-ghost use Rattle.load_laws.specs.Keys.{every, entry_pages, index_pages, AllKeys};
+ghost use Rattle.load_pages.specs.load_laws.Pages.{HasEntries, Adds};
+ghost use Rattle.load_pages.specs.load_laws.Keys.{every, entry_pages, index_pages, AllKeys};
 ghost use Rattle.file_loads.specs.Writes.{HasWritten, LeavesApart};
 
 use crate::group::put_bucket;

@@ -3,10 +3,10 @@ ghost use Rattle.std.specs.Prelude.{◌≡◌, ◌≤◌, ◌<◌, ◌+◌, ◌-
 ghost use Rattle.careful_write.specs.Down.{Counts};
 ghost use Rattle.careful_write.specs.State.{IsReady};
 ghost use Rattle.change_set.specs.Files.{IsPlaced, free_frames};
-ghost use Rattle.relative_file.specs.Cells.{cells_in};
+ghost use Rattle.load_pages.specs.relative_file.Cells.{cells_in};
 ghost use Rattle.load_pages.specs.Given.{keyed};
-ghost use Rattle.load_laws.specs.Cells.{cell_pages, values_behind, AllTo, Climbs, AllShort};
-ghost use Rattle.load_laws.specs.Pages.{Cells, Adds, StandTold};
+ghost use Rattle.load_pages.specs.load_laws.Cells.{cell_pages, values_behind, AllTo, Climbs, AllShort};
+ghost use Rattle.load_pages.specs.load_laws.Pages.{Cells, Adds, StandTold};
 ghost use Rattle.file_loads.specs.Writes.{HasWritten, LeavesApart};
 
 use crate::group::put_bucket;

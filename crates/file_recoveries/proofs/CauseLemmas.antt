@@ -6,12 +6,12 @@ use Rattle.vms_base.specs.declared.ids.Serial.{Serial}
 use Rattle.vms_base.specs.declared.times.Moment.{Moment}
 use Rattle.vms_base.specs.Ids.{serial_of}
 use Rattle.vms_model.specs.Ids.{Id}
-use Rattle.recovery_model.specs.File.{ImageJournal, Save, FileState}
-use Rattle.recovery_model.specs.Recovery as model
-use Rattle.recovery_model.specs.Recovery.{Refusal, refusal, first_of, no_journal, no_save, in_use, refused_if, too_early, positions_missing}
+use Rattle.image_entries.specs.recovery_model.File.{ImageJournal, Save, FileState}
+use Rattle.image_entries.specs.recovery_model.Recovery as model
+use Rattle.image_entries.specs.recovery_model.Recovery.{Refusal, refusal, first_of, no_journal, no_save, in_use, refused_if, too_early, positions_missing}
 use Rattle.file_recoveries.specs.Causes as said
 use Rattle.file_recoveries.specs.Causes.{cause_of, first_cause, refusal_by, way_of}
-use Rattle.file_images.specs.Files.{HasSave, HasSide, SavedIn}
+use Rattle.rolled_records.specs.file_images.Files.{HasSave, HasSide, SavedIn}
 use Rattle.file_recoveries.specs.Files.{HasFile}
 use Rattle.file_recoveries.specs.Laws.{CausesAreRefusals}
 use Rattle.file_recoveries.specs.declared.causes.Way.{Way}

@@ -10,17 +10,17 @@ use Rattle.vms_base.specs.declared.times.Moment.{Moment}
 use Rattle.records_model.specs.Records.{Records, key_cmp}
 use Rattle.records_model.specs.History.{current}
 use Rattle.records_model.proofs.KeyLemmas.{key_cmp_total, key_cmp-IsAntisymmetric}
-use Rattle.record_files.specs.Any.{IsFile, IsLaidOut, map_of}
-use Rattle.recovery_model.specs.File.{Placed, ImageJournal, Save, FileState, IsPlace, all_of, since}
-use Rattle.recovery_model.specs.Journal.{Entry, Changed, Settled, Below, rolled_forward, rolled_back}
-use Rattle.recovery_model.specs.Recovery.{rolled, rolled_on}
+use Rattle.rolled_records.specs.record_files.Any.{IsFile, IsLaidOut, map_of}
+use Rattle.image_entries.specs.recovery_model.File.{Placed, ImageJournal, Save, FileState, IsPlace, all_of, since}
+use Rattle.image_entries.specs.recovery_model.Journal.{Entry, Changed, Settled, Below, rolled_forward, rolled_back}
+use Rattle.image_entries.specs.recovery_model.Recovery.{rolled, rolled_on}
 use Rattle.journal_model.specs.Entries.{IsEntry}
-use Rattle.file_images.specs.Images.{AreOf, HasImageJournal, IsOf, entry_by}
-use Rattle.file_images.specs.Files.{HasSave, HasSide, SavedIn}
-use Rattle.image_laws.specs.Laws.{ImagesAreRead, ImagesArePlaced, IsPlacedIn}
+use Rattle.rolled_records.specs.file_images.Images.{AreOf, HasImageJournal, IsOf, entry_by}
+use Rattle.rolled_records.specs.file_images.Files.{HasSave, HasSide, SavedIn}
+use Rattle.rolled_records.specs.image_laws.Laws.{ImagesAreRead, ImagesArePlaced, IsPlacedIn}
 use Rattle.rolled_records.specs.Rolling.{RollsTo, RollsForward, RollsBack}
 use Rattle.rolled_records.specs.declared.rolling.Images.{Images}
-use Rattle.save_laws.specs.Saves.{save_head}
+use Rattle.rolled_records.specs.save_laws.Saves.{save_head}
 use Rattle.file_recoveries.specs.Files.{HasFile}
 use Rattle.file_recoveries.specs.Rolling.{RollsFile, RollsOn, RollsOff, last_of}
 

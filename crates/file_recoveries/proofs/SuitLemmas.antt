@@ -8,17 +8,17 @@ use Rattle.std.specs.declared.cmp.Ordering.TheVariants.{Equal, Greater, Less}
 use Rattle.file_base.specs.declared.head.FileHead.{FileHead}
 use Rattle.vms_model.specs.Ids.{Id}
 use Rattle.vms_model.specs.Keys.{Key}
-use Rattle.record_files.specs.Any.{Suits}
+use Rattle.rolled_records.specs.record_files.Any.{Suits}
 use Rattle.records_model.specs.Records.{Records, key_cmp, set_key}
 use Rattle.records_model.specs.History.{current, reached}
 use Rattle.records_model.proofs.KeyLemmas.{key_cmp-IsAntisymmetric, key_cmp_total}
-use Rattle.recovery_model.specs.File.{FileState, Placed, Save, all_of, since}
-use Rattle.recovery_model.specs.Journal.{Changed, Entry, Settled, backward, beyond, chosen, forward}
-use Rattle.recovery_model.specs.Recovery.{rolled, rolled_on}
+use Rattle.image_entries.specs.recovery_model.File.{FileState, Placed, Save, all_of, since}
+use Rattle.image_entries.specs.recovery_model.Journal.{Changed, Entry, Settled, backward, beyond, chosen, forward}
+use Rattle.image_entries.specs.recovery_model.Recovery.{rolled, rolled_on}
 use Rattle.vms_base.specs.declared.times.Moment.{Moment}
-use Rattle.file_images.specs.Files.{HasSave, form_of}
-use Rattle.file_images.specs.Images.{AreSuited}
-use Rattle.file_images.proofs.Forms.{suited_by_head}
+use Rattle.rolled_records.specs.file_images.Files.{HasSave, form_of}
+use Rattle.rolled_records.specs.file_images.Images.{AreSuited}
+use Rattle.rolled_records.proofs.file_images.Forms.{suited_by_head}
 use Rattle.file_recoveries.specs.Causes.{way_of}
 use Rattle.file_recoveries.specs.Files.{HasFile}
 use Rattle.file_recoveries.specs.Suiting.{MayHave, RecordsSuit}

@@ -4,7 +4,7 @@ use Rattle.file_base.specs.declared.head.FileHead.{FileHead}
 use Rattle.vms_base.specs.declared.times.Moment.{Moment}
 use Rattle.vms_base.specs.declared.ids.Serial.{Serial}
 use Rattle.vms_base.specs.Ids.{serial_of}
-use Rattle.recovery_model.specs.Recovery as model
+use Rattle.image_entries.specs.recovery_model.Recovery as model
 use Rattle.file_recoveries.specs.declared.errors.RecoverErr.{RecoverErr}
 use Rattle.file_recoveries.specs.declared.errors.RecoverErr.TheVariants as err
 use Rattle.file_recoveries.specs.declared.causes.Way.{Way}

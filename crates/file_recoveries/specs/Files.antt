@@ -4,9 +4,9 @@ use Rattle.std.specs.FinMap.{get}
 use Rattle.file_base.specs.declared.head.FileHead.{FileHead}
 use Rattle.vms_model.specs.Keys.{Key}
 use Rattle.records_model.specs.Records.{Records}
-use Rattle.record_files.specs.Any.{IsFile, IsLaidOut, map_of}
-use Rattle.recovery_model.specs.File.{Save, FileState, IsPlace, IsCovering}
-use Rattle.file_images.specs.Files.{HasSide, HasSave, form_of}
+use Rattle.rolled_records.specs.record_files.Any.{IsFile, IsLaidOut, map_of}
+use Rattle.image_entries.specs.recovery_model.File.{Save, FileState, IsPlace, IsCovering}
+use Rattle.rolled_records.specs.file_images.Files.{HasSide, HasSave, form_of}
 
 -- The file of this number has these records in its buckets, and the journals and the save of a file of which recovery knows this.
 pub record HasFile (content : List (List ℕ)) (f : ℕ) (h : FileHead) (m : Records) (s : FileState) : Type 0 where

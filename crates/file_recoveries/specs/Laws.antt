@@ -4,8 +4,8 @@ use Rattle.file_base.specs.declared.head.FileHead.{FileHead}
 use Rattle.vms_base.specs.declared.ids.Serial.{Serial}
 use Rattle.vms_base.specs.Ids.{serial_of}
 use Rattle.records_model.specs.Records.{Records}
-use Rattle.recovery_model.specs.File.{FileState}
-use Rattle.recovery_model.specs.Recovery.{refusal}
+use Rattle.image_entries.specs.recovery_model.File.{FileState}
+use Rattle.image_entries.specs.recovery_model.Recovery.{refusal}
 use Rattle.file_recoveries.specs.Causes.{cause_of, way_of, refusal_by}
 use Rattle.file_recoveries.specs.Files.{HasFile}
 use Rattle.file_recoveries.specs.declared.causes.Way.{Way}

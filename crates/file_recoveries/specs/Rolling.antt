@@ -1,14 +1,14 @@
 -- The records that a recovery makes of a file.
 use Rattle.std.specs.Prelude.{◌≡◌, ℕ, true, List, Option, Some, None}
 use Rattle.block_disk.specs.Disk.{DiskState}
-use Rattle.change_set.specs.Files.{IsPlaced}
+use Rattle.image_entries.specs.change_set.Files.{IsPlaced}
 use Rattle.file_base.specs.declared.head.FileHead.{FileHead}
 use Rattle.journal_store.specs.Rings.{IsRing}
 use Rattle.records_model.specs.Records.{Records}
 use Rattle.records_model.specs.History.{current}
-use Rattle.recovery_model.specs.File.{FileState}
-use Rattle.recovery_model.specs.Recovery.{rolled}
-use Rattle.save_laws.specs.Saves.{save_head}
+use Rattle.image_entries.specs.recovery_model.File.{FileState}
+use Rattle.image_entries.specs.recovery_model.Recovery.{rolled}
+use Rattle.rolled_records.specs.save_laws.Saves.{save_head}
 use Rattle.vms_base.specs.declared.times.Moment.{Moment}
 use Rattle.file_recoveries.specs.Causes.{way_of}
 use Rattle.file_recoveries.specs.Files.{HasFile}

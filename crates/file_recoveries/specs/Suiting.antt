@@ -3,11 +3,11 @@ use Rattle.std.specs.Prelude.{◌≡◌, ℕ, List, Option, Some, None}
 use Rattle.std.specs.FinMap.{get}
 use Rattle.file_base.specs.declared.head.FileHead.{FileHead}
 use Rattle.vms_model.specs.Keys.{Key}
-use Rattle.record_files.specs.Any.{Suits}
+use Rattle.rolled_records.specs.record_files.Any.{Suits}
 use Rattle.records_model.specs.Records.{Records}
 use Rattle.records_model.specs.History.{current}
-use Rattle.recovery_model.specs.File.{FileState, Save}
-use Rattle.recovery_model.specs.Recovery.{rolled}
+use Rattle.image_entries.specs.recovery_model.File.{FileState, Save}
+use Rattle.image_entries.specs.recovery_model.Recovery.{rolled}
 use Rattle.file_recoveries.specs.Causes.{cause_of, way_of}
 use Rattle.file_recoveries.specs.Files.{HasFile}
 use Rattle.file_recoveries.specs.declared.causes.Way.{Way}

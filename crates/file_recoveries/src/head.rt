@@ -1,7 +1,7 @@
 //! Heads of files that are recovered.
 ghost use Rattle.std.specs.Prelude.{◌≡◌, ◌≤◌, ◌^◌};
 ghost use Rattle.file_recoveries.specs.Heads as said;
-ghost use Rattle.save_laws.specs.Saves as saves;
+ghost use Rattle.rolled_records.specs.save_laws.Saves as saves;
 
 use file_base::{FileHead, Span};
 use journal_store::renew;

@@ -1,12 +1,12 @@
 //! The records that a recovery makes, in memory.
 ghost use Rattle.std.specs.Prelude.{◌≡◌, ◌≤◌, None, true, IfOk, IfErr, IfSome, OnOk};
-ghost use Rattle.change_set.specs.Files.{IsPlaced, free_frames};
+ghost use Rattle.image_entries.specs.change_set.Files.{IsPlaced, free_frames};
 ghost use Rattle.image_entries.specs.Entries.{ReadFails};
 ghost use Rattle.journal_store.specs.Refusing.{Stays};
 ghost use Rattle.journal_store.specs.Rings.{IsRing};
 ghost use Rattle.file_recoveries.specs.Causes.{cause_of as cause_said};
 ghost use Rattle.file_recoveries.specs.Rolling.{IsReadable, RollsFile, RollsOff, RollsOn, last_of};
-ghost use Rattle.save_laws.specs.Saves.{save_head as save_said};
+ghost use Rattle.rolled_records.specs.save_laws.Saves.{save_head as save_said};
 
 use crate::causes::Way;
 use crate::head::save_head;
@@ -14,9 +14,8 @@ use block_disk::Disk;
 use careful_write::Store;
 use file_base::FileHead;
 use image_entries::ReadErr;
-use image_laws::images_follow;
 use record_maps::RecordMap;
-use rolled_records::{Images, read_records, roll_back, roll_forward};
+use rolled_records::{Images, images_follow, read_records, roll_back, roll_forward};
 use std::alloc::Global;
 use vms_base::{Moment, Record};
 

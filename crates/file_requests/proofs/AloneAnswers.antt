@@ -2,14 +2,14 @@
 use Rattle.std.proofs.Common.{◌≡◌, ℕ, List, [], ◌∷◌, Bool, true, false, Option, Some, None, Result, Ok, Err, refl, sym, subst}
 use Rattle.block_disk.specs.Disk.{DiskState}
 use Rattle.careful_write.specs.declared.down.Down.{Down}
-use Rattle.transcript_model.specs.Lines as line
-use Rattle.transcript_model.specs.Lines.{Line}
+use Rattle.emitter_model.specs.transcript_model.Lines as line
+use Rattle.emitter_model.specs.transcript_model.Lines.{Line}
 use Rattle.emitter_model.specs.Emitting.{Shown, Emits}
 use Rattle.emitter_model.proofs.EmittingLemmas.{emits_nothing}
-use Rattle.script_model.specs.Statements.{Operation}
+use Rattle.script_lang.specs.script_model.Statements.{Operation}
 use Rattle.vms_model.specs.Ids.{Id}
-use Rattle.run_model.specs.World.{Act, File, Node, acted, fallen, next_id, next_moment}
-use Rattle.run_model.specs.Operations.{first_of, is_change, operation_answer}
+use Rattle.file_images.specs.run_model.World.{Act, File, Node, acted, fallen, next_id, next_moment}
+use Rattle.file_images.specs.run_model.Operations.{first_of, is_change, operation_answer}
 use Rattle.record_operations.specs.Causes.{down_in}
 use Rattle.record_operations.specs.declared.errors.RecErr.{RecErr}
 use Rattle.record_operations.specs.declared.ops.RecordOp.{RecordOp}
@@ -17,11 +17,11 @@ use Rattle.record_operations.specs.declared.ops.RecordOp.TheVariants as change
 use Rattle.record_operations.specs.declared.ops.ReadOp.{ReadOp}
 use Rattle.record_operations.specs.declared.ops.ReadOp.TheVariants as read
 use Rattle.volume.specs.State.{SameVolume}
-use Rattle.volume_model.specs.Volumes.{HasDisk}
+use Rattle.recovery_units.specs.volume_model.Volumes.{HasDisk}
 use Rattle.recovery_units.specs.Calls.{IsAskedAlone, IsDone, IsNotDone, IsSeen, KeepsUp, alone_refused_after_reading, alone_refused_before_reading, change_said, direct_act, read_said, refusal_of}
 use Rattle.recovery_units.specs.State.{IsInOrder, IsKept, UnitsState}
 use Rattle.recovery_units.specs.Uses.{Caused, Grows, ImagesGrow}
-use Rattle.node_table.specs.Standing.{Stored}
+use Rattle.node_standing.specs.node_table.Standing.{Stored}
 use Rattle.file_requests.specs.Acting.{ActsAlone, LooksAlone, alone_service}
 use Rattle.file_requests.specs.Asking.{ShowsCause}
 use Rattle.file_requests.specs.Replying.{IsPlain, RepliesIf}

@@ -5,13 +5,13 @@ use Rattle.std.proofs.lemmas.Bool.{eqb-true}
 use Rattle.file_base.specs.declared.head.FileHead.{FileHead}
 use Rattle.file_base.specs.declared.head.Organization.{Organization as Kept}
 use Rattle.file_base.specs.declared.head.Organization.TheVariants as kept
-use Rattle.record_files.specs.Any.{FormBy}
-use Rattle.transcript_model.specs.Lines as line
-use Rattle.transcript_model.specs.Lines.{Line}
+use Rattle.file_images.specs.record_files.Any.{FormBy}
+use Rattle.emitter_model.specs.transcript_model.Lines as line
+use Rattle.emitter_model.specs.transcript_model.Lines.{Line}
 use Rattle.vms_model.specs.Keys.{Key, Text}
-use Rattle.script_model.specs.Statements.{Update, Delete, Get, Next}
-use Rattle.run_model.specs.World.{File}
-use Rattle.run_model.specs.Operations.{first_of, key_refused, refused_if, delete_refused, size_refused}
+use Rattle.script_lang.specs.script_model.Statements.{Update, Delete, Get, Next}
+use Rattle.file_images.specs.run_model.World.{File}
+use Rattle.file_images.specs.run_model.Operations.{first_of, key_refused, refused_if, delete_refused, size_refused}
 use Rattle.directory_model.specs.Files.{IsHeadOf, organized_by}
 use Rattle.file_requests.specs.Asking.{IsUnkeyed}
 

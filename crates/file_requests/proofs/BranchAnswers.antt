@@ -1,20 +1,20 @@
 -- Operations on records, from what calls on units answer.
 use Rattle.std.proofs.Common.{◌≡◌, ℕ, List, [], ◌∷◌, Option, Some, None, Result, Ok, Err, refl, sym, subst}
 use Rattle.careful_write.specs.declared.down.Down.{Down}
-use Rattle.transcript_model.specs.Lines.{Line}
+use Rattle.emitter_model.specs.transcript_model.Lines.{Line}
 use Rattle.emitter_model.specs.Emitting.{Shown, Emits}
-use Rattle.script_model.specs.Statements.{Operation}
+use Rattle.script_lang.specs.script_model.Statements.{Operation}
 use Rattle.vms_model.specs.Ids.{Id}
-use Rattle.commit_protocol.specs.Table.{Branch}
-use Rattle.run_model.specs.World.{Act, File, Node}
-use Rattle.run_model.specs.Operations.{changes_of, keys_held, operation_answer}
+use Rattle.emitter_model.specs.commit_protocol.Table.{Branch}
+use Rattle.file_images.specs.run_model.World.{Act, File, Node}
+use Rattle.file_images.specs.run_model.Operations.{changes_of, keys_held, operation_answer}
 use Rattle.record_operations.specs.Causes.{down_in}
 use Rattle.recovery_units.specs.Calls.{IsAsked, IsDone, IsNotDone, KeepsUp, refusal_of, unit_act, unit_refused_after_reading, unit_refused_before_reading}
 use Rattle.recovery_units.specs.State.{IsInOrder, IsKept, WorksFor}
 use Rattle.recovery_units.specs.Uses.{Caused, Grows, ImagesGrow}
 use Rattle.record_operations.specs.declared.errors.RecErr.{RecErr}
 use Rattle.record_operations.specs.declared.errors.RecErr.TheVariants as err
-use Rattle.node_table.specs.Standing.{Stored}
+use Rattle.node_standing.specs.node_table.Standing.{Stored}
 use Rattle.file_requests.specs.Acting.{ActsFor, branch_service}
 use Rattle.file_requests.specs.Asking.{ShowsCause}
 use Rattle.file_requests.specs.Replying.{IsPlain, RepliesIf}

@@ -5,12 +5,12 @@ use Rattle.std.proofs.Math.Nat.{max-zero}
 use Rattle.std.proofs.lemmas.Bool.{ltb-true, ltb-false}
 use Rattle.block_disk.specs.Counts.{counted}
 use Rattle.block_disk.specs.Disk.{DiskState}
-use Rattle.image_room.specs.Room.{images_end}
+use Rattle.recovery_units.specs.image_room.Room.{images_end}
 use Rattle.careful_write.specs.Down.{Counts, answered, is_failed, is_stopped}
 use Rattle.careful_write.specs.declared.down.Down.{Down}
 use Rattle.careful_write.specs.declared.down.Down.TheVariants as down
-use Rattle.transcript_model.specs.Outside.{Rose}
-use Rattle.transcript_model.proofs.OutsideLemmas.{rose_earlier}
+use Rattle.emitter_model.specs.transcript_model.Outside.{Rose}
+use Rattle.emitter_model.proofs.transcript_model.OutsideLemmas.{rose_earlier}
 use Rattle.volume.specs.declared.catalog.Catalog.{Catalog}
 use Rattle.volume.specs.State.{SameVolume, VolumeState}
 use Rattle.recovery_units.specs.Uses.{Caused, DiskAdvances, Grows, ImagesGrow, down_of}

@@ -7,9 +7,9 @@ use Rattle.file_recoveries.specs.declared.causes.Way.{Way}
 use Rattle.file_recoveries.specs.declared.causes.Way.TheVariants as way
 use Rattle.file_recoveries.specs.declared.errors.RecoverErr.{RecoverErr}
 use Rattle.file_recoveries.specs.declared.errors.RecoverErr.TheVariants as err
-use Rattle.recover_rms.specs.Calls.{NotRecovered}
-use Rattle.script_model.specs.Statements.{Recovery, Forward, Backward}
-use Rattle.run_model.specs.Answers.{way_of}
+use Rattle.recovered_nodes.specs.recover_rms.Calls.{NotRecovered}
+use Rattle.script_lang.specs.script_model.Statements.{Recovery, Forward, Backward}
+use Rattle.file_images.specs.run_model.Answers.{way_of}
 use Rattle.vms_base.specs.declared.ids.Serial.{Serial}
 use Rattle.vms_base.specs.declared.times.Moment.{Moment}
 use Rattle.vms_model.specs.Times.{CanBeWritten}

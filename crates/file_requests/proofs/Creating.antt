@@ -7,23 +7,23 @@ use Rattle.extents.specs.Extents.{IsFreeRun, all_extents}
 use Rattle.extents.specs.declared.extent.Extent.{Extent as Area}
 use Rattle.file_base.specs.declared.head.FileHead.{FileHead}
 use Rattle.emitter_model.specs.Emitting.{Shown, Emits}
-use Rattle.transcript_model.specs.Lines as line
-use Rattle.transcript_model.specs.Lines.{Line}
-use Rattle.script_model.specs.Statements.{Create, Form}
+use Rattle.emitter_model.specs.transcript_model.Lines as line
+use Rattle.emitter_model.specs.transcript_model.Lines.{Line}
+use Rattle.script_lang.specs.script_model.Statements.{Create, Form}
 use Rattle.script_lang.specs.Statements.{form_of}
 use Rattle.volume.specs.Limits.{data_area}
-use Rattle.volume_format.specs.Home.{sizes_of}
-use Rattle.run_model.specs.World.{Creates, File, Node, Shared, free_place, longest_free, lowest_free}
-use Rattle.run_model.specs.Answers.{Row, Service, blocks_for, created, is_file_form, room_for, service, silent}
-use Rattle.run_model.specs.Operations.{first_of, refused_if}
+use Rattle.volume.specs.volume_format.Home.{sizes_of}
+use Rattle.file_images.specs.run_model.World.{Creates, File, Node, Shared, free_place, longest_free, lowest_free}
+use Rattle.file_images.specs.run_model.Answers.{Row, Service, blocks_for, created, is_file_form, room_for, service, silent}
+use Rattle.file_images.specs.run_model.Operations.{first_of, refused_if}
 use Rattle.directory_model.specs.Files.{IsNamed, NoneNamed, head_at}
 use Rattle.directory_model.specs.Laws.{area_of}
 use Rattle.node_files.specs.NewFile.{AreSizes, buckets_in, new_head}
 use Rattle.node_files.specs.declared.sizes.Sizes.{Sizes}
 use Rattle.node_files.proofs.NewHead.{new_head_is}
 use Rattle.recovery_units.specs.State.{IsInOrder, IsKept}
-use Rattle.node_table.specs.Serving.{ServiceAt, service_at}
-use Rattle.node_table.specs.Standing.{Stored}
+use Rattle.node_standing.specs.node_table.Serving.{ServiceAt, service_at}
+use Rattle.node_standing.specs.node_table.Standing.{Stored}
 use Rattle.file_requests.specs.Making.{BecomesFile, IsFresh, MakesFile, making}
 use Rattle.file_requests.specs.Replying.{IsPlain}
 use Rattle.file_requests.specs.Serving.{DoesThere, SameStored, ServesFile, disk_of}

@@ -10,29 +10,29 @@ use Rattle.file_base.specs.declared.head.FileHead.{FileHead}
 use Rattle.file_base.specs.declared.head.Span.{Span}
 use Rattle.file_images.specs.Files.{HasSide, form_of}
 use Rattle.file_images.specs.Images.{HasImageJournal}
-use Rattle.record_files.specs.Any.{IsFile, IsLaidOut, map_of}
-use Rattle.script_model.specs.Statements.{Dump, DumpImages, DumpJournal, Side, AfterImages, BeforeImages}
+use Rattle.file_images.specs.record_files.Any.{IsFile, IsLaidOut, map_of}
+use Rattle.script_lang.specs.script_model.Statements.{Dump, DumpImages, DumpJournal, Side, AfterImages, BeforeImages}
 use Rattle.emitter_model.specs.Emitting.{Shown, Emits, Since}
 use Rattle.journal_store.specs.Rings.{IsRing}
-use Rattle.transcript_model.specs.Lines as line
-use Rattle.transcript_model.specs.Lines.{Line}
+use Rattle.emitter_model.specs.transcript_model.Lines as line
+use Rattle.emitter_model.specs.transcript_model.Lines.{Line}
 use Rattle.volume.specs.declared.catalog.Catalog.{Catalog}
 use Rattle.volume.specs.Catalogs.{TellsCatalog, TellsEntry}
-use Rattle.volume_model.specs.Volumes.{HasDisk, IsEitherOf}
+use Rattle.recovery_units.specs.volume_model.Volumes.{HasDisk, IsEitherOf}
 use Rattle.vms_model.specs.Ids.{Id}
 use Rattle.vms_model.specs.Keys.{Key}
 use Rattle.records_model.specs.History.{current}
 use Rattle.records_model.specs.Records.{Records}
-use Rattle.run_model.specs.World.{File, Node, Shared, fallen}
-use Rattle.run_model.specs.Answers.{Service, entry_lines, has_journal, image_lines, journal_at, service, shown_line, shown_record}
-use Rattle.run_model.specs.Operations.{first_of, in_order, refused_if}
+use Rattle.file_images.specs.run_model.World.{File, Node, Shared, fallen}
+use Rattle.file_images.specs.run_model.Answers.{Service, entry_lines, has_journal, image_lines, journal_at, service, shown_line, shown_record}
+use Rattle.file_images.specs.run_model.Operations.{first_of, in_order, refused_if}
 use Rattle.directory_model.specs.Files.{IsFile as IsFileHere, IsNamed, NoneNamed}
-use Rattle.unit_laws.specs.Journal.{Journal, end_of}
+use Rattle.file_images.specs.unit_laws.Journal.{Journal, end_of}
 use Rattle.unit_table.specs.Units as units
 use Rattle.recovery_units.specs.State.{IsInOrder, IsKept}
-use Rattle.node_table.specs.Serving.{service_at}
-use Rattle.node_table.specs.Standing.{Stored}
-use Rattle.world_laws.specs.Nodes.{IsUp}
+use Rattle.node_standing.specs.node_table.Serving.{service_at}
+use Rattle.node_standing.specs.node_table.Standing.{Stored}
+use Rattle.recovery_units.specs.world_laws.Nodes.{IsUp}
 use Rattle.node_files.proofs.CatalogLemmas.{fits_at, head_below, named_once, placed}
 use Rattle.file_requests.specs.Listing.{HasShowable, Lists, Shows, ShowsJournal, record_line, span_at}
 use Rattle.file_requests.specs.Replying.{IsPlain, RepliesIf}

@@ -6,10 +6,10 @@ use Rattle.careful_write.specs.declared.down.Down.{Down}
 use Rattle.change_set.specs.Files.{first_place}
 use Rattle.change_set.specs.Maps.{Map, EndsAfter}
 use Rattle.file_base.specs.declared.head.FileHead.{FileHead}
-use Rattle.record_files.specs.Any.{Begins, IsFile, IsLaidOut}
-use Rattle.record_files.specs.Local.{begins_first_law}
-use Rattle.transcript_model.specs.Lines as line
-use Rattle.transcript_model.specs.Lines.{Line}
+use Rattle.file_images.specs.record_files.Any.{Begins, IsFile, IsLaidOut}
+use Rattle.file_images.specs.record_files.Local.{begins_first_law}
+use Rattle.emitter_model.specs.transcript_model.Lines as line
+use Rattle.emitter_model.specs.transcript_model.Lines.{Line}
 use Rattle.emitter_model.specs.Emitting.{Shown, Emits}
 use Rattle.emitter_model.proofs.EmittingLemmas.{emits_on}
 use Rattle.vms_model.specs.Keys.{Key}

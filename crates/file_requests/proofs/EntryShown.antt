@@ -11,22 +11,22 @@ use Rattle.file_base.specs.declared.head.Organization.TheVariants.{Sequential, R
 use Rattle.vms_base.specs.Ids.{tid_of, serial_of}
 use Rattle.vms_model.specs.Keys.{Key, Number, Text, End}
 use Rattle.vms_model.specs.Ids.{Id}
-use Rattle.journal_model.specs.Entries.{Entry, IsEntry, is_key, spelling}
-use Rattle.journal_model.specs.Ring.{StandsAt}
+use Rattle.journal_format.specs.journal_model.Entries.{Entry, IsEntry, is_key, spelling}
+use Rattle.journal_format.specs.journal_model.Ring.{StandsAt}
 use Rattle.journal_store.specs.Reading.{ReadsAt}
 use Rattle.journal_format.specs.Heads.{entry_of, flag_of, kind_code}
 use Rattle.journal_format.specs.declared.head.EntryHead.{EntryHead}
 use Rattle.journal_format.specs.declared.head.EntryKind.{EntryKind}
 use Rattle.journal_format.specs.declared.head.EntryKind.TheVariants.{Change}
-use Rattle.transcript_model.specs.Lines as line
-use Rattle.transcript_model.specs.Lines.{Line}
-use Rattle.unit_laws.specs.Journal.{JournalEntry, ChangeEntry, PreparedEntry, SettledEntry, entry_size}
-use Rattle.run_model.specs.Answers.{entry_line}
+use Rattle.emitter_model.specs.transcript_model.Lines as line
+use Rattle.emitter_model.specs.transcript_model.Lines.{Line}
+use Rattle.file_images.specs.unit_laws.Journal.{JournalEntry, ChangeEntry, PreparedEntry, SettledEntry, entry_size}
+use Rattle.file_images.specs.run_model.Answers.{entry_line}
 use Rattle.directory_model.specs.Files.{head_at}
 use Rattle.volume.specs.State.{VolumeState}
 use Rattle.file_images.specs.Images.{image_bytes, key_bytes}
-use Rattle.volume_model.specs.Entries.{IsFileOf, entry_for}
-use Rattle.volume_model.proofs.EntryLemmas.{entries_follow}
+use Rattle.recovery_units.specs.volume_model.Entries.{IsFileOf, entry_for}
+use Rattle.recovery_units.proofs.volume_model.EntryLemmas.{entries_follow}
 use Rattle.recovery_units.specs.State.{IsKeyBy, IsShowable}
 use Rattle.file_requests.specs.Listing.{change_shown, key_by}
 

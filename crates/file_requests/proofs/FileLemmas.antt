@@ -1,12 +1,12 @@
 -- A file by its name, at a node of the world.
 use Rattle.std.proofs.Common.{◌≡◌, ℕ, List, Option, Some, None}
 use Rattle.file_base.specs.declared.head.FileHead.{FileHead}
-use Rattle.transcript_model.specs.Lines as line
-use Rattle.transcript_model.specs.Lines.{Line}
-use Rattle.run_model.specs.World.{File, Node, find_file}
+use Rattle.emitter_model.specs.transcript_model.Lines as line
+use Rattle.emitter_model.specs.transcript_model.Lines.{Line}
+use Rattle.file_images.specs.run_model.World.{File, Node, find_file}
 use Rattle.directory_model.specs.Files.{IsCarried, IsFile, IsFoundAt, IsNamed, NoneNamed}
 use Rattle.recovery_units.specs.State.{IsKept}
-use Rattle.node_table.specs.Standing.{Stored}
+use Rattle.node_standing.specs.node_table.Standing.{Stored}
 use Rattle.file_requests.specs.TheLaws.{TheLaws}
 
 pub record FileAt (n : Node) (u : Stored) (k : IsKept u.units u.volume n) (f : ℕ) (head : FileHead) (name : List ℕ) : Type 0 where

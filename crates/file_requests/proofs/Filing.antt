@@ -2,21 +2,21 @@
 use Rattle.std.proofs.Common.{◌≡◌, ℕ, List, [], ◌∷◌, Option, Some, None, if◌then◌else◌, refl, sym, ap, ◌∙◌}
 use Rattle.std.specs.List.{AllByRecursion}
 use Rattle.file_base.specs.declared.head.FileHead.{FileHead}
-use Rattle.transcript_model.specs.Lines as line
-use Rattle.transcript_model.specs.Lines.{Line}
+use Rattle.emitter_model.specs.transcript_model.Lines as line
+use Rattle.emitter_model.specs.transcript_model.Lines.{Line}
 use Rattle.vms_model.specs.Ids.{Id}
-use Rattle.script_model.specs.Statements.{Backup, Recover, Recovery, SetFile, Dump, Setting}
-use Rattle.commit_protocol.specs.Table.{Branch}
+use Rattle.script_lang.specs.script_model.Statements.{Backup, Recover, Recovery, SetFile, Dump, Setting}
+use Rattle.emitter_model.specs.commit_protocol.Table.{Branch}
 use Rattle.records_model.specs.History.{first_to_change}
-use Rattle.run_model.specs.World.{File, Node, Shared, find_file, serials_of}
-use Rattle.run_model.specs.Answers.{recovery_refused, service, setting_refused, unchanged_file}
-use Rattle.run_model.specs.Operations.{first_of}
+use Rattle.file_images.specs.run_model.World.{File, Node, Shared, find_file, serials_of}
+use Rattle.file_images.specs.run_model.Answers.{recovery_refused, service, setting_refused, unchanged_file}
+use Rattle.file_images.specs.run_model.Operations.{first_of}
 use Rattle.directory_model.specs.Files.{IsNamed, file_at}
 use Rattle.unit_table.specs.Units as units
 use Rattle.unit_table.specs.Units.{OpenUnit, has_changed}
 use Rattle.recovery_units.specs.State.{AreOfBranches, IsKept, IsUnitOf, changed_at}
-use Rattle.node_table.specs.Serving.{service_at}
-use Rattle.node_table.specs.Standing.{Stored}
+use Rattle.node_standing.specs.node_table.Serving.{service_at}
+use Rattle.node_standing.specs.node_table.Standing.{Stored}
 use Rattle.file_requests.specs.TheLaws.{TheLaws}
 use Rattle.file_requests.proofs.FileLemmas.{FileAt, file_at_name, file_by, there_by}
 

@@ -12,13 +12,13 @@ use Rattle.volume.specs.declared.catalog.Catalog.{Catalog}
 use Rattle.volume.specs.Catalogs.{TellsCatalog}
 use Rattle.volume.specs.Limits.{data_area}
 use Rattle.volume.specs.State.{VolumeState}
-use Rattle.volume_format.specs.Home.{sizes_of}
-use Rattle.volume_model.specs.Volumes.{HasDisk, IsLeftBy, LeavesVolume}
-use Rattle.run_model.specs.World.{Node, fallen}
-use Rattle.image_room.specs.Room.{AllSettlementsFit}
+use Rattle.volume.specs.volume_format.Home.{sizes_of}
+use Rattle.recovery_units.specs.volume_model.Volumes.{HasDisk, IsLeftBy, LeavesVolume}
+use Rattle.file_images.specs.run_model.World.{Node, fallen}
+use Rattle.recovery_units.specs.image_room.Room.{AllSettlementsFit}
 use Rattle.node_files.proofs.CatalogLemmas.{holds_out, off_front, out_some}
 use Rattle.recovery_units.specs.State.{IsInOrder, IsKept}
-use Rattle.node_table.specs.Standing.{Stored}
+use Rattle.node_standing.specs.node_table.Standing.{Stored}
 use Rattle.file_requests.specs.Serving.{disk_of}
 use Rattle.file_requests.specs.TheLaws.{TheLaws}
 use Rattle.file_requests.proofs.HeadWrites.{Content, disk_sound, fallen_as, left_down, same_some}

@@ -7,16 +7,16 @@ use Rattle.careful_write.specs.State.{EachWhole, IsIdle, Leaves, StoreState, con
 use Rattle.careful_write.proofs.GroupParts.{stop_closed}
 use Rattle.change_set.specs.Files.{free_frames}
 use Rattle.file_base.specs.declared.head.FileHead.{FileHead}
-use Rattle.journal_model.specs.Ring.{ring_size}
+use Rattle.journal_format.specs.journal_model.Ring.{ring_size}
 use Rattle.volume.specs.declared.catalog.Catalog.{Catalog}
 use Rattle.volume.specs.Catalogs.{IsSound, TellsCatalog}
 use Rattle.volume.specs.State.{VolumeState, Holds, with_block}
 use Rattle.node_files.specs.Writing.{Writes}
 use Rattle.unit_table.specs.Units.{Ascend, OpenUnit}
-use Rattle.run_model.specs.World.{Act, Node, Volume, Sound, Faulty, Barred, Unknown, acted, fallen}
-use Rattle.volume_model.specs.Volumes.{BarsBoots, FailsFirst, HasDisk, IsEitherOf, IsLeftBy}
+use Rattle.file_images.specs.run_model.World.{Act, Node, Volume, Sound, Faulty, Barred, Unknown, acted, fallen}
+use Rattle.recovery_units.specs.volume_model.Volumes.{BarsBoots, FailsFirst, HasDisk, IsEitherOf, IsLeftBy}
 use Rattle.recovery_units.specs.Laws.{HeadWritten, KeepsNodes}
-use Rattle.image_room.specs.Room.{AllSettlementsFit, images_end}
+use Rattle.recovery_units.specs.image_room.Room.{AllSettlementsFit, images_end}
 use Rattle.recovery_units.specs.State.{IsInOrder, IsKept, UnitsState, owed}
 use Rattle.recovery_units.specs.Uses.{Grows, ImagesGrow}
 use Rattle.file_requests.proofs.Calls.{goes_counts, grows_still}

@@ -11,24 +11,24 @@ use Rattle.file_base.specs.declared.head.Span.{Span}
 use Rattle.file_images.specs.Files.{HasSide}
 use Rattle.file_images.specs.Images.{disk_entries, disk_entry}
 use Rattle.file_images.specs.Laws.{ImagesStand}
-use Rattle.image_appends.specs.declared.side.Side.TheVariants.{After, Before}
-use Rattle.image_appends.specs.Images.{is_kept, span_of}
-use Rattle.image_room.proofs.Rings.{ring_in}
-use Rattle.journal_model.specs.Entries.{Entry}
-use Rattle.journal_model.specs.Ring.{ring_size}
+use Rattle.recovery_units.specs.image_appends.declared.side.Side.TheVariants.{After, Before}
+use Rattle.recovery_units.specs.image_appends.Images.{is_kept, span_of}
+use Rattle.recovery_units.proofs.image_room.Rings.{ring_in}
+use Rattle.journal_format.specs.journal_model.Entries.{Entry}
+use Rattle.journal_format.specs.journal_model.Ring.{ring_size}
 use Rattle.journal_store.specs.Rings.{IsRing}
-use Rattle.transcript_model.specs.Lines.{Line}
-use Rattle.unit_laws.specs.Journal.{Journal, JournalEntry, end_of, entries_size, entry_size}
-use Rattle.unit_laws.proofs.TrimLemmas.{size_append}
+use Rattle.emitter_model.specs.transcript_model.Lines.{Line}
+use Rattle.file_images.specs.unit_laws.Journal.{Journal, JournalEntry, end_of, entries_size, entry_size}
+use Rattle.file_images.proofs.unit_laws.TrimLemmas.{size_append}
 use Rattle.vms_model.specs.Ids.{Id}
-use Rattle.recovery_model.specs.Journal.{Changed, Settled, entry_in, entry_length}
-use Rattle.recovery_model.specs.Journal as image
-use Rattle.recovery_model.specs.File.{ImageJournal, Placed, StandFrom, all_of, entries_length}
-use Rattle.run_model.specs.Answers.{entry_line, entry_lines, image_line, image_lines}
+use Rattle.file_images.specs.recovery_model.Journal.{Changed, Settled, entry_in, entry_length}
+use Rattle.file_images.specs.recovery_model.Journal as image
+use Rattle.file_images.specs.recovery_model.File.{ImageJournal, Placed, StandFrom, all_of, entries_length}
+use Rattle.file_images.specs.run_model.Answers.{entry_line, entry_lines, image_line, image_lines}
 use Rattle.volume.specs.declared.catalog.Catalog.{Catalog}
 use Rattle.volume.specs.State.{VolumeState}
-use Rattle.volume_model.specs.Entries.{AreEntries, IsFileOf, entry_for}
-use Rattle.volume_model.proofs.EntryLemmas.{entries_follow}
+use Rattle.recovery_units.specs.volume_model.Entries.{AreEntries, IsFileOf, entry_for}
+use Rattle.recovery_units.proofs.volume_model.EntryLemmas.{entries_follow}
 use Rattle.directory_model.specs.Files.{AreNamedOnce, IsNamed, head_at}
 use Rattle.recovery_units.specs.State.{IsEarly, IsImageShowable, IsInOrder, IsKeyBy, IsShowable, UnitsState}
 use Rattle.file_requests.specs.Listing.{HasShowable}

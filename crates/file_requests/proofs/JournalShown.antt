@@ -6,19 +6,19 @@ use Rattle.std.proofs.Math.Seq.{take-append_seam}
 use Rattle.careful_write.specs.declared.down.Down.{Down}
 use Rattle.file_base.specs.declared.head.FileHead.{FileHead}
 use Rattle.file_base.specs.declared.head.Span.{Span}
-use Rattle.journal_model.specs.Entries.{Entry, IsEntry}
-use Rattle.journal_model.specs.Ring.{StandsAt}
+use Rattle.journal_format.specs.journal_model.Entries.{Entry, IsEntry}
+use Rattle.journal_format.specs.journal_model.Ring.{StandsAt}
 use Rattle.journal_store.proofs.EntriesAt.{stands_in}
 use Rattle.emitter_model.specs.Emitting.{Shown, Emits}
-use Rattle.transcript_model.specs.Lines as line
-use Rattle.transcript_model.specs.Lines.{Line}
+use Rattle.emitter_model.specs.transcript_model.Lines as line
+use Rattle.emitter_model.specs.transcript_model.Lines.{Line}
 use Rattle.emitter_model.proofs.EmittingLemmas.{emits_nothing, emits_on}
 use Rattle.volume.specs.State.{SameVolume, VolumeState}
-use Rattle.unit_laws.specs.Journal.{Journal, JournalEntry, ChangeEntry, PreparedEntry, SettledEntry, end_of, entries_size, entry_size}
-use Rattle.unit_laws.proofs.TrimLemmas.{size_append}
-use Rattle.run_model.specs.Answers.{entry_line, entry_lines}
-use Rattle.volume_model.specs.Entries.{AreEntries, IsFileOf, entry_for}
-use Rattle.volume_model.proofs.EntryLemmas.{entries_follow}
+use Rattle.file_images.specs.unit_laws.Journal.{Journal, JournalEntry, ChangeEntry, PreparedEntry, SettledEntry, end_of, entries_size, entry_size}
+use Rattle.file_images.proofs.unit_laws.TrimLemmas.{size_append}
+use Rattle.file_images.specs.run_model.Answers.{entry_line, entry_lines}
+use Rattle.recovery_units.specs.volume_model.Entries.{AreEntries, IsFileOf, entry_for}
+use Rattle.recovery_units.proofs.volume_model.EntryLemmas.{entries_follow}
 use Rattle.recovery_units.specs.State.{IsShowable}
 use Rattle.file_requests.specs.Listing.{HasShowable, ShowsEntry, ShowsJournal}
 

@@ -2,9 +2,9 @@
 use Rattle.std.proofs.Common.{[], ◌∷◌, Ok, refl, sym, subst}
 use Rattle.careful_write.specs.Reads.{as_read_by}
 use Rattle.emitter_model.specs.Emitting.{Shown, Emits}
-use Rattle.transcript_model.specs.Lines.{Line}
+use Rattle.emitter_model.specs.transcript_model.Lines.{Line}
 use Rattle.recovery_units.specs.State.{IsInOrder}
-use Rattle.node_table.specs.Standing.{Stored}
+use Rattle.node_standing.specs.node_table.Standing.{Stored}
 use Rattle.file_requests.specs.Replying.{IsPlain}
 use Rattle.file_requests.specs.Serving.{KeepsStored, SameStored, disk_of}
 use Rattle.file_requests.proofs.Calls.{goes_nowhere, grows_still, images_still}

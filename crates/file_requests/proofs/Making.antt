@@ -10,22 +10,22 @@ use Rattle.change_set.specs.Files.{AgreesOut, IsPlaced, LeavesOut, in_extent}
 use Rattle.change_set.specs.Maps.{empty_map}
 use Rattle.extents.specs.Extents.{IsFreeRun, all_extents}
 use Rattle.file_base.specs.declared.head.FileHead.{FileHead}
-use Rattle.record_files.specs.Any as any
-use Rattle.record_files.specs.Any.{IsLaidOut, first_layout_of, layout_of, map_of}
+use Rattle.file_images.specs.record_files.Any as any
+use Rattle.file_images.specs.record_files.Any.{IsLaidOut, first_layout_of, layout_of, map_of}
 use Rattle.script_lang.specs.declared.statement.Form.{Form as CodeForm}
 use Rattle.script_lang.specs.declared.statement.Form.TheVariants as code_form
 use Rattle.script_lang.specs.Statements.{form_of}
 use Rattle.emitter_model.specs.Emitting.{Shown, Emits}
-use Rattle.transcript_model.specs.Lines as line
+use Rattle.emitter_model.specs.transcript_model.Lines as line
 use Rattle.emitter_model.proofs.EmittingLemmas.{emits_nothing, since_same}
 use Rattle.volume.specs.declared.catalog.Catalog.{Catalog}
 use Rattle.volume.specs.Catalogs.{IsSound, TellsCatalog}
 use Rattle.volume.specs.Limits.{FileFits, KeysFit, RootFits, data_area, file_buckets}
 use Rattle.volume.specs.State.{VolumeState}
-use Rattle.volume_format.specs.Home.{sizes_of}
-use Rattle.volume_model.specs.Volumes.{HasDisk, IsLeftBy, LeavesVolume}
-use Rattle.run_model.specs.Answers.{is_file_form}
-use Rattle.run_model.specs.World.{Creates, File, Node, acted, fallen, nothing_carried}
+use Rattle.volume.specs.volume_format.Home.{sizes_of}
+use Rattle.recovery_units.specs.volume_model.Volumes.{HasDisk, IsLeftBy, LeavesVolume}
+use Rattle.file_images.specs.run_model.Answers.{is_file_form}
+use Rattle.file_images.specs.run_model.World.{Creates, File, Node, acted, fallen, nothing_carried}
 use Rattle.directory_model.specs.Files.{IsCarried, IsFile, IsNewHead, IsOrganized, NoneNamed}
 use Rattle.node_files.specs.declared.sizes.Sizes.{Sizes}
 use Rattle.node_files.specs.NewFile.{AreSizes, buckets_in, kept_by, new_head}
@@ -33,12 +33,12 @@ use Rattle.node_files.proofs.CatalogLemmas.{fit_of, holds_out, named_once, off_f
 use Rattle.node_files.proofs.NewHead.{new_head_is}
 use Rattle.recovery_units.specs.State.{IsInOrder, IsKept, UnitsState}
 use Rattle.file_requests.specs.Making.{BecomesFile, IsFresh, MakesFile, making}
-use Rattle.world_laws.specs.Nodes.{IsUp}
+use Rattle.recovery_units.specs.world_laws.Nodes.{IsUp}
 use Rattle.recovery_units.specs.Uses.{Caused, DiskAdvances, Grows}
-use Rattle.node_table.specs.Standing.{Stored}
+use Rattle.node_standing.specs.node_table.Standing.{Stored}
 use Rattle.file_requests.specs.Serving.{SameStored, disk_of, name_of}
 use Rattle.file_requests.specs.TheLaws.{TheLaws}
-use Rattle.image_room.specs.Room.{AllSettlementsFit, images_end}
+use Rattle.recovery_units.specs.image_room.Room.{AllSettlementsFit, images_end}
 use Rattle.file_requests.proofs.Calls.{grows_still}
 use Rattle.file_requests.proofs.FreeWrites as free
 use Rattle.file_requests.proofs.FreeWrites.{WrittenFree}

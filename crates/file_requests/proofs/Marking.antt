@@ -8,34 +8,34 @@ use Rattle.extents.specs.Extents.{all_extents}
 use Rattle.extents.specs.declared.extent.Extent.{Extent as Area}
 use Rattle.file_base.specs.declared.head.FileHead.{FileHead}
 use Rattle.file_base.specs.declared.head.Span.{Span}
-use Rattle.transcript_model.specs.Lines as line
-use Rattle.transcript_model.specs.Lines.{Line}
+use Rattle.emitter_model.specs.transcript_model.Lines as line
+use Rattle.emitter_model.specs.transcript_model.Lines.{Line}
 use Rattle.emitter_model.specs.Emitting.{Shown, Emits}
 use Rattle.emitter_model.proofs.EmittingLemmas.{emits_nothing, since_same}
-use Rattle.journal_model.specs.Ring.{HasRing, ring_size}
-use Rattle.recovery_model.specs.File.{next_span}
-use Rattle.script_model.specs.Statements.{SetFile, Setting, RecoveryUnits, NoRecoveryUnits, Images, NoImages, Side, AfterImages, BeforeImages}
+use Rattle.journal_format.specs.journal_model.Ring.{HasRing, ring_size}
+use Rattle.file_images.specs.recovery_model.File.{next_span}
+use Rattle.script_lang.specs.script_model.Statements.{SetFile, Setting, RecoveryUnits, NoRecoveryUnits, Images, NoImages, Side, AfterImages, BeforeImages}
 use Rattle.vms_model.specs.Ids.{Id}
 use Rattle.volume.specs.Catalogs.{IsSound}
 use Rattle.volume.specs.State.{VolumeState}
 use Rattle.volume.specs.Limits.{data_area}
-use Rattle.volume_format.specs.Home.{sizes_of}
-use Rattle.volume_model.specs.Volumes.{HasDisk}
-use Rattle.run_model.specs.World.{Act, Mark, Marks, ForUnits, BeginsImages, EndsImages, Node, Shared, acted, fallen, is_durable, longest_free, lowest_free, shared_after}
-use Rattle.run_model.specs.Answers.{Row, Service, service, setting_full, setting_refused, sets, silent, start_of}
-use Rattle.run_model.specs.Operations.{first_of, refused_if}
+use Rattle.volume.specs.volume_format.Home.{sizes_of}
+use Rattle.recovery_units.specs.volume_model.Volumes.{HasDisk}
+use Rattle.file_images.specs.run_model.World.{Act, Mark, Marks, ForUnits, BeginsImages, EndsImages, Node, Shared, acted, fallen, is_durable, longest_free, lowest_free, shared_after}
+use Rattle.file_images.specs.run_model.Answers.{Row, Service, service, setting_full, setting_refused, sets, silent, start_of}
+use Rattle.file_images.specs.run_model.Operations.{first_of, refused_if}
 use Rattle.directory_model.specs.Files.{IsNamed, NoneNamed, head_at}
 use Rattle.directory_model.specs.Laws.{area_of, begun_head, end_by, ended_head, marked}
-use Rattle.image_appends.specs.declared.side.Side.TheVariants.{After, Before}
-use Rattle.image_appends.specs.Images.{is_kept, span_of}
-use Rattle.image_room.specs.Room.{AllSettlementsFit, SettlementsFit, images_end}
+use Rattle.recovery_units.specs.image_appends.declared.side.Side.TheVariants.{After, Before}
+use Rattle.recovery_units.specs.image_appends.Images.{is_kept, span_of}
+use Rattle.recovery_units.specs.image_room.Room.{AllSettlementsFit, SettlementsFit, images_end}
 use Rattle.unit_table.specs.Units as units
-use Rattle.world_laws.specs.Nodes.{IsUp}
+use Rattle.recovery_units.specs.world_laws.Nodes.{IsUp}
 use Rattle.recovery_units.specs.Laws.{HeadWritten, MarksHead}
 use Rattle.recovery_units.specs.State.{IsEarly, IsInOrder, IsKept, UnitsState}
 use Rattle.recovery_units.specs.Uses.{Caused, Grows, down_of}
-use Rattle.node_table.specs.Serving.{ServiceAt, service_at}
-use Rattle.node_table.specs.Standing.{Stored}
+use Rattle.node_standing.specs.node_table.Serving.{ServiceAt, service_at}
+use Rattle.node_standing.specs.node_table.Standing.{Stored}
 use Rattle.node_files.proofs.CatalogLemmas.{head_below, sound_marked}
 use Rattle.file_requests.specs.Replying.{IsPlain}
 use Rattle.file_requests.specs.Serving.{DoesThere, KeepsStored, SameStored, ServesFile, disk_of, name_of}

@@ -2,16 +2,16 @@
 use Rattle.std.proofs.Common.{◌≡◌, ℕ, zero, suc, ◌-◌, ◌<◌, List, [], ◌∷◌, Bool, true, false, Option, Some, None, length, drop, map, nat_lt, refl, ap, subst, arith}
 use Rattle.std.specs.Prelude.{◌||◌}
 use Rattle.std.proofs.lemmas.Bool.{ltb-false}
-use Rattle.transcript_model.specs.Lines as line
-use Rattle.transcript_model.specs.Lines.{Line}
+use Rattle.emitter_model.specs.transcript_model.Lines as line
+use Rattle.emitter_model.specs.transcript_model.Lines.{Line}
 use Rattle.vms_model.specs.Keys.{Key}
-use Rattle.script_model.specs.Statements.{Operation, Put, Update, Delete, Truncate, Get, Next}
-use Rattle.commit_protocol.specs.Table.{Branch}
+use Rattle.script_lang.specs.script_model.Statements.{Operation, Put, Update, Delete, Truncate, Get, Next}
+use Rattle.emitter_model.specs.commit_protocol.Table.{Branch}
 use Rattle.records_model.specs.Records.{Change}
-use Rattle.run_model.specs.World.{Directs, File, Node, Shared, next_id, next_moment, shared_after}
-use Rattle.run_model.specs.Operations.{changes_of, count_of, data_refused, first_of, in_order, is_change, refused_if, removed}
-use Rattle.run_model.specs.Answers.{commit_settlement, directed, found_refused, operation_act}
-use Rattle.world_laws.specs.Nodes.{AreUp}
+use Rattle.file_images.specs.run_model.World.{Directs, File, Node, Shared, next_id, next_moment, shared_after}
+use Rattle.file_images.specs.run_model.Operations.{changes_of, count_of, data_refused, first_of, in_order, is_change, refused_if, removed}
+use Rattle.file_images.specs.run_model.Answers.{commit_settlement, directed, found_refused, operation_act}
+use Rattle.recovery_units.specs.world_laws.Nodes.{AreUp}
 use Rattle.recovery_units.specs.Calls.{KeepsUp, alone_refused_after_reading, alone_refused_before_reading, direct_act, unit_act, unit_refused_after_reading, unit_refused_before_reading}
 use Rattle.file_requests.specs.Acting.{StaysUp, alone_service, branch_service}
 use Rattle.file_requests.proofs.Served.{both_none}

@@ -3,9 +3,9 @@ use Rattle.std.proofs.Common.{◌≡◌, ◌∙◌, sym, ap, subst}
 use Rattle.careful_write.specs.Reads.{as_read_by}
 use Rattle.recovery_units.specs.State.{IsInOrder, IsKept, UnitsState}
 use Rattle.recovery_units.proofs.ReadLemmas.{kept_read, order_read}
-use Rattle.run_model.specs.World.{Node}
+use Rattle.file_images.specs.run_model.World.{Node}
 use Rattle.volume.specs.State.{SameVolume, VolumeState}
-use Rattle.node_table.specs.Standing.{Stored}
+use Rattle.node_standing.specs.node_table.Standing.{Stored}
 use Rattle.file_requests.specs.Serving.{SameStored}
 
 -- one relation after the other

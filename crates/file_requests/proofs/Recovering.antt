@@ -15,36 +15,36 @@ use Rattle.file_recoveries.specs.declared.causes.Way.TheVariants as way
 use Rattle.file_recoveries.specs.declared.errors.RecoverErr.{RecoverErr}
 use Rattle.file_recoveries.specs.declared.errors.RecoverErr.TheVariants as err
 use Rattle.file_recoveries.proofs.AllowedLemmas.{no_user, unused}
-use Rattle.journal_model.specs.Ring.{ring_size}
-use Rattle.load_laws.specs.Records.{Keyed}
-use Rattle.recover_rms.specs.Calls.{AreInRings, FellRecovering, HasNoRoom, IsRecovered, IsRefused, NotRecovered}
-use Rattle.recover_rms.specs.Loading.{as_loaded}
-use Rattle.recover_rms.specs.Replacing.{IsHeadWith, IsOldOrNew, ReplacesIn, wanted_buckets, with_head}
-use Rattle.recovery_model.specs.Recovery.{rolled}
+use Rattle.journal_format.specs.journal_model.Ring.{ring_size}
+use Rattle.recovered_nodes.specs.load_laws.Records.{Keyed}
+use Rattle.recovered_nodes.specs.recover_rms.Calls.{AreInRings, FellRecovering, HasNoRoom, IsRecovered, IsRefused, NotRecovered}
+use Rattle.recovered_nodes.specs.recover_rms.Loading.{as_loaded}
+use Rattle.recovered_nodes.specs.recover_rms.Replacing.{IsHeadWith, IsOldOrNew, ReplacesIn, wanted_buckets, with_head}
+use Rattle.file_images.specs.recovery_model.Recovery.{rolled}
 use Rattle.recovered_nodes.specs.Recovering.{IsRecoveredHead, IsRenewed}
 use Rattle.recovered_nodes.specs.Laws.{IsAllowed, StandsThere, records_made, recovery_act}
-use Rattle.transcript_model.specs.Lines as line
-use Rattle.transcript_model.specs.Lines.{Line}
+use Rattle.emitter_model.specs.transcript_model.Lines as line
+use Rattle.emitter_model.specs.transcript_model.Lines.{Line}
 use Rattle.emitter_model.specs.Emitting.{Shown, Emits}
 use Rattle.emitter_model.proofs.EmittingLemmas.{emits_nothing, since_same}
-use Rattle.script_model.specs.Statements.{Recover, Recovery}
+use Rattle.script_lang.specs.script_model.Statements.{Recover, Recovery}
 use Rattle.vms_base.specs.Ids.{serial_of}
 use Rattle.vms_base.specs.declared.ids.Serial.{Serial}
 use Rattle.vms_model.specs.Ids.{Id}
 use Rattle.volume.specs.declared.catalog.Catalog.{Catalog}
 use Rattle.volume.specs.Catalogs.{IsSound}
 use Rattle.volume.specs.State.{SameVolume}
-use Rattle.volume_model.specs.Volumes.{HasDisk, IsEitherOf}
-use Rattle.run_model.specs.World.{Node, Shared, acted, fallen, longest_free, state_of}
-use Rattle.run_model.specs.Answers.{Service, blocks_recovered, records_recovered, recovers, recovery_refused, refusal_line, service, silent, volume_full, way_of}
-use Rattle.run_model.specs.Operations.{first_of, refused_if}
+use Rattle.recovery_units.specs.volume_model.Volumes.{HasDisk, IsEitherOf}
+use Rattle.file_images.specs.run_model.World.{Node, Shared, acted, fallen, longest_free, state_of}
+use Rattle.file_images.specs.run_model.Answers.{Service, blocks_recovered, records_recovered, recovers, recovery_refused, refusal_line, service, silent, volume_full, way_of}
+use Rattle.file_images.specs.run_model.Operations.{first_of, refused_if}
 use Rattle.directory_model.specs.Files.{IsNamed, NoneNamed, head_at}
-use Rattle.image_appends.specs.declared.side.Side.TheVariants.{After, Before}
-use Rattle.image_room.specs.Room.{AllSettlementsFit, images_end}
+use Rattle.recovery_units.specs.image_appends.declared.side.Side.TheVariants.{After, Before}
+use Rattle.recovery_units.specs.image_room.Room.{AllSettlementsFit, images_end}
 use Rattle.unit_table.specs.Units as units
 use Rattle.recovery_units.specs.State.{IsEarly, IsInOrder, IsKept}
-use Rattle.node_table.specs.Serving.{service_at}
-use Rattle.node_table.specs.Standing.{Stored}
+use Rattle.node_standing.specs.node_table.Serving.{service_at}
+use Rattle.node_standing.specs.node_table.Standing.{Stored}
 use Rattle.file_requests.specs.Recovering.{AnswersRecovery, LacksMemory, Recovers, cause_line}
 use Rattle.file_requests.specs.Replying.{IsPlain}
 use Rattle.file_requests.specs.Serving.{DoesThere, IsReady, SameStored, ServesFile, disk_of, name_of}

@@ -3,7 +3,7 @@ use Rattle.std.proofs.Common.{List, [], ◌∷◌, ◌++◌}
 use Rattle.std.specs.List.{AllByRecursion}
 use Rattle.emitter_model.specs.Emitting.{Shown, Emits, Since}
 use Rattle.emitter_model.proofs.EmittingLemmas.{emits_on, since_puts}
-use Rattle.transcript_model.specs.Lines.{Line}
+use Rattle.emitter_model.specs.transcript_model.Lines.{Line}
 use Rattle.file_requests.specs.Replying.{IsPlain, IsQuiet, Replies, ShowsQuietly}
 
 pub since_emits : (a b : Shown) (lines : List Line) → Emits a lines b → Since a b

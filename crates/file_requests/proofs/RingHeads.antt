@@ -6,12 +6,12 @@ use Rattle.std.proofs.lemmas.Bool.{cases_eq}
 use Rattle.file_base.specs.declared.head.FileHead.{FileHead}
 use Rattle.file_base.specs.declared.head.Span.{Span}
 use Rattle.vms_model.specs.Ids.{Id}
-use Rattle.journal_model.specs.Ring.{ring_size}
+use Rattle.journal_format.specs.journal_model.Ring.{ring_size}
 use Rattle.unit_table.specs.Units.{OpenUnit, changers, first_to_change, has_changed}
-use Rattle.image_appends.specs.declared.side.Side.{Side as Ring}
-use Rattle.image_appends.specs.declared.side.Side.TheVariants.{After, Before}
-use Rattle.image_appends.specs.Images.{is_kept, span_of}
-use Rattle.image_room.specs.Room.{AllSettlementsFit, SettlementsFit, images_end}
+use Rattle.recovery_units.specs.image_appends.declared.side.Side.{Side as Ring}
+use Rattle.recovery_units.specs.image_appends.declared.side.Side.TheVariants.{After, Before}
+use Rattle.recovery_units.specs.image_appends.Images.{is_kept, span_of}
+use Rattle.recovery_units.specs.image_room.Room.{AllSettlementsFit, SettlementsFit, images_end}
 use Rattle.directory_model.specs.Files.{head_at}
 use Rattle.node_files.proofs.CatalogLemmas.{head_below, head_other, head_set}
 

@@ -9,32 +9,32 @@ use Rattle.careful_write.specs.declared.down.Down.{Down}
 use Rattle.change_set.specs.Files.{AgreesOut, IsPlaced, LeavesOut, in_extent}
 use Rattle.extents.specs.Extents.{all_extents}
 use Rattle.file_base.specs.declared.head.FileHead.{FileHead}
-use Rattle.transcript_model.specs.Lines as line
-use Rattle.transcript_model.specs.Lines.{Line}
+use Rattle.emitter_model.specs.transcript_model.Lines as line
+use Rattle.emitter_model.specs.transcript_model.Lines.{Line}
 use Rattle.emitter_model.specs.Emitting.{Shown, Emits}
 use Rattle.emitter_model.proofs.EmittingLemmas.{emits_nothing, since_same}
-use Rattle.save_laws.specs.Saves.{StandAt}
-use Rattle.save_sets.specs.Copies.{AreApart, AreBlocks, Copies, CopiesTo, is_within}
-use Rattle.script_model.specs.Statements.{Backup}
+use Rattle.file_images.specs.save_laws.Saves.{StandAt}
+use Rattle.node_files.specs.save_sets.Copies.{AreApart, AreBlocks, Copies, CopiesTo, is_within}
+use Rattle.script_lang.specs.script_model.Statements.{Backup}
 use Rattle.vms_model.specs.Ids.{Id}
 use Rattle.volume.specs.declared.catalog.Catalog.{Catalog}
 use Rattle.volume.specs.Limits.{data_area}
 use Rattle.volume.specs.State.{VolumeState}
-use Rattle.volume_format.specs.Home.{sizes_of}
-use Rattle.volume_model.specs.Volumes.{HasDisk}
-use Rattle.run_model.specs.World.{File, Node, Saves, Shared, fallen, longest_free, lowest_free}
-use Rattle.run_model.specs.Answers.{Service, blocks_of, service, silent, start_of, volume_full}
-use Rattle.run_model.specs.Operations.{first_of, refused_if}
+use Rattle.volume.specs.volume_format.Home.{sizes_of}
+use Rattle.recovery_units.specs.volume_model.Volumes.{HasDisk}
+use Rattle.file_images.specs.run_model.World.{File, Node, Saves, Shared, fallen, longest_free, lowest_free}
+use Rattle.file_images.specs.run_model.Answers.{Service, blocks_of, service, silent, start_of, volume_full}
+use Rattle.file_images.specs.run_model.Operations.{first_of, refused_if}
 use Rattle.directory_model.specs.Files.{IsNamed, NoneNamed, head_at}
 use Rattle.directory_model.specs.Laws.{area_of, saved_head}
-use Rattle.image_room.specs.Room.{AllSettlementsFit, images_end}
+use Rattle.recovery_units.specs.image_room.Room.{AllSettlementsFit, images_end}
 use Rattle.unit_table.specs.Units as units
-use Rattle.world_laws.specs.Nodes.{IsUp}
+use Rattle.recovery_units.specs.world_laws.Nodes.{IsUp}
 use Rattle.recovery_units.specs.Laws.{HeadWritten, IsSaveOf}
 use Rattle.recovery_units.specs.State.{IsEarly, IsInOrder, IsKept, UnitsState}
 use Rattle.recovery_units.specs.Uses.{Caused, DiskAdvances, Grows, ImagesGrow, down_of}
-use Rattle.node_table.specs.Serving.{service_at}
-use Rattle.node_table.specs.Standing.{Stored}
+use Rattle.node_standing.specs.node_table.Serving.{service_at}
+use Rattle.node_standing.specs.node_table.Standing.{Stored}
 use Rattle.node_files.proofs.CatalogLemmas.{fit_of, fits_at, placed, some_blocks}
 use Rattle.file_requests.specs.Replying.{IsPlain}
 use Rattle.file_requests.specs.Serving.{DoesThere, KeepsStored, SameStored, ServesFile, disk_of, name_of}

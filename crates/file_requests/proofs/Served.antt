@@ -4,17 +4,17 @@ use Rattle.std.specs.Prelude.{if◌then◌else◌}
 use Rattle.std.proofs.lemmas.List.{append-nil, length-map}
 use Rattle.block_disk.specs.Disk.{DiskState}
 use Rattle.careful_write.specs.declared.down.Down.{Down}
-use Rattle.transcript_model.specs.Lines.{Line}
+use Rattle.emitter_model.specs.transcript_model.Lines.{Line}
 use Rattle.emitter_model.specs.Emitting.{Shown, Emits}
 use Rattle.emitter_model.proofs.EmittingLemmas.{emits_on}
 use Rattle.record_operations.specs.declared.errors.RecErr.{RecErr}
-use Rattle.run_model.specs.World.{Act, Node, Shared, acted, fallen, is_durable, shared_after}
-use Rattle.run_model.specs.Operations.{first_of}
-use Rattle.run_model.specs.Answers.{Row, shown_line}
-use Rattle.run_model.specs.Steps.{act_begun, lines_of_rows, node_after_rows, rows_if, shared_after_rows}
-use Rattle.volume_model.specs.Volumes.{HasDisk}
+use Rattle.file_images.specs.run_model.World.{Act, Node, Shared, acted, fallen, is_durable, shared_after}
+use Rattle.file_images.specs.run_model.Operations.{first_of}
+use Rattle.file_images.specs.run_model.Answers.{Row, shown_line}
+use Rattle.file_images.specs.run_model.Steps.{act_begun, lines_of_rows, node_after_rows, rows_if, shared_after_rows}
+use Rattle.recovery_units.specs.volume_model.Volumes.{HasDisk}
 use Rattle.recovery_units.specs.Calls.{IsNotDone, refusal_of}
-use Rattle.node_table.specs.Serving.{DoesService, ServiceAt, rows_at_risk}
+use Rattle.node_standing.specs.node_table.Serving.{DoesService, ServiceAt, rows_at_risk}
 use Rattle.file_requests.specs.Listing.{Lists}
 
 -- the first of two causes

@@ -17,12 +17,12 @@ use Rattle.volume.specs.declared.catalog.Catalog.{Catalog}
 use Rattle.volume.specs.declared.limits.Buckets.{Buckets}
 use Rattle.volume.specs.Catalogs.{IsSound}
 use Rattle.volume.specs.Limits.{BucketsFit, FileFits, KeysFit, RootFits, SaveFits, SpanFits, data_area, file_buckets, save_buckets}
-use Rattle.volume_format.specs.Home.{sizes_of}
-use Rattle.recovery_model.specs.File.{next_span}
-use Rattle.script_model.specs.Statements.{Side, AfterImages, BeforeImages}
+use Rattle.volume.specs.volume_format.Home.{sizes_of}
+use Rattle.file_images.specs.recovery_model.File.{next_span}
+use Rattle.script_lang.specs.script_model.Statements.{Side, AfterImages, BeforeImages}
 use Rattle.directory_model.specs.Files.{Fit, head_at}
 use Rattle.directory_model.specs.Laws.{KeepsHeads, ended_head, end_by, saved_head}
-use Rattle.image_room.specs.Room.{images_end}
+use Rattle.recovery_units.specs.image_room.Room.{images_end}
 use Rattle.node_files.proofs.CatalogLemmas.{fit_of, fits_at, head_below, named_once, sound_set}
 use Rattle.file_requests.specs.Settings.{IsFree, begun_at, save_at}
 

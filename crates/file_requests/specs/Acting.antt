@@ -2,17 +2,17 @@
 use Rattle.std.specs.Prelude.{◌≡◌, ℕ, List, [], ◌∷◌, Bool, true, false, None, Result, IfOk, OnOk}
 use Rattle.careful_write.specs.declared.down.Down.{Down}
 use Rattle.emitter_model.specs.Emitting.{Shown}
-use Rattle.script_model.specs.Statements.{Operation}
+use Rattle.script_lang.specs.script_model.Statements.{Operation}
 use Rattle.vms_model.specs.Ids.{Id}
-use Rattle.commit_protocol.specs.Table.{Branch}
-use Rattle.run_model.specs.Answers.{directed, silent}
-use Rattle.run_model.specs.Operations.{changes_of, first_of, operation_answer}
-use Rattle.run_model.specs.World.{File, Node, Shared, next_id}
-use Rattle.world_laws.specs.Nodes.{AreUp}
+use Rattle.emitter_model.specs.commit_protocol.Table.{Branch}
+use Rattle.file_images.specs.run_model.Answers.{directed, silent}
+use Rattle.file_images.specs.run_model.Operations.{changes_of, first_of, operation_answer}
+use Rattle.file_images.specs.run_model.World.{File, Node, Shared, next_id}
+use Rattle.recovery_units.specs.world_laws.Nodes.{AreUp}
 use Rattle.recovery_units.specs.Calls.{IsAsked, IsAskedAlone, alone_refused_after_reading, alone_refused_before_reading, unit_act, unit_refused_after_reading, unit_refused_before_reading}
 use Rattle.recovery_units.specs.State.{IsKept, WorksFor}
-use Rattle.node_table.specs.Serving.{DoesService, ServiceAt}
-use Rattle.node_table.specs.Standing.{Stored}
+use Rattle.node_standing.specs.node_table.Serving.{DoesService, ServiceAt}
+use Rattle.node_standing.specs.node_table.Standing.{Stored}
 use Rattle.file_requests.specs.Serving.{DoesThere, KeepsStored, SameStored, disk_of}
 
 -- what an operation of a branch on a file is at a node, behind what refuses it by label, file and branch

@@ -2,11 +2,11 @@
 use Rattle.std.specs.Prelude.{◌≡◌, ℕ, List, [], ◌∷◌, Some, None, Result, Ok, Err}
 use Rattle.file_base.specs.declared.head.FileHead.{FileHead}
 use Rattle.careful_write.specs.declared.down.Down.{Down}
-use Rattle.transcript_model.specs.Lines as line
-use Rattle.transcript_model.specs.Lines.{Line}
-use Rattle.script_model.specs.Statements.{Operation}
-use Rattle.run_model.specs.Operations.{form_refused}
-use Rattle.run_model.specs.World.{File}
+use Rattle.emitter_model.specs.transcript_model.Lines as line
+use Rattle.emitter_model.specs.transcript_model.Lines.{Line}
+use Rattle.script_lang.specs.script_model.Statements.{Operation}
+use Rattle.file_images.specs.run_model.Operations.{form_refused}
+use Rattle.file_images.specs.run_model.World.{File}
 use Rattle.directory_model.specs.Files.{IsHeadOf}
 use Rattle.record_operations.specs.Asking.{file_in, read_file_in}
 use Rattle.record_operations.specs.Causes.{down_in}

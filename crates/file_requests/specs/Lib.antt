@@ -7,3 +7,6 @@ pub mod Making
 pub mod TheLaws
 pub mod Settings
 pub mod Recovering
+pub use Rattle.node_standing.specs as node_standing
+pub use Rattle.node_standing.specs.run_said as run_said
+pub use Rattle.node_standing.specs.said_steps as said_steps

@@ -9,20 +9,20 @@ use Rattle.journal_format.specs.declared.head.EntryHead.{EntryHead}
 use Rattle.std.specs.FinMap.{entries}
 use Rattle.careful_write.specs.declared.down.Down.{Down}
 use Rattle.emitter_model.specs.Emitting.{Shown, Emits}
-use Rattle.transcript_model.specs.Lines as line
-use Rattle.transcript_model.specs.Lines.{Line}
+use Rattle.emitter_model.specs.transcript_model.Lines as line
+use Rattle.emitter_model.specs.transcript_model.Lines.{Line}
 use Rattle.vms_model.specs.Keys.{Key, Number, Text}
 use Rattle.vms_base.specs.Ids.{tid_of, serial_of}
 use Rattle.records_model.specs.Records.{Records}
 use Rattle.file_base.specs.declared.head.Span.{Span}
 use Rattle.std.specs.List.{AllByRecursion}
-use Rattle.journal_model.specs.Entries.{Entry, IsEntry}
-use Rattle.journal_model.specs.Ring.{IsJournal, StandsAt}
-use Rattle.unit_laws.specs.Journal.{Journal, JournalEntry, end_of, entry_size}
-use Rattle.run_model.specs.Answers.{entry_line, entry_lines}
-use Rattle.script_model.specs.Statements.{Side, AfterImages, BeforeImages}
+use Rattle.journal_format.specs.journal_model.Entries.{Entry, IsEntry}
+use Rattle.journal_format.specs.journal_model.Ring.{IsJournal, StandsAt}
+use Rattle.file_images.specs.unit_laws.Journal.{Journal, JournalEntry, end_of, entry_size}
+use Rattle.file_images.specs.run_model.Answers.{entry_line, entry_lines}
+use Rattle.script_lang.specs.script_model.Statements.{Side, AfterImages, BeforeImages}
 use Rattle.volume.specs.State.{VolumeState}
-use Rattle.volume_model.specs.Entries.{AreEntries, IsFileOf, entry_for}
+use Rattle.recovery_units.specs.volume_model.Entries.{AreEntries, IsFileOf, entry_for}
 use Rattle.recovery_units.specs.State.{IsShowable}
 
 -- Lines one after another and an answer, or so many of them before a call of the disk failed.

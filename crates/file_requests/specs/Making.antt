@@ -7,19 +7,19 @@ use Rattle.extents.specs.Extents.{IsFreeRun, all_extents}
 use Rattle.file_base.specs.declared.head.FileHead.{FileHead}
 use Rattle.node_files.specs.NewFile.{AreSizes, buckets_in, new_head}
 use Rattle.node_files.specs.declared.sizes.Sizes.{Sizes}
-use Rattle.record_files.specs.Any.{IsLaidOut, first_layout_of, layout_of, map_of}
+use Rattle.file_images.specs.record_files.Any.{IsLaidOut, first_layout_of, layout_of, map_of}
 use Rattle.emitter_model.specs.Emitting.{Shown}
-use Rattle.transcript_model.specs.Lines as line
+use Rattle.emitter_model.specs.transcript_model.Lines as line
 use Rattle.volume.specs.declared.catalog.Catalog.{Catalog}
 use Rattle.volume.specs.Limits.{data_area}
-use Rattle.volume_format.specs.Home.{sizes_of}
-use Rattle.run_model.specs.Answers.{silent}
-use Rattle.run_model.specs.World.{Creates, File, Node, Shared, nothing_carried}
-use Rattle.world_laws.specs.Nodes.{IsUp}
+use Rattle.volume.specs.volume_format.Home.{sizes_of}
+use Rattle.file_images.specs.run_model.Answers.{silent}
+use Rattle.file_images.specs.run_model.World.{Creates, File, Node, Shared, nothing_carried}
+use Rattle.recovery_units.specs.world_laws.Nodes.{IsUp}
 use Rattle.directory_model.specs.Files.{IsFile, NoneNamed, head_at}
 use Rattle.recovery_units.specs.State.{IsKept}
-use Rattle.node_table.specs.Serving.{ServiceAt}
-use Rattle.node_table.specs.Standing.{Stored}
+use Rattle.node_standing.specs.node_table.Serving.{ServiceAt}
+use Rattle.node_standing.specs.node_table.Standing.{Stored}
 use Rattle.file_requests.specs.Serving.{DoesThere, KeepsStored}
 
 -- The head of a file that is to be made under the lowest free number and a new name, in a free run.

@@ -6,15 +6,15 @@ use Rattle.file_recoveries.specs.declared.causes.Way.{Way}
 use Rattle.file_recoveries.specs.declared.causes.Way.TheVariants as way
 use Rattle.file_recoveries.specs.declared.errors.RecoverErr.{RecoverErr}
 use Rattle.file_recoveries.specs.declared.errors.RecoverErr.TheVariants as err
-use Rattle.run_model.specs.Answers.{Service}
-use Rattle.run_model.specs.World.{Node, Shared}
-use Rattle.transcript_model.specs.Lines as line
-use Rattle.transcript_model.specs.Lines.{Line}
+use Rattle.file_images.specs.run_model.Answers.{Service}
+use Rattle.file_images.specs.run_model.World.{Node, Shared}
+use Rattle.emitter_model.specs.transcript_model.Lines as line
+use Rattle.emitter_model.specs.transcript_model.Lines.{Line}
 use Rattle.vms_model.specs.Times.{CanBeWritten}
 use Rattle.vms_base.specs.Ids.{serial_of}
 use Rattle.recovery_units.specs.State.{IsInOrder}
-use Rattle.node_table.specs.Serving.{service_at}
-use Rattle.node_table.specs.Standing.{Stored}
+use Rattle.node_standing.specs.node_table.Serving.{service_at}
+use Rattle.node_standing.specs.node_table.Standing.{Stored}
 use Rattle.file_requests.specs.Serving.{IsReady, SameStored, ServesFile}
 use Rattle.file_requests.specs.declared.recovery.Reply.{Reply}
 use Rattle.file_requests.specs.declared.recovery.Reply.TheVariants.{Told, NoMemory}

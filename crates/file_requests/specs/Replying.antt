@@ -3,8 +3,8 @@ use Rattle.std.specs.Prelude.{◌≡◌, List, [], ◌∷◌, ◌++◌, Bool, tr
 use Rattle.std.specs.List.{AllByRecursion}
 use Rattle.careful_write.specs.declared.down.Down.{Down as DownSaid}
 use Rattle.emitter_model.specs.Emitting.{Shown, Emits}
-use Rattle.transcript_model.specs.Lines.{Line, Booted, Broken, Crashed, Down, Sent}
-use Rattle.said_steps.specs.Answers.{is_served}
+use Rattle.emitter_model.specs.transcript_model.Lines.{Line, Booted, Broken, Crashed, Down, Sent}
+use Rattle.node_standing.specs.said_steps.Answers.{is_served}
 
 -- whether by a line no node goes down or comes up, and no message is sent
 abbrev pub is_quiet : Line → Bool

@@ -6,13 +6,13 @@ use Rattle.careful_write.specs.declared.down.Down.{Down}
 use Rattle.directory_model.specs.Files.{head_at}
 use Rattle.file_base.specs.declared.head.FileHead.{FileHead}
 use Rattle.emitter_model.specs.Emitting.{Shown, Since}
-use Rattle.run_model.specs.Answers.{Service}
-use Rattle.run_model.specs.World.{Node, Shared}
-use Rattle.world_laws.specs.Nodes.{IsUp}
+use Rattle.file_images.specs.run_model.Answers.{Service}
+use Rattle.file_images.specs.run_model.World.{Node, Shared}
+use Rattle.recovery_units.specs.world_laws.Nodes.{IsUp}
 use Rattle.recovery_units.specs.State.{IsInOrder, IsKept}
 use Rattle.recovery_units.specs.Uses.{Caused, Grows, ImagesGrow, down_of}
-use Rattle.node_table.specs.Serving.{DoesService, ServiceAt, service_at}
-use Rattle.node_table.specs.Standing.{Stored}
+use Rattle.node_standing.specs.node_table.Serving.{DoesService, ServiceAt, service_at}
+use Rattle.node_standing.specs.node_table.Standing.{Stored}
 use Rattle.file_requests.specs.Replying.{RepliesIf}
 
 abbrev pub disk_of : Stored → DiskState

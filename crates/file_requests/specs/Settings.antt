@@ -2,14 +2,14 @@
 use Rattle.std.specs.Prelude.{◌≡◌, ℕ, ◌<◌, ◌≤◌, ◌*◌, ◌^◌, ◌==◌, List, [], ◌∷◌, Bool, true, false, None, Result}
 use Rattle.careful_write.specs.declared.down.Down.{Down}
 use Rattle.emitter_model.specs.Emitting.{Shown}
-use Rattle.transcript_model.specs.Lines as line
-use Rattle.run_model.specs.Answers.{silent}
-use Rattle.run_model.specs.World.{Node, Saves, Shared}
-use Rattle.world_laws.specs.Nodes.{IsUp}
+use Rattle.emitter_model.specs.transcript_model.Lines as line
+use Rattle.file_images.specs.run_model.Answers.{silent}
+use Rattle.file_images.specs.run_model.World.{Node, Saves, Shared}
+use Rattle.recovery_units.specs.world_laws.Nodes.{IsUp}
 use Rattle.directory_model.specs.Files.{IsNamed}
 use Rattle.recovery_units.specs.State.{IsKept}
-use Rattle.node_table.specs.Serving.{ServiceAt}
-use Rattle.node_table.specs.Standing.{Stored}
+use Rattle.node_standing.specs.node_table.Serving.{ServiceAt}
+use Rattle.node_standing.specs.node_table.Standing.{Stored}
 use Rattle.file_requests.specs.Serving.{DoesThere, KeepsStored}
 use Rattle.extents.specs.Extents.{IsFreeRun, all_extents}
 use Rattle.file_base.specs.declared.head.FileHead.{FileHead}
@@ -18,9 +18,9 @@ use Rattle.file_base.specs.declared.head.Span.{Span}
 use Rattle.vms_base.specs.declared.times.Moment.{Moment}
 use Rattle.volume.specs.declared.catalog.Catalog.{Catalog}
 use Rattle.volume.specs.Limits.{data_area}
-use Rattle.volume_format.specs.Home.{sizes_of}
-use Rattle.recovery_model.specs.File.{next_span}
-use Rattle.script_model.specs.Statements.{Setting, RecoveryUnits, NoRecoveryUnits, Images, NoImages, Side}
+use Rattle.volume.specs.volume_format.Home.{sizes_of}
+use Rattle.file_images.specs.recovery_model.File.{next_span}
+use Rattle.script_lang.specs.script_model.Statements.{Setting, RecoveryUnits, NoRecoveryUnits, Images, NoImages, Side}
 use Rattle.directory_model.specs.Laws.{begun_head, end_by, ended_head, marked, saved_head}
 
 -- a setting with a journal of no blocks

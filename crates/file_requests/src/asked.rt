@@ -4,7 +4,7 @@ ghost use Rattle.vms_model.specs.Limits.{key_limit};
 ghost use Rattle.transcript.specs.Forms.{HasTime, line_of};
 ghost use Rattle.vms_base.specs.Keys.{key_of};
 ghost use Rattle.vms_model.specs.Keys.{Text};
-ghost use Rattle.script_model.specs.Statements.{Next};
+ghost use Rattle.script_lang.specs.script_model.Statements.{Next};
 ghost use Rattle.script_lang.specs.Statements.{key_in, operation_of};
 ghost use Rattle.record_operations.specs.Causes.{down_in};
 ghost use Rattle.recovery_units.specs.Calls.{position_line, record_line, refusal_of};

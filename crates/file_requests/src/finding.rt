@@ -5,7 +5,7 @@ ghost use Rattle.directory_model.specs.Files.{IsNamed, NoneNamed};
 
 use block_disk::Disk;
 use file_base::FileHead;
-use node_table::Stored;
+use node_standing::Stored;
 use recovery_units::RecoveryUnits;
 use vms_base::FileName;
 

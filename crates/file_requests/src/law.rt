@@ -7,8 +7,7 @@ use directory_model::{
     records_are_shown_in_order,
 };
 use file_images::rings_follow;
-use recovered_nodes::recoveries_keep_nodes;
-use unit_world::nodes_are_kept;
+use recovered_nodes::{nodes_are_kept, recoveries_keep_nodes};
 use volume::catalogs_stand_on_the_front;
 
 /// Cites each law of files, catalogs and records once, so that the proofs of a crate have them in one value.

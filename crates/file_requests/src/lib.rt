@@ -16,6 +16,7 @@ pub use files::{create, dump};
 pub use finding::find_file;
 pub use journal::{dump_images, dump_journal};
 pub use records::{change_alone, operate_for, read_alone, refused_form};
+pub use recovered_nodes::nodes_are_kept;
 pub use recovery::{Reply, recover};
 pub use saves::backup;
 pub use settings::set_file;

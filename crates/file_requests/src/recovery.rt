@@ -2,10 +2,10 @@
 ghost use Rattle.std.specs.Prelude.{◌≡◌, ◌≤◌, IfOk, IfErr, OnErr, Some};
 ghost use Rattle.file_recoveries.specs.Causes.{way_of as way_said};
 ghost use Rattle.script_lang.specs.Statements.{recovery_of};
-ghost use Rattle.script_model.specs.Statements as said;
-ghost use Rattle.run_model.specs.Answers.{service, way_of as model_way};
+ghost use Rattle.script_lang.specs.script_model.Statements as said;
+ghost use Rattle.file_images.specs.run_model.Answers.{service, way_of as model_way};
 ghost use Rattle.recovery_units.specs.State.{IsEarly, IsInOrder};
-ghost use Rattle.node_table.specs.Code.{stored_of};
+ghost use Rattle.node_standing.specs.node_table.Code.{stored_of};
 ghost use Rattle.file_requests.specs.Recovering.{AnswersRecovery, HasTimes, Recovers};
 ghost use Rattle.node_standing.specs.Moments.{CanTell};
 
@@ -15,8 +15,8 @@ use block_disk::Disk;
 use careful_write::Down;
 use file_recoveries::{RecoverErr, Way};
 use node_files::blocks_are_whole;
-use node_table::Stored;
-use recover_rms::recover as recover_file;
+use node_standing::Stored;
+use recovered_nodes::recover as recover_file;
 use recovery_units::RecoveryUnits;
 use script_lang::Recovery;
 use std::alloc::Global;

@@ -1,12 +1,12 @@
 //! Saves of files.
 ghost use Rattle.std.specs.Prelude.{◌≡◌, ◌≤◌, ◌<◌, ◌*◌, None, Some};
 ghost use Rattle.unit_table.specs.Units.{first_to_change};
-ghost use Rattle.script_model.specs.Statements as said;
-ghost use Rattle.run_model.specs.Answers.{service};
+ghost use Rattle.script_lang.specs.script_model.Statements as said;
+ghost use Rattle.file_images.specs.run_model.Answers.{service};
 ghost use Rattle.directory_model.specs.Files.{head_at};
 ghost use Rattle.directory_model.specs.Laws.{saved_head};
 ghost use Rattle.recovery_units.specs.State.{IsEarly, IsInOrder};
-ghost use Rattle.node_table.specs.Code.{stored_of};
+ghost use Rattle.node_standing.specs.node_table.Code.{stored_of};
 ghost use Rattle.file_requests.specs.Serving.{ServesFile};
 ghost use Rattle.file_requests.specs.Settings.{IsLowestRun, SavesFile, save_at};
 
@@ -17,7 +17,7 @@ use block_disk::Disk;
 use careful_write::Down;
 use file_base::{FileHead, Save};
 use node_files::{copy_records, write_head};
-use node_table::Stored;
+use node_standing::Stored;
 use recovery_units::RecoveryUnits;
 use transcript::{Emit, Form};
 use vms_base::{FileName, Moment};

@@ -1,12 +1,12 @@
 //! What a file is marked with.
 ghost use Rattle.std.specs.Prelude.{◌≡◌, ◌≤◌, ◌<◌, false, IfOk, IfErr, Some};
-ghost use Rattle.script_model.specs.Statements as said;
+ghost use Rattle.script_lang.specs.script_model.Statements as said;
 ghost use Rattle.script_lang.specs.Statements.{setting_of, side_of};
-ghost use Rattle.run_model.specs.Answers.{service};
+ghost use Rattle.file_images.specs.run_model.Answers.{service};
 ghost use Rattle.directory_model.specs.Files.{head_at};
 ghost use Rattle.directory_model.specs.Laws.{ended_head, marked};
 ghost use Rattle.recovery_units.specs.State.{IsEarly, IsInOrder};
-ghost use Rattle.node_table.specs.Code.{stored_of};
+ghost use Rattle.node_standing.specs.node_table.Code.{stored_of};
 ghost use Rattle.file_requests.specs.Serving.{ServesFile};
 ghost use Rattle.file_requests.specs.Settings.{AreLow, IsLowestRun, LacksBlocks, LacksRun, SetsHead, asks_for_none as asks_said, begun_at};
 
@@ -17,7 +17,7 @@ use careful_write::Down;
 use file_base::FileHead;
 use journal_store::renew;
 use node_files::write_head;
-use node_table::Stored;
+use node_standing::Stored;
 use recovery_units::RecoveryUnits;
 use script_lang::{Setting, Side};
 use transcript::{Emit, Form};

@@ -1,8 +1,8 @@
 -- Settlements in the journals of files that keep none.
 use Rattle.std.proofs.Common.{◌≡◌, ℕ, suc, zero, ◌+◌, Bool, true, false, List, [], ◌∷◌, Option, Some, None, length, option_map, slice_set, refl, sym, ap, subst, ◌∙◌, arith, if◌then◌else◌}
 use Rattle.std.specs.Prelude.{slice_index_or}
-use Rattle.file_base.specs.declared.head.FileHead.{FileHead}
-use Rattle.journal_model.specs.Entries.{Entry, spelling}
+use Rattle.volume_format.specs.file_base.declared.head.FileHead.{FileHead}
+use Rattle.journal_format.specs.journal_model.Entries.{Entry, spelling}
 use Rattle.unit_table.specs.Units.{OpenUnit}
 use Rattle.vms_base.specs.declared.ids.Serial.{Serial}
 use Rattle.vms_base.specs.declared.ids.Tid.{Tid}

@@ -1,7 +1,7 @@
 -- What the settlement of a branch makes of a volume whose files keep journals of images.
 use Rattle.std.specs.Prelude.{◌≡◌, ℕ, List, Bool, true, false, Option, Some, None, length, option_map, slice_index_or}
-use Rattle.file_base.specs.declared.head.FileHead.{FileHead}
-use Rattle.journal_model.specs.Entries.{Entry, spelling}
+use Rattle.volume_format.specs.file_base.declared.head.FileHead.{FileHead}
+use Rattle.journal_format.specs.journal_model.Entries.{Entry, spelling}
 use Rattle.unit_table.specs.Units.{OpenUnit}
 use Rattle.vms_base.specs.declared.ids.Serial.{Serial}
 use Rattle.vms_base.specs.declared.ids.Tid.{Tid}

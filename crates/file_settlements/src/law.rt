@@ -1,6 +1,6 @@
 //! What settlements are where no file keeps a journal of images.
 ghost use Rattle.std.specs.Prelude.{ℕ, List, Bool, Option};
-ghost use Rattle.journal_model.specs.Entries.{Entry};
+ghost use Rattle.journal_format.specs.journal_model.Entries.{Entry};
 ghost use Rattle.unit_table.specs.Units.{OpenUnit};
 ghost use Rattle.vms_base.specs.declared.ids.Serial.{Serial};
 ghost use Rattle.vms_base.specs.declared.ids.Tid.{Tid};

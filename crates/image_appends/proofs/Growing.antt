@@ -6,16 +6,16 @@ use Rattle.block_disk.specs.Disk.{DiskState}
 use Rattle.careful_write.specs.Reads.{SameButReads}
 use Rattle.careful_write.specs.State.{StoreState}
 use Rattle.careful_write.specs.declared.down.Down.{Down}
-use Rattle.change_set.specs.Files.{fell}
+use Rattle.unit_journal.specs.change_set.Files.{fell}
 use Rattle.file_base.specs.declared.head.FileHead.{FileHead}
 use Rattle.file_base.specs.declared.head.Span.{Span}
 use Rattle.journal_format.proofs.Decoding.{total_is}
-use Rattle.journal_model.specs.Entries.{IsEntry, spelling}
+use Rattle.journal_format.specs.journal_model.Entries.{IsEntry, spelling}
 use Rattle.unit_journal.specs.Entries.{change_entry}
 use Rattle.unit_journal.specs.Leaving.{FellIn}
 use Rattle.unit_journal.specs.Room.{entry_size}
-use Rattle.vms_model.specs.Ids.{Id}
-use Rattle.vms_model.specs.Keys.{Key}
+use Rattle.vms_base.specs.vms_model.Ids.{Id}
+use Rattle.vms_base.specs.vms_model.Keys.{Key}
 use Rattle.volume.specs.Catalogs.{head_at}
 use Rattle.volume.specs.State.{VolumeState}
 use Rattle.image_appends.specs.declared.side.Side.{Side}

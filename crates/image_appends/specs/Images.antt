@@ -1,18 +1,18 @@
 -- Entries at the ends of a file's journals of images.
 use Rattle.std.specs.Prelude.{◌≡◌, ℕ, ◌+◌, ◌-◌, ◌≤◌, List, Bool, true, Option, Some, None, length, slice_set, if◌then◌else◌, Result, Err}
 use Rattle.block_disk.specs.Disk.{DiskState}
-use Rattle.vms_model.specs.Blocks.{log_start}
+use Rattle.vms_base.specs.vms_model.Blocks.{log_start}
 use Rattle.careful_write.specs.Reads.{SameButReads}
 use Rattle.careful_write.specs.declared.down.Down.{Down}
-use Rattle.change_set.specs.Files.{fell}
+use Rattle.unit_journal.specs.change_set.Files.{fell}
 use Rattle.file_base.specs.declared.head.FileHead.{FileHead}
 use Rattle.file_base.specs.declared.head.Span.{Span}
-use Rattle.journal_model.specs.Ring.{put_stream, ring_size}
+use Rattle.journal_format.specs.journal_model.Ring.{put_stream, ring_size}
 use Rattle.journal_store.specs.Rings.{IsRing}
 use Rattle.unit_journal.specs.Spans.{longer}
 use Rattle.volume.specs.Catalogs.{head_at}
 use Rattle.volume.specs.State.{VolumeState}
-use Rattle.volume_format.specs.Head.{head_block_of}
+use Rattle.volume.specs.volume_format.Head.{head_block_of}
 use Rattle.image_appends.specs.declared.side.Side.{Side}
 use Rattle.image_appends.specs.declared.side.Side.TheVariants.{After, Before}
 

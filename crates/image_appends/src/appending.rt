@@ -1,7 +1,7 @@
 // An entry at the end of one journal.
 ghost use Rattle.std.specs.Prelude.{◌≡◌, ◌≤◌, ◌<◌, ◌+◌, ◌*◌, true, Some, OnOk, IfErr, length, option_map, slice_set};
 ghost use Rattle.block_disk.specs.Sizes.{least_disk_size};
-ghost use Rattle.vms_model.specs.Limits.{file_limit};
+ghost use Rattle.vms_base.specs.vms_model.Limits.{file_limit};
 ghost use Rattle.careful_write.specs.Reads.{SameButReads};
 ghost use Rattle.careful_write.specs.State.{IsReady};
 ghost use Rattle.careful_write.specs.Sizes.{group_limit};

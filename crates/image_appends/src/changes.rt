@@ -2,10 +2,10 @@
 ghost use Rattle.std.specs.Prelude.{◌≡◌, ◌≤◌, ◌<◌, ◌+◌, ◌*◌, OnOk, IfErr, length, option_map};
 ghost use Rattle.std.specs.Option.{option_copied};
 ghost use Rattle.block_disk.specs.Sizes.{least_disk_size};
-ghost use Rattle.vms_model.specs.Limits.{file_limit};
+ghost use Rattle.vms_base.specs.vms_model.Limits.{file_limit};
 ghost use Rattle.careful_write.specs.Reads.{SameButReads};
 ghost use Rattle.careful_write.specs.State.{IsReady};
-ghost use Rattle.journal_model.specs.Entries.{IsEntry, spelling};
+ghost use Rattle.journal_format.specs.journal_model.Entries.{IsEntry, spelling};
 ghost use Rattle.vms_base.specs.Ids.{serial_of, tid_of};
 ghost use Rattle.vms_base.specs.Keys.{key_of};
 ghost use Rattle.volume.specs.State.{Holds};

@@ -1,7 +1,7 @@
 // The settlement of a branch in the journals of the files that it changed.
 ghost use Rattle.std.specs.Prelude.{◌≡◌, ◌≤◌, ◌<◌, ◌+◌, ◌*◌, true, OnOk, IfErr, length, option_map};
 ghost use Rattle.block_disk.specs.Sizes.{least_disk_size};
-ghost use Rattle.vms_model.specs.Limits.{file_limit};
+ghost use Rattle.vms_base.specs.vms_model.Limits.{file_limit};
 ghost use Rattle.careful_write.specs.Reads.{SameButReads};
 ghost use Rattle.careful_write.specs.State.{IsReady};
 ghost use Rattle.volume.specs.State.{Holds};

@@ -1,6 +1,6 @@
 -- Entries that were read.
 use Rattle.std.specs.Prelude.{◌≡◌, ℕ, List, [], ◌∷◌}
-use Rattle.journal_model.specs.Entries.{Entry}
+use Rattle.journal_format.specs.journal_model.Entries.{Entry}
 use Rattle.journal_format.specs.Heads.{entry_of}
 use Rattle.journal_format.specs.declared.head.EntryHead.{EntryHead}
 use Rattle.careful_write.specs.State.{StoreState}

@@ -1,7 +1,7 @@
 // Entries from a position on.
 ghost use Rattle.std.specs.Prelude.{◌≡◌, ◌≤◌, ◌<◌, ◌-◌, ◌++◌, ◌∷◌, [], ℕ, List, Some, OnOk, OnSome, IfOk, IfErr, IfSome, IsSome, length};
-ghost use Rattle.journal_model.specs.Entries.{Entry};
-ghost use Rattle.journal_model.specs.Ring.{IsJournal};
+ghost use Rattle.journal_format.specs.journal_model.Entries.{Entry};
+ghost use Rattle.journal_format.specs.journal_model.Ring.{IsJournal};
 ghost use Rattle.journal_store.specs.Refusing.{Stays};
 ghost use Rattle.journal_store.specs.Rings.{IsRing};
 ghost use Rattle.unit_entries.specs.Reading.{AreRead, placed};

@@ -4,24 +4,24 @@ use Rattle.block_disk.specs.Blocks.{block_at}
 use Rattle.extents.specs.declared.extent.Extent.{Extent as Area}
 use Rattle.file_base.specs.declared.head.FileHead.{FileHead}
 use Rattle.file_base.specs.declared.head.Span.{Span}
-use Rattle.file_images.specs.Files.{HasSide, form_of}
-use Rattle.file_images.proofs.Sides.{saves_follow, sides_follow}
-use Rattle.image_appends.specs.declared.side.Side.{Side}
-use Rattle.image_appends.specs.declared.side.Side.TheVariants.{After, Before}
-use Rattle.image_appends.specs.Images.{is_kept, span_of}
+use Rattle.restart_laws.specs.file_images.Files.{HasSide, form_of}
+use Rattle.restart_laws.proofs.file_images.Sides.{saves_follow, sides_follow}
+use Rattle.image_room.specs.image_appends.declared.side.Side.{Side}
+use Rattle.image_room.specs.image_appends.declared.side.Side.TheVariants.{After, Before}
+use Rattle.image_room.specs.image_appends.Images.{is_kept, span_of}
 use Rattle.journal_model.specs.Entries.{Entry as Spelled}
 use Rattle.journal_model.specs.Ring.{IsJournal, KeepsOthers}
 use Rattle.recovery_model.specs.File.{ImageJournal}
-use Rattle.run_model.specs.World.{File}
+use Rattle.restart_laws.specs.run_model.World.{File}
 use Rattle.volume.specs.declared.catalog.Catalog.{Catalog}
 use Rattle.volume.specs.Catalogs.{TellsCatalog, TellsEntry}
 use Rattle.volume_format.specs.Home.{HasHome, HasRu}
-use Rattle.directory_model.specs.Files.{AreFiles, file_at, head_at}
-use Rattle.directory_model.proofs.Apart.{after_is, before_is, off_ring, writes_apart}
-use Rattle.directory_model.proofs.Entering.{is_there}
-use Rattle.directory_model.proofs.Moving.{places_moved}
-use Rattle.directory_model.proofs.Places.{file_there}
-use Rattle.directory_model.proofs.Standing.{file_stands}
+use Rattle.restart_laws.specs.directory_model.Files.{AreFiles, file_at, head_at}
+use Rattle.restart_laws.proofs.directory_model.Apart.{after_is, before_is, off_ring, writes_apart}
+use Rattle.restart_laws.proofs.directory_model.Entering.{is_there}
+use Rattle.restart_laws.proofs.directory_model.Moving.{places_moved}
+use Rattle.restart_laws.proofs.directory_model.Places.{file_there}
+use Rattle.restart_laws.proofs.directory_model.Standing.{file_stands}
 use Rattle.image_groups.proofs.Dressed.{one_dressed, sound_same}
 use Rattle.image_groups.proofs.Sides.{near_stays, set_back}
 use Rattle.image_groups.specs.Groups.{AllDressed, AreFitting, Enters, TellsOther}

@@ -2,10 +2,10 @@
 use Rattle.std.proofs.Common.{◌≡◌, ℕ, List, Option, Some, None, slice_set, refl, sym, ◌∙◌, ap, subst, inl, inr, get_or-set_same, get_or-set_other}
 use Rattle.std.proofs.lemmas.Bool.{cases_eq}
 use Rattle.file_base.specs.declared.head.FileHead.{FileHead}
-use Rattle.change_set.specs.Files.{AgreesOn}
-use Rattle.directory_model.specs.Files.{AgreesOnFile, head_at}
-use Rattle.directory_model.specs.Laws.{SameBut}
-use Rattle.directory_model.proofs.Places.{within_list}
+use Rattle.restart_laws.specs.change_set.Files.{AgreesOn}
+use Rattle.restart_laws.specs.directory_model.Files.{AgreesOnFile, head_at}
+use Rattle.restart_laws.specs.directory_model.Laws.{SameBut}
+use Rattle.restart_laws.proofs.directory_model.Places.{within_list}
 use Rattle.restart_laws.specs.Restorable.{IsDressed, SameBuckets}
 use Rattle.volume.specs.declared.catalog.Catalog.{Catalog}
 use Rattle.volume.specs.Catalogs.{IsSound, TellsCatalog}

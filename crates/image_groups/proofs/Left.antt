@@ -8,21 +8,21 @@ use Rattle.extents.specs.declared.extent.Extent.{Extent as Area}
 use Rattle.file_base.specs.declared.head.FileHead.{FileHead}
 use Rattle.file_base.specs.declared.head.Organization.{Organization as Kept}
 use Rattle.file_base.specs.declared.head.Organization.TheVariants.{Sequential, Relative, Indexed}
-use Rattle.change_set.specs.Files.{AgreesOn}
-use Rattle.change_set.specs.Maps.{Map}
-use Rattle.record_files.specs.Any.{map_of}
+use Rattle.restart_laws.specs.change_set.Files.{AgreesOn}
+use Rattle.restart_laws.specs.change_set.Maps.{Map}
+use Rattle.restart_laws.specs.record_files.Any.{map_of}
 use Rattle.vms_model.specs.Keys.{Key}
 use Rattle.records_model.specs.Records.{Records}
 use Rattle.records_model.specs.History.{records}
 use Rattle.tree_model.specs.Layouts.{Layout}
-use Rattle.unit_laws.specs.Units.{map_in, Represents}
-use Rattle.run_model.specs.World.{Carried, File, Settlement, settled_file, with_outcome}
-use Rattle.image_appends.specs.Settling.{content_from, heads_from}
-use Rattle.directory_model.specs.Files.{AreFiles, Fit, IsCarried, IsFile, IsPlace, file_at, head_at, layout_of}
-use Rattle.directory_model.specs.Restoring.{AlikeBare, AreLeft, IsLayoutOf, IsLeft, IsPlaceLeft}
-use Rattle.directory_model.specs.Laws.{carrying, settled_buckets, spelled_entry}
-use Rattle.directory_model.proofs.Places.{file_mapped}
-use Rattle.directory_model.proofs.ReadingEntries.{some}
+use Rattle.recovery_model.specs.unit_laws.Units.{map_in, Represents}
+use Rattle.restart_laws.specs.run_model.World.{Carried, File, Settlement, settled_file, with_outcome}
+use Rattle.image_room.specs.image_appends.Settling.{content_from, heads_from}
+use Rattle.restart_laws.specs.directory_model.Files.{AreFiles, Fit, IsCarried, IsFile, IsPlace, file_at, head_at, layout_of}
+use Rattle.restart_laws.specs.directory_model.Restoring.{AlikeBare, AreLeft, IsLayoutOf, IsLeft, IsPlaceLeft}
+use Rattle.restart_laws.specs.directory_model.Laws.{carrying, settled_buckets, spelled_entry}
+use Rattle.restart_laws.proofs.directory_model.Places.{file_mapped}
+use Rattle.restart_laws.proofs.directory_model.ReadingEntries.{some}
 use Rattle.restart_laws.specs.Restorable.{IsDressed, SameBuckets}
 use Rattle.restart_laws.proofs.StayLemmas.{can_same, can_stand}
 use Rattle.image_groups.specs.Groups.{AllDressed, AreFitting, AreToldBy, EntersOutcomeLeft, HaveRoom, IsToldBy, outcome_of, told_file}

@@ -4,3 +4,4 @@ pub mod Left
 pub mod Lists
 pub mod Outcomes
 pub mod Sides
+pub mod restart_laws

@@ -7,23 +7,23 @@ use Rattle.block_disk.specs.Blocks.{block_at}
 use Rattle.extents.specs.declared.extent.Extent.{Extent as Area}
 use Rattle.file_base.specs.declared.head.FileHead.{FileHead}
 use Rattle.file_base.specs.declared.head.Span.{Span}
-use Rattle.file_images.proofs.Sizes.{long_by}
+use Rattle.restart_laws.proofs.file_images.Sizes.{long_by}
 use Rattle.journal_model.specs.Ring.{IsJournal, block_of, byte_at, place_of, put_byte, put_stream, ring_size, stream}
 use Rattle.journal_store.proofs.Journals.{stream-add}
 use Rattle.volume_format.specs.Head.{IsHead, IsSpan, head_block_of}
 use Rattle.vms_model.specs.Ids.{Id}
 use Rattle.records_model.specs.Records.{Change}
 use Rattle.recovery_model.specs.Journal.{entry_length}
-use Rattle.run_model.specs.World.{File, with_images}
-use Rattle.image_appends.specs.declared.side.Side.{Side}
-use Rattle.image_appends.specs.declared.side.Side.TheVariants.{After, Before}
-use Rattle.image_appends.specs.Images.{content_grown, content_with, content_with_both, entered, files_grown, grown, heads_with, heads_with_both, is_kept, span_of, with_span}
-use Rattle.directory_model.specs.Files.{file_at, head_at}
-use Rattle.directory_model.specs.Laws.{carrying, spelled_entry}
-use Rattle.directory_model.proofs.Apart.{after_is, before_is}
-use Rattle.directory_model.proofs.Entering.{is_there}
-use Rattle.directory_model.proofs.Places.{set_twice, within_list}
-use Rattle.unit_journal.specs.Spans.{longer}
+use Rattle.restart_laws.specs.run_model.World.{File, with_images}
+use Rattle.image_room.specs.image_appends.declared.side.Side.{Side}
+use Rattle.image_room.specs.image_appends.declared.side.Side.TheVariants.{After, Before}
+use Rattle.image_room.specs.image_appends.Images.{content_grown, content_with, content_with_both, entered, files_grown, grown, heads_with, heads_with_both, is_kept, span_of, with_span}
+use Rattle.restart_laws.specs.directory_model.Files.{file_at, head_at}
+use Rattle.restart_laws.specs.directory_model.Laws.{carrying, spelled_entry}
+use Rattle.restart_laws.proofs.directory_model.Apart.{after_is, before_is}
+use Rattle.restart_laws.proofs.directory_model.Entering.{is_there}
+use Rattle.restart_laws.proofs.directory_model.Places.{set_twice, within_list}
+use Rattle.image_room.specs.unit_journal.Spans.{longer}
 use Rattle.image_groups.proofs.Dressed.{all_after, all_same, sound_after, sound_same, tells_after, tells_same}
 use Rattle.image_groups.proofs.Sides.{enters_change, head_long, ring_far, set_back}
 use Rattle.image_groups.specs.Groups.{AreFitting, Enters, MayEnter, MayGrow}

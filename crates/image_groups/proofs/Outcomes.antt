@@ -7,14 +7,14 @@ use Rattle.std.proofs.lemmas.List.{length-map}
 use Rattle.extents.specs.declared.extent.Extent.{Extent as Area}
 use Rattle.file_base.specs.declared.head.FileHead.{FileHead}
 use Rattle.records_model.specs.History.{changed_it}
-use Rattle.run_model.specs.World.{File, Settlement, settled_file, with_outcome}
-use Rattle.image_appends.specs.declared.side.Side.{Side}
-use Rattle.image_appends.specs.declared.side.Side.TheVariants.{After, Before}
-use Rattle.image_appends.specs.Images.{files_grown, grown, heads_with, heads_with_both, is_kept}
-use Rattle.image_appends.specs.Settling.{content_from, content_if, heads_from, heads_if}
-use Rattle.directory_model.specs.Files.{AreFiles, IsPlace, file_at, head_at}
-use Rattle.directory_model.specs.Laws.{carrying, settled_buckets, spelled_entry}
-use Rattle.directory_model.proofs.Places.{behind_list, file_mapped, within_list}
+use Rattle.restart_laws.specs.run_model.World.{File, Settlement, settled_file, with_outcome}
+use Rattle.image_room.specs.image_appends.declared.side.Side.{Side}
+use Rattle.image_room.specs.image_appends.declared.side.Side.TheVariants.{After, Before}
+use Rattle.image_room.specs.image_appends.Images.{files_grown, grown, heads_with, heads_with_both, is_kept}
+use Rattle.image_room.specs.image_appends.Settling.{content_from, content_if, heads_from, heads_if}
+use Rattle.restart_laws.specs.directory_model.Files.{AreFiles, IsPlace, file_at, head_at}
+use Rattle.restart_laws.specs.directory_model.Laws.{carrying, settled_buckets, spelled_entry}
+use Rattle.restart_laws.proofs.directory_model.Places.{behind_list, file_mapped, within_list}
 use Rattle.image_groups.specs.Groups.{AllDressed, AreFitting, AreToldBy, Enters, EntersOutcome, EntersTold, HaveRoom, IsToldBy, MayEnter, MayTell, TellsOutcome, appended_to, outcome_of, told_file}
 use Rattle.image_groups.proofs.Dressed.{all_after, all_same, sound_after, sound_same, tells_after, tells_same}
 use Rattle.image_groups.proofs.Sides.{enters_both}

@@ -22,17 +22,17 @@ use Rattle.vms_model.specs.Ids.{Id}
 use Rattle.records_model.specs.Records.{Change}
 use Rattle.recovery_model.specs.Journal.{Entry}
 use Rattle.recovery_model.specs.File.{ImageJournal}
-use Rattle.run_model.specs.World.{Carried, File}
-use Rattle.image_appends.specs.declared.side.Side.{Side}
-use Rattle.image_appends.specs.declared.side.Side.TheVariants.{After, Before}
-use Rattle.image_appends.specs.Images.{content_grown, content_with, content_with_both, entered, files_grown, grown, heads_with, heads_with_both, is_kept, span_of}
-use Rattle.directory_model.specs.Files.{AreFiles, Fit, IsCarried, file_at, head_at}
-use Rattle.directory_model.specs.Laws.{carrying, in_blocks, longer_after, longer_before, spelled_entry}
-use Rattle.directory_model.proofs.Apart.{after_is, before_is, in_area, off_ring, writes_apart}
-use Rattle.directory_model.proofs.Entering.{enters_images, is_there}
-use Rattle.directory_model.proofs.Heads.{keeps_heads}
-use Rattle.directory_model.proofs.Places.{head_there, set_twice, within_list}
-use Rattle.directory_model.proofs.Standing.{stands_on_extents}
+use Rattle.restart_laws.specs.run_model.World.{Carried, File}
+use Rattle.image_room.specs.image_appends.declared.side.Side.{Side}
+use Rattle.image_room.specs.image_appends.declared.side.Side.TheVariants.{After, Before}
+use Rattle.image_room.specs.image_appends.Images.{content_grown, content_with, content_with_both, entered, files_grown, grown, heads_with, heads_with_both, is_kept, span_of}
+use Rattle.restart_laws.specs.directory_model.Files.{AreFiles, Fit, IsCarried, file_at, head_at}
+use Rattle.restart_laws.specs.directory_model.Laws.{carrying, in_blocks, longer_after, longer_before, spelled_entry}
+use Rattle.restart_laws.proofs.directory_model.Apart.{after_is, before_is, in_area, off_ring, writes_apart}
+use Rattle.restart_laws.proofs.directory_model.Entering.{enters_images, is_there}
+use Rattle.restart_laws.proofs.directory_model.Heads.{keeps_heads}
+use Rattle.restart_laws.proofs.directory_model.Places.{head_there, set_twice, within_list}
+use Rattle.restart_laws.proofs.directory_model.Standing.{stands_on_extents}
 use Rattle.image_groups.proofs.Dressed.{all_after, all_same, all_stay, one_dressed, sound_after, sound_same, tells_after, tells_same}
 use Rattle.image_room.proofs.Sound.{sound_grown}
 use Rattle.image_groups.specs.Groups.{AllDressed, AreFitting, Enters, EntersChange, EntersSide, MayEnter, MayGrow, StaySound, TellsOther, after_image, appended_to, before_image}

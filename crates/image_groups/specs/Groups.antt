@@ -7,7 +7,7 @@ use Rattle.vms_model.specs.Blocks.{log_start}
 use Rattle.careful_write.specs.State.{EachWhole}
 use Rattle.extents.specs.declared.extent.Extent.{Extent as Area}
 use Rattle.file_base.specs.declared.head.FileHead.{FileHead}
-use Rattle.record_files.specs.Any.{map_of}
+use Rattle.restart_laws.specs.record_files.Any.{map_of}
 use Rattle.volume_format.specs.Head.{IsHead}
 use Rattle.volume.specs.declared.catalog.Catalog.{Catalog}
 use Rattle.volume.specs.Catalogs.{IsSound, TellsCatalog}
@@ -16,15 +16,15 @@ use Rattle.records_model.specs.Records.{Change}
 use Rattle.records_model.specs.History.{changed_it}
 use Rattle.recovery_model.specs.Journal.{Entry, Changed, Settled}
 use Rattle.recovery_model.specs.File.{append}
-use Rattle.run_model.specs.World.{Carried, File, Settlement, settled_file, with_image, with_outcome}
-use Rattle.image_appends.specs.declared.side.Side.{Side}
-use Rattle.image_appends.specs.declared.side.Side.TheVariants.{After, Before}
-use Rattle.image_appends.specs.Images.{content_with, content_with_both, heads_with, heads_with_both, is_kept, span_of}
-use Rattle.image_appends.specs.Settling.{content_from, heads_from}
-use Rattle.directory_model.specs.Files.{AreFiles, Fit, file_at, head_at}
-use Rattle.directory_model.specs.Restoring.{AreLeft}
+use Rattle.restart_laws.specs.run_model.World.{Carried, File, Settlement, settled_file, with_image, with_outcome}
+use Rattle.image_room.specs.image_appends.declared.side.Side.{Side}
+use Rattle.image_room.specs.image_appends.declared.side.Side.TheVariants.{After, Before}
+use Rattle.image_room.specs.image_appends.Images.{content_with, content_with_both, heads_with, heads_with_both, is_kept, span_of}
+use Rattle.image_room.specs.image_appends.Settling.{content_from, heads_from}
+use Rattle.restart_laws.specs.directory_model.Files.{AreFiles, Fit, file_at, head_at}
+use Rattle.restart_laws.specs.directory_model.Restoring.{AreLeft}
 use Rattle.restart_laws.specs.Restorable.{IsDressed}
-use Rattle.directory_model.specs.Laws.{CanEnter, carrying, settled_buckets, spelled_entry}
+use Rattle.restart_laws.specs.directory_model.Laws.{CanEnter, carrying, settled_buckets, spelled_entry}
 
 -- what a file carries with one entry more on a side
 abbrev pub appended_to : Side → Id → Entry → Carried → Carried

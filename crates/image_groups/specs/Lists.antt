@@ -6,19 +6,19 @@ use Rattle.vms_model.specs.Limits.{file_limit}
 use Rattle.extents.specs.declared.extent.Extent.{Extent as Area}
 use Rattle.file_base.specs.declared.head.FileHead.{FileHead}
 use Rattle.file_base.specs.declared.head.Span.{Span}
-use Rattle.file_images.specs.Files.{form_of}
-use Rattle.file_images.specs.Images.{IsOf, IsSuited, entry_by}
-use Rattle.image_appends.specs.declared.side.Side.{Side}
-use Rattle.image_appends.specs.declared.side.Side.TheVariants.{After, Before}
-use Rattle.image_appends.specs.Images.{is_kept, span_of}
+use Rattle.restart_laws.specs.file_images.Files.{form_of}
+use Rattle.restart_laws.specs.file_images.Images.{IsOf, IsSuited, entry_by}
+use Rattle.image_room.specs.image_appends.declared.side.Side.{Side}
+use Rattle.image_room.specs.image_appends.declared.side.Side.TheVariants.{After, Before}
+use Rattle.image_room.specs.image_appends.Images.{is_kept, span_of}
 use Rattle.journal_model.specs.Entries.{Entry as Spelled, IsEntry}
 use Rattle.journal_model.specs.Ring.{IsJournal, KeepsOthers, ring_size, stream}
 use Rattle.records_model.specs.Records.{Change}
 use Rattle.recovery_model.specs.Journal.{Entry}
-use Rattle.run_model.specs.World.{File, with_images}
-use Rattle.directory_model.specs.Files.{file_at, head_at}
-use Rattle.directory_model.specs.Laws.{carrying, spelled_entry}
-use Rattle.unit_journal.specs.Spans.{longer}
+use Rattle.restart_laws.specs.run_model.World.{File, with_images}
+use Rattle.restart_laws.specs.directory_model.Files.{file_at, head_at}
+use Rattle.restart_laws.specs.directory_model.Laws.{carrying, spelled_entry}
+use Rattle.image_room.specs.unit_journal.Spans.{longer}
 use Rattle.vms_model.specs.Ids.{Id}
 use Rattle.volume_format.specs.Head.{IsHead, head_block_of}
 use Rattle.image_groups.specs.Groups.{AreFitting, Enters, after_image, before_image}

@@ -4,8 +4,8 @@ use Rattle.std.proofs.Math.Bool.{or_comm, or_assoc}
 use Rattle.indexmap.specs.IndexSet.{insert_key}
 use Rattle.vms_model.specs.Ids.{Id}
 use Rattle.vms_base.specs.Ids.{serial_of}
-use Rattle.records_model.specs.History.{same_id}
-use Rattle.unit_laws.proofs.LiveLemmas.{id_is}
+use Rattle.recovery_model.specs.records_model.History.{same_id}
+use Rattle.recovery_model.proofs.unit_laws.LiveLemmas.{id_is}
 use Rattle.table_keys.specs.declared.key.BranchKey.{BranchKey}
 use Rattle.vms_base.specs.declared.outcomes.Outcome.{Outcome}
 use Rattle.vms_base.specs.declared.outcomes.Outcome.TheVariants.{Commit, Abort}

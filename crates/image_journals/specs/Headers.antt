@@ -6,7 +6,7 @@ use Rattle.vms_model.specs.Transactions as model
 use Rattle.vms_base.specs.Ids.{serial_of}
 use Rattle.vms_base.specs.declared.outcomes.Outcome.{Outcome}
 use Rattle.vms_base.specs.declared.outcomes.Outcome.TheVariants.{Commit, Abort}
-use Rattle.records_model.specs.History.{same_id, reached}
+use Rattle.recovery_model.specs.records_model.History.{same_id, reached}
 use Rattle.table_keys.specs.declared.key.BranchKey.{BranchKey}
 use Rattle.journal_format.specs.declared.head.EntryKind.{EntryKind}
 use Rattle.journal_format.specs.declared.head.EntryKind.TheVariants.{Change, Prepared, Settled}

@@ -1,1 +1,2 @@
 pub mod Headers
+pub use Rattle.journal_format.specs as journal_format

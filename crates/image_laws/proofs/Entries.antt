@@ -2,18 +2,18 @@
 use Rattle.std.proofs.Common.{◌≡◌, ℕ, Bool, List, Option, Some, None, refl, ◌∙◌, ap}
 use Rattle.vms_model.specs.Ids.{Id}
 use Rattle.vms_model.specs.Transactions as model
-use Rattle.vms_base.specs.Ids.{serial_of}
-use Rattle.vms_base.specs.declared.outcomes.Outcome.{Outcome}
-use Rattle.vms_base.specs.declared.outcomes.Outcome.TheVariants.{Commit, Abort}
-use Rattle.journal_model.specs.Entries.{Entry}
-use Rattle.journal_format.specs.Heads.{entry_of, kind_code, outcome_code, flag_of}
-use Rattle.journal_format.specs.declared.head.EntryKind.{EntryKind}
-use Rattle.journal_format.specs.declared.head.EntryKind.TheVariants as kind
-use Rattle.journal_format.specs.declared.head.EntryHead.{EntryHead}
-use Rattle.recovery_model.specs.Journal.{Changed, Settled}
-use Rattle.recovery_model.specs.Journal as model_entry
-use Rattle.recovery_model.specs.Places.{Header, ChangeBy, SettlementOf, header_of}
-use Rattle.recovery_model.specs.File.{Placed}
+use Rattle.file_base.specs.vms_base.Ids.{serial_of}
+use Rattle.file_base.specs.vms_base.declared.outcomes.Outcome.{Outcome}
+use Rattle.file_base.specs.vms_base.declared.outcomes.Outcome.TheVariants.{Commit, Abort}
+use Rattle.file_images.specs.journal_model.Entries.{Entry}
+use Rattle.image_journals.specs.journal_format.Heads.{entry_of, kind_code, outcome_code, flag_of}
+use Rattle.image_journals.specs.journal_format.declared.head.EntryKind.{EntryKind}
+use Rattle.image_journals.specs.journal_format.declared.head.EntryKind.TheVariants as kind
+use Rattle.image_journals.specs.journal_format.declared.head.EntryHead.{EntryHead}
+use Rattle.file_images.specs.recovery_model.Journal.{Changed, Settled}
+use Rattle.file_images.specs.recovery_model.Journal as model_entry
+use Rattle.file_images.specs.recovery_model.Places.{Header, ChangeBy, SettlementOf, header_of}
+use Rattle.file_images.specs.recovery_model.File.{Placed}
 use Rattle.image_journals.specs.Headers.{header_by, header_told}
 use Rattle.file_images.specs.Images.{disk_entry}
 use Rattle.file_images.specs.Images as disk

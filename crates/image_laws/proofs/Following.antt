@@ -6,14 +6,14 @@ use Rattle.std.proofs.lemmas.Bool.{le-leb, lt-leb}
 use Rattle.std.proofs.lemmas.List.{map-append, reverse-append}
 use Rattle.file_base.specs.declared.head.Span.{Span}
 use Rattle.records_model.proofs.SlotLaws.{if_true, if_false}
-use Rattle.journal_model.specs.Entries.{Entry, IsEntry, spelling}
-use Rattle.journal_format.specs.declared.head.EntryHead.{EntryHead}
-use Rattle.journal_store.proofs.EntriesAt.{stands_in}
-use Rattle.unit_entries.specs.Reading.{AreRead, placed}
-use Rattle.recovery_model.specs.Journal as image
-use Rattle.recovery_model.specs.Journal.{entry_length}
-use Rattle.recovery_model.specs.Places.{Header, header_of}
-use Rattle.recovery_model.specs.File.{Placed, ImageJournal, all_of, since, entries_length, StandFrom}
+use Rattle.file_images.specs.journal_model.Entries.{Entry, IsEntry, spelling}
+use Rattle.image_journals.specs.journal_format.declared.head.EntryHead.{EntryHead}
+use Rattle.file_images.proofs.journal_store.EntriesAt.{stands_in}
+use Rattle.image_entries.specs.unit_entries.Reading.{AreRead, placed}
+use Rattle.file_images.specs.recovery_model.Journal as image
+use Rattle.file_images.specs.recovery_model.Journal.{entry_length}
+use Rattle.file_images.specs.recovery_model.Places.{Header, header_of}
+use Rattle.file_images.specs.recovery_model.File.{Placed, ImageJournal, all_of, since, entries_length, StandFrom}
 use Rattle.image_journals.specs.Headers.{header_told}
 use Rattle.image_entries.specs.Entries.{AreHeadsOf}
 use Rattle.file_images.specs.Images.{disk_entry, disk_entries, HasImageJournal}

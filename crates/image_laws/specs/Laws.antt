@@ -2,12 +2,12 @@
 use Rattle.std.specs.Prelude.{◌≡◌, ℕ, ◌+◌, ◌≤◌, List, ◌++◌, map, reverse}
 use Rattle.std.specs.List.{AllByRecursion}
 use Rattle.file_base.specs.declared.head.Span.{Span}
-use Rattle.journal_model.specs.Entries.{IsEntry}
-use Rattle.journal_model.specs.Ring.{StandsAt}
-use Rattle.journal_format.specs.declared.head.EntryHead.{EntryHead}
-use Rattle.unit_entries.specs.Reading.{AreRead, placed}
-use Rattle.recovery_model.specs.Places.{header_of}
-use Rattle.recovery_model.specs.File.{Placed, ImageJournal, all_of, since, entries_length}
+use Rattle.file_images.specs.journal_model.Entries.{IsEntry}
+use Rattle.file_images.specs.journal_model.Ring.{StandsAt}
+use Rattle.image_journals.specs.journal_format.declared.head.EntryHead.{EntryHead}
+use Rattle.image_entries.specs.unit_entries.Reading.{AreRead, placed}
+use Rattle.file_images.specs.recovery_model.Places.{header_of}
+use Rattle.file_images.specs.recovery_model.File.{Placed, ImageJournal, all_of, since, entries_length}
 use Rattle.image_journals.specs.Headers.{header_told}
 use Rattle.image_entries.specs.Entries.{AreHeadsOf}
 use Rattle.file_images.specs.Images.{disk_entry, disk_entries, HasImageJournal}

@@ -6,6 +6,8 @@
 
 ghost use Rattle.image_laws.specs.Laws.{ImagesAreRead, ImagesArePlaced};
 
+pub use image_entries::{ImageEntries, ReadErr, changed_image, changed_key, read_entries};
+
 /// The entries of a file's journal of images are those that are read from its ring, from a position on, each with where it begins; and each stands at its
 /// own position.
 pub fn images_follow()

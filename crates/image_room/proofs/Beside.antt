@@ -4,13 +4,13 @@ use Rattle.std.specs.Prelude.{◌⊎◌, ◌&&◌, nat_le, nat_lt}
 use Rattle.std.proofs.lemmas.Bool.{cases_lt}
 use Rattle.std.proofs.lemmas.Bool.Decides.{nat_tests}
 use Rattle.std.proofs.lemmas.List.{get_or-take, length-take}
-use Rattle.change_set.specs.Files.{in_extent}
+use Rattle.image_appends.specs.change_set.Files.{in_extent}
 use Rattle.file_base.specs.declared.head.FileHead.{FileHead}
 use Rattle.file_base.specs.declared.head.Span.{Span}
-use Rattle.extents.specs.declared.extent.Extent.{Extent as Area}
-use Rattle.extents.specs.Extents.{all_extents, covers, is_used, nowhere}
-use Rattle.extents.proofs.Used.{covered, covering, not_both, used_at}
-use Rattle.volume_format.specs.Home.{sizes_of}
+use Rattle.volume.specs.extents.declared.extent.Extent.{Extent as Area}
+use Rattle.volume.specs.extents.Extents.{all_extents, covers, is_used, nowhere}
+use Rattle.volume.proofs.extents.Used.{covered, covering, not_both, used_at}
+use Rattle.volume.specs.volume_format.Home.{sizes_of}
 use Rattle.volume.specs.declared.catalog.Catalog.{Catalog}
 use Rattle.volume.specs.Catalogs.{IsSound, head_at}
 use Rattle.volume.specs.Limits.{data_area}

@@ -5,7 +5,7 @@ use Rattle.std.proofs.lemmas.Bool.{cases_eq}
 use Rattle.std.proofs.lemmas.List.{get_or-set_same}
 use Rattle.file_base.specs.declared.head.FileHead.{FileHead}
 use Rattle.file_base.specs.declared.head.Span.{Span}
-use Rattle.unit_journal.specs.Spans.{longer}
+use Rattle.image_appends.specs.unit_journal.Spans.{longer}
 use Rattle.unit_table.specs.Units.{OpenUnit, changers, has_changed, one_changer, unit_at, with_position}
 use Rattle.volume.specs.Catalogs.{head_at}
 use Rattle.image_appends.specs.declared.side.Side.{Side}

@@ -5,10 +5,10 @@ use Rattle.std.proofs.lemmas.Bool.{ltb-false}
 use Rattle.std.proofs.lemmas.List.{get_or-set_same}
 use Rattle.file_base.specs.declared.head.FileHead.{FileHead}
 use Rattle.file_base.specs.declared.head.Span.{Span}
-use Rattle.journal_model.specs.Ring.{ring_size}
+use Rattle.image_appends.specs.journal_model.Ring.{ring_size}
 use Rattle.record_operations.specs.Causes.{Cause, cause_if, first_cause}
 use Rattle.unit_table.specs.Units.{OpenUnit, changers, has_changed, new_unit, no_files, one_changer, prepared_unit, unit_at, with_position}
-use Rattle.vms_model.specs.Ids.{Id}
+use Rattle.file_base.specs.vms_model.Ids.{Id}
 use Rattle.volume.specs.Catalogs.{head_at}
 use Rattle.image_appends.specs.declared.side.Side.{Side}
 use Rattle.image_appends.specs.declared.side.Side.TheVariants.{After, Before}

@@ -4,3 +4,4 @@ pub mod Keeping
 pub mod Model
 pub mod Rings
 pub mod Sound
+pub mod volume_files

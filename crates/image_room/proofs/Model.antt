@@ -2,15 +2,15 @@
 use Rattle.std.proofs.Common.{◌≡◌, ℕ, ◌+◌, ◌-◌, ◌*◌, Bool, true, false, List, [], ◌∷◌, Option, Some, None, option_map, refl, sym, ap, ◌∙◌, if◌then◌else◌}
 use Rattle.std.specs.Prelude.{◌&&◌, nat_lt}
 use Rattle.file_base.specs.declared.head.FileHead.{FileHead}
-use Rattle.journal_model.specs.Ring.{ring_size}
-use Rattle.records_model.specs.History.{LiveChanges}
-use Rattle.records_model.specs.Records.{Change}
+use Rattle.image_appends.specs.journal_model.Ring.{ring_size}
+use Rattle.recovery_model.specs.records_model.History.{LiveChanges}
+use Rattle.recovery_model.specs.records_model.Records.{Change}
 use Rattle.record_operations.specs.Causes.{Cause, AfterImagesFull, BeforeImagesFull, cause_if, first_cause}
 use Rattle.recovery_model.specs.File.{FileState, ImageJournal, all_of}
 use Rattle.recovery_model.specs.Images.{Image, afters, befores}
 use Rattle.recovery_model.specs.Room.{AftersFull, BeforesFull, Full, changes_length, free_in, full_of, has_entry, is_short, need_in, unsettled_in}
 use Rattle.unit_table.specs.Units.{OpenUnit, changers}
-use Rattle.vms_model.specs.Ids.{Id}
+use Rattle.file_base.specs.vms_model.Ids.{Id}
 use Rattle.image_appends.specs.declared.side.Side.{Side}
 use Rattle.image_appends.specs.declared.side.Side.TheVariants.{After, Before}
 use Rattle.image_appends.specs.Images.{is_kept, span_of}

@@ -3,12 +3,12 @@ use Rattle.std.proofs.Common.{◌≡◌, ℕ, zero, suc, ◌+◌, ◌-◌, ◌*�
 use Rattle.block_disk.specs.Disk.{DiskState}
 use Rattle.file_base.specs.declared.head.FileHead.{FileHead}
 use Rattle.file_base.specs.declared.head.Span.{Span}
-use Rattle.extents.specs.declared.extent.Extent.{Extent as Area}
-use Rattle.extents.specs.Extents.{all_extents, covers, extent, nowhere}
-use Rattle.extents.proofs.Used.{covered, covering}
-use Rattle.journal_model.specs.Ring.{ring_size}
-use Rattle.journal_store.specs.Rings.{IsRing}
-use Rattle.volume_format.specs.Home.{sizes_of}
+use Rattle.volume.specs.extents.declared.extent.Extent.{Extent as Area}
+use Rattle.volume.specs.extents.Extents.{all_extents, covers, extent, nowhere}
+use Rattle.volume.proofs.extents.Used.{covered, covering}
+use Rattle.image_appends.specs.journal_model.Ring.{ring_size}
+use Rattle.image_appends.specs.journal_store.Rings.{IsRing}
+use Rattle.volume.specs.volume_format.Home.{sizes_of}
 use Rattle.volume.specs.declared.catalog.Catalog.{Catalog}
 use Rattle.volume.specs.Catalogs.{IsSound, head_at}
 use Rattle.volume.specs.Limits.{BlocksFit, FileFits, SpanFits, data_area}

@@ -4,14 +4,14 @@ use Rattle.file_base.specs.declared.head.FileHead.{FileHead}
 use Rattle.file_base.specs.declared.head.Organization.{Organization}
 use Rattle.file_base.specs.declared.head.Organization.TheVariants.{Sequential, Relative, Indexed}
 use Rattle.file_base.specs.declared.head.Span.{Span}
-use Rattle.extents.specs.Extents.{extents_of}
+use Rattle.volume.specs.extents.Extents.{extents_of}
 use Rattle.volume.specs.declared.catalog.Catalog.{Catalog}
 use Rattle.volume.specs.declared.limits.Buckets.{Buckets}
 use Rattle.volume.specs.Catalogs.{IsSound, head_at}
 use Rattle.volume.specs.Limits.{BlocksFit, BucketsFit, FileFits, KeysFit, RootFits, SaveFits, SpanFits, file_buckets, save_buckets}
 use Rattle.volume_files.proofs.Places.{fits_at}
 use Rattle.volume_files.proofs.SoundLemmas.{sound_with}
-use Rattle.unit_journal.specs.Spans.{longer}
+use Rattle.image_appends.specs.unit_journal.Spans.{longer}
 use Rattle.image_appends.specs.declared.side.Side.{Side}
 use Rattle.image_appends.specs.declared.side.Side.TheVariants.{After, Before}
 use Rattle.image_appends.specs.Images.{files_grown, grown, heads_with, heads_with_both, is_kept, span_of}

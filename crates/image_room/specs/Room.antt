@@ -2,7 +2,7 @@
 use Rattle.std.specs.Prelude.{◌≡◌, ◌≤◌, ◌<◌, ℕ, ◌+◌, ◌-◌, ◌*◌, ◌^◌, max, List, [], ◌∷◌, Bool, true, Option, Some, None, if◌then◌else◌, nat_lt}
 use Rattle.file_base.specs.declared.head.FileHead.{FileHead}
 use Rattle.file_base.specs.declared.head.Span.{Span}
-use Rattle.journal_model.specs.Ring.{ring_size}
+use Rattle.image_appends.specs.journal_model.Ring.{ring_size}
 use Rattle.record_operations.specs.Causes.{Cause, AfterImagesFull, BeforeImagesFull, cause_if, first_cause}
 use Rattle.unit_table.specs.Units.{OpenUnit, changers}
 use Rattle.volume.specs.Catalogs.{head_at}

@@ -1,7 +1,7 @@
 // Whether the rings of journals of images have room for the settlements of units.
 ghost use Rattle.std.specs.Prelude.{◌≡◌, ◌≤◌, ◌<◌, ◌+◌, ◌-◌, ◌*◌, true, false, ℕ, List, IfSome, length};
-ghost use Rattle.vms_model.specs.Limits.{file_limit};
-ghost use Rattle.journal_model.specs.Ring.{ring_size};
+ghost use Rattle.file_base.specs.vms_model.Limits.{file_limit};
+ghost use Rattle.image_appends.specs.journal_model.Ring.{ring_size};
 ghost use Rattle.unit_table.specs.Units.{changers};
 ghost use Rattle.volume.specs.Catalogs.{IsSound};
 ghost use Rattle.image_appends.specs.declared.side.Side.TheVariants as sides;

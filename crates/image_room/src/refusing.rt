@@ -1,7 +1,7 @@
 // Why a file's journals of images have too little room.
 ghost use Rattle.std.specs.Prelude.{◌≡◌, ◌≤◌, ◌<◌, ◌+◌, ◌-◌, ◌*◌, ◌^◌, Some, IfSome};
 ghost use Rattle.std.specs.Option.{option_and_then};
-ghost use Rattle.journal_model.specs.Ring.{ring_size};
+ghost use Rattle.image_appends.specs.journal_model.Ring.{ring_size};
 ghost use Rattle.record_operations.specs.Causes.{IsRefusal, cause_of};
 ghost use Rattle.unit_table.specs.Units.{changers};
 ghost use Rattle.image_appends.specs.declared.side.Side.TheVariants as sides;

@@ -4,12 +4,12 @@ use Rattle.std.proofs.lemmas.Bool.{cases_lt}
 use Rattle.std.proofs.lemmas.Bool.Decides.{nat_tests}
 use Rattle.block_disk.specs.Disk.{DiskState}
 use Rattle.file_base.specs.declared.head.FileHead.{FileHead}
-use Rattle.bucket_page.specs.Pages.{next_of, IsBucket}
+use Rattle.index_bucket.specs.bucket_page.Pages.{next_of, IsBucket}
 use Rattle.change_set.specs.Buckets.{with_bucket}
 use Rattle.change_set.specs.Files.{IsPlaced}
-use Rattle.records_model.proofs.SlotLaws.{if_true, if_false}
-use Rattle.index_model.specs.Indexes.{Entry, Index, first_separator, parent_entry, child_for, Ascends, with_added, set_entries, beside, bucket_for, handed_up, numbers_of, IsNoneOf, IsIndexed}
-use Rattle.index_model.proofs.HandLemmas.{same_test, self_test, AgreeOn, agree_parts, parents_agree, none_parts, none_below, below_parts, NextLevel, next_level, LevelAdded, level_added}
+use Rattle.change_set.proofs.records_model.SlotLaws.{if_true, if_false}
+use Rattle.index_bucket.specs.index_model.Indexes.{Entry, Index, first_separator, parent_entry, child_for, Ascends, with_added, set_entries, beside, bucket_for, handed_up, numbers_of, IsNoneOf, IsIndexed}
+use Rattle.index_bucket.proofs.index_model.HandLemmas.{same_test, self_test, AgreeOn, agree_parts, parents_agree, none_parts, none_below, below_parts, NextLevel, next_level, LevelAdded, level_added}
 use Rattle.index_bucket.specs.Entries.{index_kind, sizes_of, entries_at}
 use Rattle.index_bucket.specs.Takes.{TakesIn, Takes, whole, halved}
 use Rattle.index_bucket.specs.Laws.{HasEntries}

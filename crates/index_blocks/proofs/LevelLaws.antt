@@ -3,10 +3,10 @@ use Rattle.std.proofs.Common.{◌≡◌, ◌≤◌, ◌<◌, ⊎_elim, ◌+◌, 
 use Rattle.std.specs.List.{list_any}
 use Rattle.std.proofs.lemmas.Bool.{cases_lt}
 use Rattle.file_base.specs.declared.head.FileHead.{FileHead}
-use Rattle.index_model.specs.Indexes.{Entry, entries_along, parent_entry, AllSome, AreLevels, leads_by, child_for, descended, Ascends, numbers_of}
-use Rattle.index_model.specs.Trees.{child_of}
-use Rattle.index_model.proofs.DescentLemmas.{descends, parents_ascend, some_below}
-use Rattle.index_model.proofs.HandLemmas.{AgreeOn, levels_agree}
+use Rattle.index_bucket.specs.index_model.Indexes.{Entry, entries_along, parent_entry, AllSome, AreLevels, leads_by, child_for, descended, Ascends, numbers_of}
+use Rattle.index_bucket.specs.index_model.Trees.{child_of}
+use Rattle.index_bucket.proofs.index_model.DescentLemmas.{descends, parents_ascend, some_below}
+use Rattle.index_bucket.proofs.index_model.HandLemmas.{AgreeOn, levels_agree}
 use Rattle.index_bucket.specs.Entries.{IsIndexBucket}
 use Rattle.index_blocks.specs.Buckets.{bucket_at}
 use Rattle.index_blocks.specs.Levels.{entries_in, least_key, below_at, levels_above, height, AllAre, LeadsDown, IsWay, way, leaf_for}

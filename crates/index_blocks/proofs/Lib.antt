@@ -4,3 +4,5 @@ pub mod WriteLaws
 pub mod LevelLaws
 pub mod ClimbLaws
 pub mod MayLaws
+pub mod index_bucket
+pub mod index_model

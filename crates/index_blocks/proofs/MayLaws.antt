@@ -2,11 +2,11 @@
 use Rattle.std.proofs.Common.{◌≡◌, ◌≤◌, ◌<◌, ⊎_elim, ◌+◌, ◌-◌, ◌*◌, ◌==◌, ℕ, zero, suc, Bool, true, false, List, [], ◌∷◌, ◌++◌, length, map, if◌then◌else◌, is_some, unwrap_or, Option, Some, None, slice_index_or, refl, sym, ap, ◌∙◌, subst, arith}
 use Rattle.std.proofs.lemmas.Bool.{cases_lt}
 use Rattle.file_base.specs.declared.head.FileHead.{FileHead}
-use Rattle.bucket_page.specs.Pages.{IsBucket}
-use Rattle.index_model.specs.Indexes.{Entry, Index, entries_along, parent_entry, AllSome, AreLevels, child_for, Ascends, with_added, numbers_of, IsNoneOf, AllDiffer, AllBelow}
-use Rattle.index_model.specs.Laws.{HandsUp}
-use Rattle.index_model.specs.Trees.{child_of}
-use Rattle.index_model.proofs.HandLemmas.{same_test, self_test, none_parts, below_parts, below_both, hand_up_keeps_index}
+use Rattle.index_bucket.specs.bucket_page.Pages.{IsBucket}
+use Rattle.index_bucket.specs.index_model.Indexes.{Entry, Index, entries_along, parent_entry, AllSome, AreLevels, child_for, Ascends, with_added, numbers_of, IsNoneOf, AllDiffer, AllBelow}
+use Rattle.index_bucket.specs.index_model.Laws.{HandsUp}
+use Rattle.index_bucket.specs.index_model.Trees.{child_of}
+use Rattle.index_bucket.proofs.index_model.HandLemmas.{same_test, self_test, none_parts, below_parts, below_both, hand_up_keeps_index}
 use Rattle.index_bucket.specs.Entries.{index_kind, sizes_of, IsIndexBucket}
 use Rattle.index_bucket.proofs.HandLaws.{fan_out_wide}
 use Rattle.index_blocks.specs.Buckets.{bucket_at}

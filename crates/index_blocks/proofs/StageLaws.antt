@@ -2,20 +2,20 @@
 use Rattle.std.proofs.Common.{◌≡◌, ◌≤◌, ◌<◌, ◌+◌, ◌-◌, ◌*◌, ℕ, Bool, true, false, List, [], ◌∷◌, length, take, Option, Some, None, IfSome, is_some, option_map, refl, sym, ap, subst, ◌∙◌, arith, ◌⊎◌, ⊎_elim, inl, inr, zero, suc, MatchOption, IsSomeAnd}
 use Rattle.std.proofs.lemmas.List.{set-set, length-take-le}
 use Rattle.block_disk.specs.Disk.{DiskState}
-use Rattle.careful_write.specs.Reads.{SameButReads, as_read_by}
-use Rattle.careful_write.specs.State.{StoreState}
-use Rattle.careful_write.proofs.Reading.{same_as}
+use Rattle.change_set.specs.careful_write.Reads.{SameButReads, as_read_by}
+use Rattle.change_set.specs.careful_write.State.{StoreState}
+use Rattle.change_set.proofs.careful_write.Reading.{same_as}
 use Rattle.frame_pool.specs.Pool.{IsOut}
 use Rattle.file_base.specs.declared.head.FileHead.{FileHead}
 use Rattle.change_set.specs.Buckets.{frame_of, with_frame, with_bucket, with_numbers, LiesInHome}
 use Rattle.change_set.specs.Files.{IsPlaced, StagesIn, in_extent}
 use Rattle.change_set.proofs.Frames.{frame_of-with_frame}
 use Rattle.std.proofs.lemmas.Nat.{mul-le}
-use Rattle.careful_write.specs.Steps.{AgreesOff}
+use Rattle.change_set.specs.careful_write.Steps.{AgreesOff}
 use Rattle.change_set.proofs.Extents.{ranges_apart, bucket_staged as extent_staged, agrees_trans, stages_more, stages_read}
 use Rattle.change_set.proofs.Loading.{length-with_numbers}
-use Rattle.bucket_page.specs.Pages.{slots_of, IsBucket}
-use Rattle.index_model.specs.Indexes.{Entry, first_separator}
+use Rattle.index_bucket.specs.bucket_page.Pages.{slots_of, IsBucket}
+use Rattle.index_bucket.specs.index_model.Indexes.{Entry, first_separator}
 use Rattle.index_bucket.specs.declared.hand.Handed.{Handed}
 use Rattle.index_bucket.specs.Entries.{index_kind, entries_at}
 use Rattle.index_bucket.specs.Takes.{entries_of, TakesIn}

@@ -3,7 +3,7 @@ use Rattle.std.proofs.Common.{◌≡◌, ◌<◌, ⊎_elim, ◌+◌, ℕ, suc, L
 use Rattle.std.proofs.lemmas.Bool.{cases_lt}
 use Rattle.std.proofs.Common.{get_or-set_same, get_or-set_other}
 use Rattle.file_base.specs.declared.head.FileHead.{FileHead}
-use Rattle.index_model.specs.Indexes.{child_for}
+use Rattle.index_bucket.specs.index_model.Indexes.{child_for}
 use Rattle.index_bucket.specs.Entries.{IsIndexBucket}
 use Rattle.index_blocks.specs.Buckets.{bucket_at}
 use Rattle.index_blocks.specs.Levels.{entries_in, height, way, IsWay}

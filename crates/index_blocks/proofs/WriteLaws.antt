@@ -3,12 +3,12 @@ use Rattle.std.proofs.Common.{◌≡◌, ◌≤◌, ◌<◌, ◌⊎◌, ⊎_elim
 use Rattle.std.proofs.lemmas.Bool.{cases_lt}
 use Rattle.std.proofs.lemmas.List.{take-map, drop-map}
 use Rattle.file_base.specs.declared.head.FileHead.{FileHead}
-use Rattle.bucket_page.specs.Pages.{next_of, Packs}
+use Rattle.index_bucket.specs.bucket_page.Pages.{next_of, Packs}
 use Rattle.change_set.specs.Buckets.{with_bucket}
 use Rattle.change_set.proofs.BucketLaws.{length-with_bucket, block_at-with_bucket_other, bucket_bytes_agree, bucket_bytes-with_bucket}
 use Rattle.change_set.proofs.Extents.{ranges_apart}
-use Rattle.index_model.specs.Indexes.{Entry, with_added, set_entries}
-use Rattle.index_model.proofs.HandLemmas.{same_test, self_test}
+use Rattle.index_bucket.specs.index_model.Indexes.{Entry, with_added, set_entries}
+use Rattle.index_bucket.proofs.index_model.HandLemmas.{same_test, self_test}
 use Rattle.index_bucket.specs.Entries.{index_kind, sizes_of, entry_of, entries_at}
 use Rattle.index_bucket.specs.Takes.{Takes, whole, halved, TakesIn}
 use Rattle.index_bucket.proofs.EntryLaws.{length_entries}

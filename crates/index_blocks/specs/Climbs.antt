@@ -1,8 +1,8 @@
 -- Entries that are handed up through the levels of an index.
 use Rattle.std.specs.Prelude.{◌≡◌, ◌≤◌, ◌<◌, ◌*◌, ℕ, suc, List, [], ◌∷◌, length, Option, IfSome, IfNone, slice_index_or}
 use Rattle.file_base.specs.declared.head.FileHead.{FileHead}
-use Rattle.bucket_page.specs.Pages.{IsBucket}
-use Rattle.index_model.specs.Indexes.{Entry, Index, Ascends, with_added, bucket_for, handed_up, numbers_of, IsNoneOf, IsIndexed}
+use Rattle.index_bucket.specs.bucket_page.Pages.{IsBucket}
+use Rattle.index_bucket.specs.index_model.Indexes.{Entry, Index, Ascends, with_added, bucket_for, handed_up, numbers_of, IsNoneOf, IsIndexed}
 use Rattle.index_bucket.specs.Entries.{index_kind, sizes_of}
 use Rattle.index_blocks.specs.Buckets.{bucket_at}
 use Rattle.index_blocks.specs.Levels.{entries_in, least_key}

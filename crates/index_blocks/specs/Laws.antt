@@ -1,8 +1,8 @@
 -- What holds of an index in blocks.
 use Rattle.std.specs.Prelude.{◌≡◌, ◌≤◌, ◌<◌, ℕ, suc, List, length, map, if◌then◌else◌, is_some, unwrap_or, slice_index_or}
 use Rattle.file_base.specs.declared.head.FileHead.{FileHead}
-use Rattle.index_model.specs.Indexes.{Entry, AreLevels, Ascends, parent_entry, with_added, numbers_of, AllDiffer, AllBelow}
-use Rattle.index_model.specs.Trees.{child_of}
+use Rattle.index_bucket.specs.index_model.Indexes.{Entry, AreLevels, Ascends, parent_entry, with_added, numbers_of, AllDiffer, AllBelow}
+use Rattle.index_bucket.specs.index_model.Trees.{child_of}
 use Rattle.index_blocks.specs.Levels.{entries_in, least_key, below_at, height, leaf_entries, levels_of, AllAre, LeadsDown, HasRoot, IsWay, way, leaf_for}
 use Rattle.index_blocks.specs.Climbs.{MayClimb, Climbs}
 use Rattle.index_blocks.specs.declared.growing.Growth.{Growth}

@@ -1,9 +1,9 @@
 -- The index of a file in a list of blocks.
 use Rattle.std.specs.Prelude.{◌≡◌, ◌≤◌, ◌<◌, ◌-◌, ℕ, zero, suc, List, [], ◌∷◌, map, replicate}
-use Rattle.vms_model.specs.Limits.{key_limit}
+use Rattle.file_base.specs.vms_model.Limits.{key_limit}
 use Rattle.file_base.specs.declared.head.FileHead.{FileHead}
-use Rattle.index_model.specs.Indexes.{Entry, entries_along, parent_entry, child_for, descended, numbers_of}
-use Rattle.index_model.specs.Trees.{child_of}
+use Rattle.index_bucket.specs.index_model.Indexes.{Entry, entries_along, parent_entry, child_for, descended, numbers_of}
+use Rattle.index_bucket.specs.index_model.Trees.{child_of}
 use Rattle.index_bucket.specs.Entries.{entries_at, IsIndexBucket}
 use Rattle.index_blocks.specs.Buckets.{bucket_at}
 

@@ -1,11 +1,11 @@
 -- Index buckets that are written.
 use Rattle.std.specs.Prelude.{◌≡◌, ◌≤◌, ◌*◌, ◌/◌, ℕ, Bool, true, false, List, [], ◌∷◌, length, take, drop, IfSome, Option, is_some, option_map}
-use Rattle.careful_write.specs.Reads.{SameButReads}
-use Rattle.careful_write.specs.State.{StoreState}
+use Rattle.change_set.specs.careful_write.Reads.{SameButReads}
+use Rattle.change_set.specs.careful_write.State.{StoreState}
 use Rattle.file_base.specs.declared.head.FileHead.{FileHead}
-use Rattle.bucket_page.specs.Pages.{IsBucket}
+use Rattle.index_bucket.specs.bucket_page.Pages.{IsBucket}
 use Rattle.change_set.specs.Buckets.{with_bucket}
-use Rattle.index_model.specs.Indexes.{Entry, first_separator, set_entries}
+use Rattle.index_bucket.specs.index_model.Indexes.{Entry, first_separator, set_entries}
 use Rattle.index_bucket.specs.declared.hand.Handed.{Handed}
 use Rattle.index_bucket.specs.Entries.{index_kind, entries_at}
 use Rattle.index_bucket.specs.Takes.{entries_of, TakesIn}

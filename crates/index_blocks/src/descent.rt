@@ -1,18 +1,17 @@
 //! The way from the root to a leaf.
 ghost use Rattle.std.specs.Prelude.{◌≡◌, ◌≤◌, ◌<◌, ◌+◌, ◌-◌, ◌*◌, ℕ, List, length, take, OnOk, IfOk, IfSome, slice_index_or};
-ghost use Rattle.careful_write.specs.Down.{answered};
-ghost use Rattle.careful_write.specs.Reads.{SameButReads};
+ghost use Rattle.change_set.specs.careful_write.Down.{answered};
+ghost use Rattle.change_set.specs.careful_write.Reads.{SameButReads};
 ghost use Rattle.frame_pool.specs.Pool.{IsOut};
 ghost use Rattle.change_set.specs.Buckets.{frame_of, with_frame};
 ghost use Rattle.change_set.specs.Files.{IsPlaced};
-ghost use Rattle.index_model.specs.Indexes.{child_for};
+ghost use Rattle.index_bucket.specs.index_model.Indexes.{child_for};
 ghost use Rattle.index_bucket.specs.Entries.{IsIndexBucket};
 ghost use Rattle.index_blocks.specs.Buckets.{bucket_at};
 ghost use Rattle.index_blocks.specs.Levels.{entries_in, height, way, HasRoot, IsWay};
 
 use block_disk::Disk;
-use careful_write::{Down, Store};
-use change_set::load_bucket;
+use change_set::{Down, Store, load_bucket};
 use file_base::FileHead;
 use frame_pool::Frame;
 use index_bucket::step;

@@ -1,19 +1,19 @@
 //! Entries that are handed up from level to level, and the new root where the old one is parted.
 ghost use Rattle.std.specs.Prelude.{◌≡◌, ◌≤◌, ◌<◌, ◌+◌, ◌-◌, ◌*◌, ℕ, List, [], Some, length, OnOk, OnErr, IfOk, IfSome, slice_index_or, IsSomeAnd};
-ghost use Rattle.vms_model.specs.Limits.{key_limit};
-ghost use Rattle.careful_write.specs.Down.{answered};
-ghost use Rattle.careful_write.specs.Reads.{SameButReads};
+ghost use Rattle.file_base.specs.vms_model.Limits.{key_limit};
+ghost use Rattle.change_set.specs.careful_write.Down.{answered};
+ghost use Rattle.change_set.specs.careful_write.Reads.{SameButReads};
 ghost use Rattle.frame_pool.specs.Pool.{IsOut};
 ghost use Rattle.change_set.specs.Buckets.{frame_of, with_frame};
 ghost use Rattle.change_set.specs.Files.{IsPlaced, StagesIn};
-ghost use Rattle.index_model.specs.Indexes.{Entry};
+ghost use Rattle.index_bucket.specs.index_model.Indexes.{Entry};
 ghost use Rattle.index_bucket.specs.Takes.{entries_of};
 ghost use Rattle.index_blocks.specs.Climbs.{MayClimb, Climbs};
 
 use crate::descent::Path;
 use crate::stage::{hand_in, stage_index};
 use block_disk::Disk;
-use careful_write::{Down, Store};
+use change_set::{Down, Store};
 use file_base::FileHead;
 use frame_pool::{FRAME_BYTES, Frame};
 use index_bucket::{Handed, make_root};

@@ -8,5 +8,6 @@ mod stage;
 
 pub use descent::{MAX_HEIGHT, Path, descend, load_index};
 pub use growing::{Growth, climb};
+pub use index_bucket::{ENTRY_BYTES, Handed, entry_bytes};
 pub use law::{climb_leads, levels_lead, levels_may_climb, levels_read};
 pub use stage::{hand_in, stage_index};

@@ -1,9 +1,9 @@
 //! Buckets that are staged through a frame, and entries that come into one of them.
 ghost use Rattle.std.specs.Prelude.{◌≡◌, ◌≤◌, ◌<◌, ◌+◌, ◌-◌, ◌*◌, ℕ, List, true, false, length, take, drop, option_map, OnOk, IfOk, IfSome, OnErr};
 ghost use Rattle.block_disk.specs.Sizes.{content_start};
-ghost use Rattle.vms_model.specs.Limits.{key_limit};
-ghost use Rattle.careful_write.specs.Down.{answered};
-ghost use Rattle.careful_write.specs.Reads.{SameButReads};
+ghost use Rattle.file_base.specs.vms_model.Limits.{key_limit};
+ghost use Rattle.change_set.specs.careful_write.Down.{answered};
+ghost use Rattle.change_set.specs.careful_write.Reads.{SameButReads};
 ghost use Rattle.frame_pool.specs.Pool.{IsOut};
 ghost use Rattle.change_set.specs.Buckets.{frame_of, with_frame, with_bucket};
 ghost use Rattle.change_set.specs.Files.{IsPlaced, StagesIn};
@@ -13,8 +13,7 @@ ghost use Rattle.index_blocks.specs.Writes.{with_halves, with_blocks_of_halves, 
 
 use crate::descent::load_index;
 use block_disk::Disk;
-use careful_write::{Down, Store};
-use change_set::stage_bucket;
+use change_set::{Down, Store, stage_bucket};
 use file_base::FileHead;
 use frame_pool::{FRAME_BYTES, Frame};
 use index_bucket::{Handed, parent_of, take_handed};

@@ -16,8 +16,8 @@ use Rattle.bucket_page.proofs.PageLaws.{both_true, all_suit-take, slot_stands}
 use Rattle.bucket_page.proofs.Orders.{ascend_at, slot_here}
 use Rattle.byteorder.specs.Endian.{little_number}
 use Rattle.index_bucket.proofs.Places.{slot_suits}
-use Rattle.records_model.specs.Slots.{bytes_before}
-use Rattle.records_model.proofs.SlotLaws.{before_trans, if_true, if_false}
+use Rattle.index_model.specs.records_model.Slots.{bytes_before}
+use Rattle.index_model.proofs.records_model.SlotLaws.{before_trans, if_true, if_false}
 use Rattle.index_model.specs.Indexes.{Entry, leads_by, child_for, entry_place, AllBelow}
 use Rattle.index_bucket.specs.Entries.{index_kind, entry_of, entries_at}
 use Rattle.index_model.specs.Trees.{child_of}

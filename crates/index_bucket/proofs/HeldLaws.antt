@@ -3,7 +3,7 @@ use Rattle.std.proofs.Common.{◌≡◌, ◌≤◌, ◌*◌, ◌/◌, ◌&&◌, 
 use Rattle.std.proofs.lemmas.List.{length-take-le, take-map, drop-map}
 use Rattle.file_base.specs.declared.head.FileHead.{FileHead}
 use Rattle.bucket_page.specs.Pages.{key_in, ascend, precedes_all, may_follow, no_next, next_of, IsBucket, Packs}
-use Rattle.records_model.specs.Slots.{bytes_before}
+use Rattle.index_model.specs.records_model.Slots.{bytes_before}
 use Rattle.index_model.specs.Indexes.{Entry, AllAbove, Ascends, AllBelow, with_added}
 use Rattle.index_model.specs.Trees.{child_of}
 use Rattle.index_model.proofs.HandLemmas.{length_added}

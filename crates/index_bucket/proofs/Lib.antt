@@ -5,3 +5,4 @@ pub mod AddedLaws
 pub mod HandLaws
 pub mod HeldLaws
 pub mod ParentLaws
+pub mod index_model

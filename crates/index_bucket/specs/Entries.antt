@@ -4,7 +4,7 @@ use Rattle.file_base.specs.declared.head.FileHead.{FileHead}
 use Rattle.bucket_page.specs.declared.kind.PageKind.{PageKind}
 use Rattle.bucket_page.specs.declared.kind.PageKind.TheVariants.{Index}
 use Rattle.bucket_page.specs.Pages.{u32_at, key_in, slots_of, IsBucket}
-use Rattle.tree_model.specs.Layouts.{Sizes}
+use Rattle.index_model.specs.tree_model.Layouts.{Sizes}
 use Rattle.index_model.specs.Indexes.{Entry, AllBelow}
 use Rattle.index_model.specs.Trees.{child_of}
 

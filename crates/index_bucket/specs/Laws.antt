@@ -1,6 +1,6 @@
 -- What holds of index buckets that took entries.
 use Rattle.std.specs.Prelude.{◌≡◌, ◌≤◌, ◌*◌, ◌/◌, ℕ, Bool, true, false, List, length, map, take, drop}
-use Rattle.vms_model.specs.Limits.{key_limit}
+use Rattle.file_base.specs.vms_model.Limits.{key_limit}
 use Rattle.file_base.specs.declared.head.FileHead.{FileHead}
 use Rattle.bucket_page.specs.Pages.{IsBucket}
 use Rattle.index_model.specs.Indexes.{Entry, Ascends, AllBelow, with_added}

@@ -1,6 +1,6 @@
 //! Entries that are handed up into an index bucket.
 ghost use Rattle.std.specs.Prelude.{◌≡◌, ◌≤◌, ◌<◌, ◌+◌, ◌-◌, ◌*◌, ◌/◌, ℕ, List, true, false, length, take, drop};
-ghost use Rattle.vms_model.specs.Limits.{key_limit};
+ghost use Rattle.file_base.specs.vms_model.Limits.{key_limit};
 ghost use Rattle.bucket_page.specs.Pages.{slots_of, next_of, IsBucket, IsPacked};
 ghost use Rattle.index_bucket.specs.Entries.{index_kind, sizes_of};
 ghost use Rattle.index_bucket.specs.Takes.{entries_of, TakesIn};

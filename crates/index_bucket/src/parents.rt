@@ -1,7 +1,7 @@
 //! The entry that leads to a bucket, and a new root over an old one.
 ghost use Rattle.std.specs.Prelude.{◌≡◌, ◌≤◌, ◌+◌, ◌*◌, ◌<◌, ◌^◌, ℕ, List, [], ◌∷◌, true, false, length, take, drop, replicate};
 ghost use Rattle.byteorder.specs.Endian.{little_bytes};
-ghost use Rattle.vms_model.specs.Limits.{key_limit};
+ghost use Rattle.file_base.specs.vms_model.Limits.{key_limit};
 ghost use Rattle.bucket_page.specs.Pages.{slots_of, no_next, inserted, suits, IsBucket, IsPacked, Packs};
 ghost use Rattle.index_model.specs.Indexes.{first_separator};
 ghost use Rattle.index_bucket.specs.Entries.{index_kind, entry_of, entries_at};

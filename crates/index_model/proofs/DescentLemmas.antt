@@ -1,8 +1,8 @@
 -- How an index is descended.
 use Rattle.std.proofs.Common.{◌≡◌, ◌≤◌, ◌||◌, ℕ, suc, Bool, true, false, not, List, [], ◌∷◌, ◌++◌, length, map, if◌then◌else◌, refl, sym, ap, ◌∙◌, subst, append-nil, length-append, arith}
 use Rattle.std.specs.List.{list_any}
-use Rattle.records_model.specs.Slots.{bytes_before}
-use Rattle.records_model.proofs.SlotLaws.{before_trans}
+use Rattle.tree_model.specs.records_model.Slots.{bytes_before}
+use Rattle.tree_model.proofs.records_model.SlotLaws.{before_trans}
 use Rattle.index_model.specs.Indexes.{Entry, entries_along, first_separator, parent_entry, AllSome, AreLevels, leads_by, child_for, AllAbove, Ascends}
 use Rattle.index_model.specs.Laws.{DescentFinds}
 

@@ -4,7 +4,7 @@ use Rattle.std.specs.Prelude.{nat_lt}
 use Rattle.std.specs.List.{list_any}
 use Rattle.std.proofs.lemmas.List.{take-append-drop, length-take}
 use Rattle.std.proofs.lemmas.Bool.Decides.{nat_tests}
-use Rattle.records_model.proofs.SlotLaws.{if_true, if_false}
+use Rattle.tree_model.proofs.records_model.SlotLaws.{if_true, if_false}
 use Rattle.tree_model.specs.Setting.{halves, level_with, place_above, index_with}
 use Rattle.tree_model.specs.Trees.{total}
 use Rattle.index_model.specs.Indexes.{Entry, Index, entries_along, first_separator, parent_entry, AllSome, AreLevels, leads_by, entry_place, Ascends, with_added, set_entries, beside, bucket_for, handed_up, numbers_of, IsNoneOf, AllDiffer, AllBelow, counts_of, IsIndexed}

@@ -1,11 +1,11 @@
 -- Trees with numbers, and a key that is set.
 use Rattle.std.proofs.Common.{◌≡◌, ◌≤◌, ◌<◌, ◌+◌, ◌-◌, ◌==◌, ◌||◌, ℕ, suc, Bool, true, false, List, [], ◌∷◌, ◌++◌, length, map, Option, if◌then◌else◌, nat_le, Some, None, refl, sym, ap, ◌∙◌, subst, arith}
 use Rattle.std.specs.List.{list_any}
-use Rattle.records_model.specs.Slots.{Slot, bytes_before, size_of}
-use Rattle.records_model.specs.Chain.{bucket_with, place_of}
-use Rattle.records_model.specs.Slots.{put, tidied, slot_at}
-use Rattle.records_model.specs.Parts.{bytes_of, parted, parts_at as shared_at, best_below}
-use Rattle.records_model.proofs.SlotLaws.{before_trans, if_true, if_false}
+use Rattle.tree_model.specs.records_model.Slots.{Slot, bytes_before, size_of}
+use Rattle.tree_model.specs.records_model.Chain.{bucket_with, place_of}
+use Rattle.tree_model.specs.records_model.Slots.{put, tidied, slot_at}
+use Rattle.tree_model.specs.records_model.Parts.{bytes_of, parted, parts_at as shared_at, best_below}
+use Rattle.tree_model.proofs.records_model.SlotLaws.{before_trans, if_true, if_false}
 use Rattle.tree_model.specs.Layouts.{Leaf, Sizes}
 use Rattle.tree_model.specs.Setting.{starts_by, first_key, new_leaves, leaves_from, leaves_with, slots_for, leaf_place, layout_with, index_with}
 use Rattle.tree_model.specs.Trees.{AreBounded, IsTree}

@@ -1,7 +1,7 @@
 -- The index of a file with the numbers of its buckets: how it is descended, and what becomes of it where a bucket below it is parted.
 use Rattle.std.specs.Prelude.{◌≡◌, ◌≤◌, ◌<◌, ◌==◌, ◌/◌, ℕ, zero, suc, Bool, true, not, List, [], ◌∷◌, ◌++◌, length, map, take, drop, if◌then◌else◌, nat_le}
 use Rattle.std.specs.List.{list_any}
-use Rattle.records_model.specs.Slots.{bytes_before}
+use Rattle.tree_model.specs.records_model.Slots.{bytes_before}
 
 -- an entry of an index bucket: its separator, which is the lowest key that the child may hold, and the child's number
 pub record Entry : Type 0 where

@@ -1,6 +1,6 @@
 -- What holds of an index, and of a tree of numbered buckets.
 use Rattle.std.specs.Prelude.{◌≡◌, ◌≤◌, ◌<◌, ◌+◌, ℕ, Bool, List, length, Option}
-use Rattle.records_model.specs.Slots.{slot_at, size_of}
+use Rattle.tree_model.specs.records_model.Slots.{slot_at, size_of}
 use Rattle.tree_model.specs.Layouts.{Sizes, slots_along}
 use Rattle.tree_model.specs.Setting.{index_with, layout_with}
 use Rattle.tree_model.specs.Laws.{MayHold}

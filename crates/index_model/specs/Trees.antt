@@ -1,7 +1,7 @@
 -- A tree of buckets with their numbers, and what becomes of it where a key is set.
 use Rattle.std.specs.Prelude.{◌≡◌, ◌+◌, ◌==◌, ℕ, suc, Bool, List, [], ◌∷◌, ◌++◌, length, map, Option, if◌then◌else◌}
-use Rattle.records_model.specs.Slots.{Slot}
-use Rattle.records_model.specs.Chain.{bucket_with}
+use Rattle.tree_model.specs.records_model.Slots.{Slot}
+use Rattle.tree_model.specs.records_model.Chain.{bucket_with}
 use Rattle.tree_model.specs.Layouts.{Leaf, Layout, Sizes}
 use Rattle.tree_model.specs.Setting.{first_key}
 use Rattle.tree_model.specs.Trees.{IsTree}

@@ -6,9 +6,9 @@ ghost use Rattle.careful_write.specs.Reads.{SameButReads};
 ghost use Rattle.careful_write.specs.State.{IsIdle};
 ghost use Rattle.change_set.specs.Files.{IsPlaced, free_frames};
 ghost use Rattle.file_base.specs.Bytes.{piece_at};
-ghost use Rattle.index_blocks.specs.Levels.{HasRoot};
-ghost use Rattle.indexed_file.specs.Chain.{HasKeys, SuitsText};
-ghost use Rattle.indexed_file.specs.Samples.{is_even_text};
+ghost use Rattle.indexed_tree.specs.index_blocks.Levels.{HasRoot};
+ghost use Rattle.indexed_tree.specs.indexed_file.Chain.{HasKeys, SuitsText};
+ghost use Rattle.indexed_tree.specs.indexed_file.Samples.{is_even_text};
 ghost use Rattle.indexed_tree.specs.Files.{IsTreeHead, IsNewHead};
 ghost use Rattle.indexed_tree.specs.Samples.{HasLongKeys};
 

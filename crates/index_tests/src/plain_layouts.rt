@@ -3,8 +3,8 @@ ghost use Rattle.std.specs.Prelude.{◌≤◌, OnOk};
 ghost use Rattle.careful_write.specs.Reads.{SameButReads};
 ghost use Rattle.careful_write.specs.State.{IsIdle};
 ghost use Rattle.change_set.specs.Files.{IsPlaced, free_frames};
-ghost use Rattle.index_blocks.specs.Levels.{HasRoot};
-ghost use Rattle.indexed_file.specs.Chain.{HasKeys};
+ghost use Rattle.indexed_tree.specs.index_blocks.Levels.{HasRoot};
+ghost use Rattle.indexed_tree.specs.indexed_file.Chain.{HasKeys};
 ghost use Rattle.indexed_tree.specs.Files.{IsTreeHead, IsNewHead};
 ghost use Rattle.indexed_tree.specs.Samples.{HasLongKeys};
 

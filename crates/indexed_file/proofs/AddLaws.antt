@@ -6,10 +6,10 @@ use Rattle.std.proofs.lemmas.List.{take_at, drop_at, drop-drop, length-take-le}
 use Rattle.file_base.specs.declared.head.FileHead.{FileHead}
 use Rattle.bucket_page.specs.Pages.{key_in, joined, inserted, Packs}
 use Rattle.bucket_page.proofs.PageLaws.{length-joined-inserted, length-inserted}
-use Rattle.records_model.specs.Parts.{has_place, IsBest}
+use Rattle.change_set.specs.records_model.Parts.{has_place, IsBest}
 use Rattle.indexed_file.specs.Chain.{kind_of, slot_of}
 use Rattle.indexed_file.specs.Raws.{tidied_raw, tidied_raws, fits_in, raws_added, place_added, Parted, whole, in_two, in_three}
-use Rattle.records_model.proofs.SlotLaws.{if_true, if_false}
+use Rattle.change_set.proofs.records_model.SlotLaws.{if_true, if_false}
 
 abbrev Raws : Type 0
 Raws = List (List ℕ)

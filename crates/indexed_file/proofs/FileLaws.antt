@@ -5,10 +5,10 @@ use Rattle.std.proofs.lemmas.List.{length-map}
 use Rattle.file_base.specs.declared.head.FileHead.{FileHead}
 use Rattle.bucket_page.specs.Pages.{u16_at, suits, all_suit, joined}
 use Rattle.bucket_page.proofs.PageLaws.{both_true}
-use Rattle.records_model.specs.Parts.{bytes_of, has_place, added_by, added_buckets}
+use Rattle.change_set.specs.records_model.Parts.{bytes_of, has_place, added_by, added_buckets}
 use Rattle.indexed_file.specs.Chain.{kind_of, slot_of}
 use Rattle.indexed_file.specs.Raws.{Parted, whole, in_two, in_three}
-use Rattle.records_model.proofs.PartLaws.{fits_parts}
+use Rattle.change_set.proofs.records_model.PartLaws.{fits_parts}
 use Rattle.indexed_file.proofs.PartedLaws.{has_place_at}
 use Rattle.indexed_file.proofs.SetLaws.{AllHold}
 use Rattle.indexed_file.proofs.RawLaws.{bytes_of_raws, value_size}

@@ -2,7 +2,7 @@
 use Rattle.std.proofs.Common.{◌≡◌, ◌⊎◌, ℕ, ◌<◌, ◌≤◌, ◌+◌, ◌-◌, ◌*◌, ◌&&◌, true, List, [], ◌∷◌, length, map, refl}
 use Rattle.file_base.specs.declared.head.FileHead.{FileHead}
 use Rattle.bucket_page.specs.Pages.{no_next, ascend, precedes_all, all_suit}
-use Rattle.records_model.specs.Slots.{IsOrdered, AllBehind}
+use Rattle.change_set.specs.records_model.Slots.{IsOrdered, AllBehind}
 use Rattle.indexed_file.specs.Chain.{kind_of, slot_of, all_keep}
 
 -- slots in order are bytes in order

@@ -3,14 +3,14 @@ use Rattle.std.proofs.Common.{◌≡◌, ⊎_elim, ℕ, ◌≤◌, ◌+◌, ◌&
 use Rattle.std.proofs.lemmas.Bool.{cases_Bool}
 use Rattle.std.proofs.lemmas.List.{length-take, length-drop}
 use Rattle.file_base.specs.declared.head.FileHead.{FileHead}
-use Rattle.vms_model.specs.Keys.{Text}
+use Rattle.vms_base.specs.vms_model.Keys.{Text}
 use Rattle.bucket_page.proofs.PageLaws.{both_true}
 use Rattle.change_set.specs.Maps.{is_after}
-use Rattle.records_model.specs.Slots.{Slot, same_bytes, bytes_before, slot_at, value_in, room_in, lookup, room_of, size_of, with_new, put, IsOrdered}
-use Rattle.records_model.specs.Parts.{bytes_of}
+use Rattle.change_set.specs.records_model.Slots.{Slot, same_bytes, bytes_before, slot_at, value_in, room_in, lookup, room_of, size_of, with_new, put, IsOrdered}
+use Rattle.change_set.specs.records_model.Parts.{bytes_of}
 use Rattle.indexed_file.specs.Behind.{is_behind, first_behind, IsFound}
 use Rattle.indexed_file.specs.Chain.{SuitsText}
-use Rattle.records_model.proofs.SlotLaws.{same_bytes_are, same_self, if_true, if_false, put_cases, behind_absent, behind_trans}
+use Rattle.change_set.proofs.records_model.SlotLaws.{same_bytes_are, same_self, if_true, if_false, put_cases, behind_absent, behind_trans}
 
 -- the first slot behind a key
 

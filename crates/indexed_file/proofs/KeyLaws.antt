@@ -1,12 +1,12 @@
 -- A key that is looked for along the chain.
 use Rattle.std.proofs.Common.{◌≡◌, ℕ, zero, suc, ◌<◌, ◌≤◌, Bool, true, not, List, [], ◌∷◌, ◌++◌, length, map, Option, None, nat_lt, ap, ◌∙◌, arith}
 use Rattle.std.proofs.lemmas.Bool.Decides.{nat_tests}
-use Rattle.records_model.specs.Chain.{begins_by}
+use Rattle.change_set.specs.records_model.Chain.{begins_by}
 use Rattle.file_base.specs.declared.head.FileHead.{FileHead}
 use Rattle.bucket_page.specs.Pages.{slot_at}
-use Rattle.records_model.specs.Slots.{Slot, AllBehind, IsOrdered, bytes_before, value_in}
-use Rattle.records_model.specs.Slots as slots
-use Rattle.records_model.proofs.SlotLaws.{or_slot, slot_at-append, behind_absent, behind_trans, behind_parts}
+use Rattle.change_set.specs.records_model.Slots.{Slot, AllBehind, IsOrdered, bytes_before, value_in}
+use Rattle.change_set.specs.records_model.Slots as slots
+use Rattle.change_set.proofs.records_model.SlotLaws.{or_slot, slot_at-append, behind_absent, behind_trans, behind_parts}
 use Rattle.indexed_file.specs.Chain.{slot_of, value_of}
 use Rattle.indexed_file.specs.Places.{key_at, IsPlace, Decides}
 use Rattle.indexed_file.proofs.TargetLaws.{found_at, missing_at}

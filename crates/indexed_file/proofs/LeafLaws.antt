@@ -12,10 +12,10 @@ use Rattle.bucket_page.specs.declared.kind.PageKind.{PageKind}
 use Rattle.bucket_page.specs.Pages.{u16_at, suits, all_suit, ascend, slot_at}
 use Rattle.bucket_page.proofs.PageLaws.{both_true}
 use Rattle.bucket_page.proofs.Orders.{ascend_at}
-use Rattle.records_model.specs.Slots.{bytes_before}
+use Rattle.change_set.specs.records_model.Slots.{bytes_before}
 use Rattle.indexed_file.specs.Chain.{kind_of}
 use Rattle.indexed_file.specs.Places.{key_at, IsPlace}
-use Rattle.records_model.proofs.SlotLaws.{before_trans}
+use Rattle.change_set.proofs.records_model.SlotLaws.{before_trans}
 
 pub slot_suits : (kind : PageKind) (slots : List (List ℕ)) (i : ℕ) → all_suit kind slots ≡ true → i < length slots → suits kind (slot_at slots i) ≡ true
 slot_suits kind [] i suit below = absurd (omega arith)

@@ -7,18 +7,18 @@ use Rattle.file_base.specs.declared.head.FileHead.{FileHead}
 use Rattle.bucket_page.specs.Pages.{u16_at, slots_of, next_of, suits, all_suit, joined, slot_at, inserted, removed, replaced, IsBucket, Packs}
 use Rattle.bucket_page.proofs.PageLaws.{all_suit-append, all_suit-take, all_suit-drop, length-joined-inserted}
 use Rattle.bucket_page.proofs.Orders.{ascend_at}
-use Rattle.records_model.specs.Slots.{Slot, bytes_before, with_value, size_of, put, tidied, AllBefore, AllBehind}
-use Rattle.records_model.specs.Parts.{bytes_of}
+use Rattle.change_set.specs.records_model.Slots.{Slot, bytes_before, with_value, size_of, put, tidied, AllBefore, AllBehind}
+use Rattle.change_set.specs.records_model.Parts.{bytes_of}
 use Rattle.indexed_file.specs.Chain.{kind_of, slot_of, value_of, keeps_record, all_keep, slots_set}
 use Rattle.indexed_file.specs.Places.{key_at, IsPlace}
 use Rattle.indexed_file.specs.Raws.{written_slot, Means, tidied_raws, fits_in, raws_added, place_added, slots_at, Parted, whole, SetsLeaf}
 use Rattle.indexed_file.specs.Sets.{ChangesSlot}
 use Rattle.indexed_file.proofs.LeafLaws.{slot_suits}
 use Rattle.indexed_file.proofs.TargetLaws.{missing_at}
-use Rattle.records_model.proofs.SlotLaws.{if_true, if_false, tidy_before, tidy_behind}
+use Rattle.change_set.proofs.records_model.SlotLaws.{if_true, if_false, tidy_before, tidy_behind}
 use Rattle.indexed_file.proofs.SetLaws.{put_between, put_none_between, put_at, put_tidied, tidied-append, set_fits, set_over, max_right, max_left, place_at, place_between}
 use Rattle.indexed_file.proofs.RawLaws.{all_keep-append, all_keep-take, all_keep-drop, tidies_all, tidied_raws-append, bytes_of_raws, value_size}
-use Rattle.records_model.specs.Chain.{place_of}
+use Rattle.change_set.specs.records_model.Chain.{place_of}
 
 abbrev Raws : Type 0
 Raws = List (List ℕ)

@@ -19,3 +19,6 @@ pub mod StoreLaws
 pub mod TargetLaws
 pub mod ThroughLaws
 pub mod TidyLaws
+pub mod change_set
+pub mod records_model
+pub mod tree_model

@@ -4,7 +4,7 @@ use Rattle.std.proofs.lemmas.Nat.{mul-le}
 use Rattle.file_base.specs.declared.head.FileHead.{FileHead}
 use Rattle.bucket_page.specs.Pages.{no_next, Holds}
 use Rattle.change_set.specs.Buckets.{with_bucket}
-use Rattle.careful_write.specs.Steps.{AgreesOff}
+use Rattle.change_set.specs.careful_write.Steps.{AgreesOff}
 use Rattle.change_set.specs.Files.{in_extent, AgreesOut}
 use Rattle.change_set.proofs.Extents.{agrees_bucket}
 use Rattle.change_set.proofs.BucketLaws.{bucket_bytes-with_bucket}

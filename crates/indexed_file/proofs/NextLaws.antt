@@ -8,11 +8,11 @@ use Rattle.std.proofs.lemmas.List.{drop_more}
 use Rattle.file_base.specs.declared.head.FileHead.{FileHead}
 use Rattle.bucket_page.specs.Pages.{slot_at, key_in, ascend}
 use Rattle.bucket_page.proofs.Orders.{ascend_at}
-use Rattle.records_model.specs.Slots.{Slot, bytes_before}
+use Rattle.change_set.specs.records_model.Slots.{Slot, bytes_before}
 use Rattle.indexed_file.specs.Chain.{kind_of, slot_of, value_of}
 use Rattle.indexed_file.specs.Places.{key_at, IsPlace}
 use Rattle.indexed_file.specs.Behind.{is_behind, first_behind, IsFound, StartsBehind}
-use Rattle.records_model.proofs.SlotLaws.{or_slot, if_true, if_false}
+use Rattle.change_set.proofs.records_model.SlotLaws.{or_slot, if_true, if_false}
 use Rattle.std.specs.declared.cmp.Ordering.TheVariants.{Less, Equal, Greater}
 
 less_is : (o : Ordering) → is_lt o ≡ true → o ≡ Less

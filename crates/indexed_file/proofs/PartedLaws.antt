@@ -2,9 +2,9 @@
 use Rattle.std.proofs.Common.{◌≡◌, ◌≤◌, ◌<◌, ⊎_elim, ℕ, zero, suc, ◌||◌, Bool, true, false, List, [], ◌∷◌, length, take, drop, if◌then◌else◌, nat_le, refl, sym, ap, ◌∙◌, arith}
 use Rattle.std.proofs.lemmas.Bool.{cases_lt}
 use Rattle.std.proofs.lemmas.Bool.Decides.{nat_tests}
-use Rattle.records_model.specs.Slots.{Slot, put, tidied}
-use Rattle.records_model.specs.Parts.{bytes_of, fits_at, has_place, whole, two, three, added_by, added_buckets, parted, IsBest, IsParted}
-use Rattle.records_model.proofs.PartLaws.{fits_parts, parted_by_rule}
+use Rattle.change_set.specs.records_model.Slots.{Slot, put, tidied}
+use Rattle.change_set.specs.records_model.Parts.{bytes_of, fits_at, has_place, whole, two, three, added_by, added_buckets, parted, IsBest, IsParted}
+use Rattle.change_set.proofs.records_model.PartLaws.{fits_parts, parted_by_rule}
 use Rattle.indexed_file.specs.Chain.{AddsFew}
 
 either : (a b : Bool) → a ≡ true → (a || b) ≡ true

@@ -6,8 +6,8 @@ use Rattle.std.proofs.lemmas.List.{same_lists, places, take-map, drop-map}
 use Rattle.file_base.specs.declared.head.FileHead.{FileHead}
 use Rattle.bucket_page.specs.Pages.{suits, all_suit, joined, reach, inserted}
 use Rattle.bucket_page.proofs.PageLaws.{all_suit-take, all_suit-drop, all_suit-inserted, length-joined-inserted}
-use Rattle.records_model.specs.Slots.{Slot}
-use Rattle.records_model.specs.Parts.{bytes_of, fits_at, has_place, greater_part, IsBest}
+use Rattle.change_set.specs.records_model.Slots.{Slot}
+use Rattle.change_set.specs.records_model.Parts.{bytes_of, fits_at, has_place, greater_part, IsBest}
 use Rattle.indexed_file.specs.Chain.{kind_of, slot_of}
 use Rattle.indexed_file.specs.Raws.{BestTo}
 use Rattle.indexed_file.proofs.RawLaws.{bytes_of_raws}

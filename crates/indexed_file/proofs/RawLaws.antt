@@ -8,11 +8,11 @@ use Rattle.file_base.specs.Bytes.{piece_at, spliced}
 use Rattle.file_base.proofs.Splices.{take-spliced, length-spliced}
 use Rattle.bucket_page.specs.Pages.{u16_at, key_in, suits, all_suit, joined}
 use Rattle.bucket_page.proofs.PageLaws.{both_true, all_suit-append}
-use Rattle.records_model.specs.Slots.{size_of, tidied_slot, tidied}
+use Rattle.change_set.specs.records_model.Slots.{size_of, tidied_slot, tidied}
 use Rattle.indexed_file.specs.Chain.{kind_of, slot_of, value_of, keeps_record, all_keep, SuitsText}
 use Rattle.indexed_file.specs.Raws.{slot_bytes, Means, shortened, tidied_raw, tidied_raws, one_of}
-use Rattle.records_model.proofs.SlotLaws.{if_true, if_false}
-use Rattle.records_model.specs.Parts.{bytes_of}
+use Rattle.change_set.proofs.records_model.SlotLaws.{if_true, if_false}
+use Rattle.change_set.specs.records_model.Parts.{bytes_of}
 
 -- bytes of a slot
 

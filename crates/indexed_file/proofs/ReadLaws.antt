@@ -1,7 +1,7 @@
 -- What is read of a bucket.
 use Rattle.std.proofs.Common.{◌≡◌, ℕ, ◌<◌, ◌≤◌, ◌*◌, Bool, List, length, take, Option, Some, None, IfSome, IfOk, Result, Ok, Err, sym, subst, ◌∙◌, arith}
 use Rattle.std.proofs.lemmas.List.{length-take-le}
-use Rattle.careful_write.specs.declared.down.Down.{Down}
+use Rattle.change_set.specs.careful_write.declared.down.Down.{Down}
 use Rattle.file_base.specs.declared.head.FileHead.{FileHead}
 use Rattle.bucket_page.specs.Pages.{IsBucket}
 use Rattle.indexed_file.specs.Chain.{kind_of, bucket_at, HasSlot, Stands}

@@ -1,12 +1,12 @@
 -- What a set does to the slots of the bucket for a key, among those of the whole file.
 use Rattle.std.proofs.Common.{◌≡◌, ℕ, ◌<◌, ◌≤◌, Bool, true, false, List, [], ◌∷◌, ◌++◌, length, Option, Some, None, if◌then◌else◌, nat_le, max, refl, sym, ap, ◌∙◌, arith, append_assoc, suc, ◌+◌}
 use Rattle.std.proofs.lemmas.Bool.Decides.{nat_tests}
-use Rattle.records_model.specs.Slots.{Slot, same_bytes, bytes_before, slot_at, value_in, room_in, lookup, room_of, size_of, with_value, put, tidied_slot, tidied, AllBehind, AllBefore, IsFor}
-use Rattle.records_model.specs.Parts.{bytes_of, added_buckets, added_by, has_place}
+use Rattle.change_set.specs.records_model.Slots.{Slot, same_bytes, bytes_before, slot_at, value_in, room_in, lookup, room_of, size_of, with_value, put, tidied_slot, tidied, AllBehind, AllBefore, IsFor}
+use Rattle.change_set.specs.records_model.Parts.{bytes_of, added_buckets, added_by, has_place}
 use Rattle.indexed_file.specs.Chain.{slots_set, added_by_set}
-use Rattle.records_model.proofs.SlotLaws.{same_self, before_not_same, behind_not_same, if_true, if_false, put_keeps_order, tidy_keeps_order}
+use Rattle.change_set.proofs.records_model.SlotLaws.{same_self, before_not_same, behind_not_same, if_true, if_false, put_keeps_order, tidy_keeps_order}
 use Rattle.indexed_file.proofs.NextLaws.{not_before, not_before_itself}
-use Rattle.records_model.specs.Chain.{place_of}
+use Rattle.change_set.specs.records_model.Chain.{place_of}
 
 pub put_between : (k r : List ℕ) (a b : List Slot) → AllBefore k a → AllBehind k b → put k (Some r) (a ++ b) ≡ a ++ (record { key = k; room = length r; value = Some r } ∷ b)
 put_between k r [] [] lower higher = refl

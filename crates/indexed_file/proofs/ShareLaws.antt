@@ -4,7 +4,7 @@ use Rattle.std.proofs.lemmas.List.{length-map, length-take, length-drop}
 use Rattle.file_base.specs.declared.head.FileHead.{FileHead}
 use Rattle.bucket_page.specs.Pages.{slots_of, next_of, suits, all_suit, joined, inserted, Packs}
 use Rattle.bucket_page.proofs.PageLaws.{all_suit-inserted, length-inserted, length-joined-inserted}
-use Rattle.records_model.specs.Parts.{bytes_of, fits_at}
+use Rattle.change_set.specs.records_model.Parts.{bytes_of, fits_at}
 use Rattle.indexed_file.specs.Chain.{kind_of, slot_of}
 use Rattle.indexed_file.proofs.TidyLaws.{true_if}
 use Rattle.indexed_file.proofs.PlaceLaws.{bytes_taken, bytes_dropped, take_below, drop_below, take_above, drop_above, fits_tells}

@@ -1,8 +1,8 @@
 -- Buckets that are staged through a frame.
 use Rattle.std.proofs.Common.{◌≡◌, ℕ, ◌≤◌, ◌+◌, List, length, set, Option, Some, None, option_map, refl, sym, ap, subst, ◌∙◌, arith}
 use Rattle.std.proofs.lemmas.List.{set-set}
-use Rattle.careful_write.specs.State.{StoreState}
-use Rattle.careful_write.proofs.Reading.{same_all, same_so}
+use Rattle.change_set.specs.careful_write.State.{StoreState}
+use Rattle.change_set.proofs.careful_write.Reading.{same_all, same_so}
 use Rattle.file_base.specs.declared.head.FileHead.{FileHead}
 use Rattle.change_set.specs.Buckets.{frame_of, with_frame, with_bucket, WasFree}
 use Rattle.change_set.proofs.Frames.{Lent, lent_given}

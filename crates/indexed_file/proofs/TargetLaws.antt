@@ -2,11 +2,11 @@
 use Rattle.std.proofs.Common.{◌≡◌, ℕ, zero, suc, ◌<◌, ◌≤◌, true, List, [], ◌∷◌, length, map, Some, None, refl, ap, ◌∙◌, arith}
 use Rattle.file_base.specs.declared.head.FileHead.{FileHead}
 use Rattle.bucket_page.specs.Pages.{slot_at}
-use Rattle.records_model.specs.Slots.{same_bytes, bytes_before}
-use Rattle.records_model.specs.Slots as slots
+use Rattle.change_set.specs.records_model.Slots.{same_bytes, bytes_before}
+use Rattle.change_set.specs.records_model.Slots as slots
 use Rattle.indexed_file.specs.Chain.{slot_of}
 use Rattle.indexed_file.specs.Places.{key_at}
-use Rattle.records_model.proofs.SlotLaws.{same_self, before_not_same, behind_not_same, if_true, if_false}
+use Rattle.change_set.proofs.records_model.SlotLaws.{same_self, before_not_same, behind_not_same, if_true, if_false}
 
 -- a slot that was found
 pub found_at : (h : FileHead) (k : List ℕ) (raws : List (List ℕ)) (i : ℕ) → ((j : ℕ) → j < i → bytes_before (key_at h raws j) k ≡ true) → i < length raws → key_at h raws i ≡ k

@@ -2,7 +2,7 @@
 use Rattle.std.specs.Prelude.{◌≡◌, ◌≤◌, ◌<◌, ◌⊎◌, ℕ, Bool, true, false, List, take, Option, None, is_some}
 use Rattle.file_base.specs.declared.head.FileHead.{FileHead}
 use Rattle.bucket_page.specs.Pages.{slots_of, IsBucket}
-use Rattle.records_model.specs.Slots.{Slot, slot_at, room_of, size_of}
+use Rattle.change_set.specs.records_model.Slots.{Slot, slot_at, room_of, size_of}
 use Rattle.indexed_file.specs.Chain.{kind_of, all_keep}
 use Rattle.indexed_file.specs.Raws.{slots_at, SetsLeaf}
 

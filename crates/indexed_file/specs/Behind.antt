@@ -1,7 +1,7 @@
 -- The first slot behind a key.
 use Rattle.std.specs.Prelude.{◌≡◌, ◌≤◌, ◌<◌, ◌&&◌, ℕ, Bool, true, false, List, [], ◌∷◌, length, Option, Some, None, is_some, if◌then◌else◌}
 use Rattle.file_base.specs.declared.head.FileHead.{FileHead}
-use Rattle.records_model.specs.Slots.{Slot, bytes_before}
+use Rattle.change_set.specs.records_model.Slots.{Slot, bytes_before}
 use Rattle.indexed_file.specs.Places.{key_at}
 
 -- a key behind one; where none is said, any key

@@ -1,16 +1,16 @@
 -- The leaves of an indexed file in a list of blocks, and what their slots mean.
 use Rattle.std.specs.Prelude.{◌≡◌, ◌≤◌, ◌<◌, ◌⊎◌, ℕ, ◌+◌, ◌-◌, ◌*◌, ◌==◌, ◌&&◌, ◌||◌, Bool, true, List, [], ◌∷◌, length, map, Option, Some, None, IfSome, if◌then◌else◌, nat_le}
 use Rattle.block_disk.specs.Sizes.{content_start}
-use Rattle.vms_model.specs.Limits.{key_limit}
+use Rattle.vms_base.specs.vms_model.Limits.{key_limit}
 use Rattle.file_base.specs.declared.head.FileHead.{FileHead}
 use Rattle.file_base.specs.Bytes.{piece_at}
-use Rattle.vms_model.specs.Keys.{Key, Number, Text, End}
+use Rattle.vms_base.specs.vms_model.Keys.{Key, Number, Text, End}
 use Rattle.bucket_page.specs.declared.kind.PageKind.{PageKind}
 use Rattle.bucket_page.specs.declared.kind.PageKind.TheVariants.{Data}
 use Rattle.bucket_page.specs.Pages.{u16_at, slots_of, slot_at, next_of, no_next, key_in, IsBucket}
 use Rattle.change_set.specs.Buckets.{bucket_bytes}
-use Rattle.records_model.specs.Slots.{Slot, put, tidied}
-use Rattle.records_model.specs.Parts.{bytes_of, added_buckets}
+use Rattle.change_set.specs.records_model.Slots.{Slot, put, tidied}
+use Rattle.change_set.specs.records_model.Parts.{bytes_of, added_buckets}
 
 -- the kind of its buckets
 abbrev pub kind_of : FileHead → PageKind

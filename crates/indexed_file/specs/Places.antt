@@ -2,7 +2,7 @@
 use Rattle.std.specs.Prelude.{◌≡◌, ◌≤◌, ◌<◌, ◌++◌, ℕ, Bool, true, false, List, length, Option}
 use Rattle.file_base.specs.declared.head.FileHead.{FileHead}
 use Rattle.bucket_page.specs.Pages.{key_in, slot_at}
-use Rattle.records_model.specs.Slots.{Slot, bytes_before, lookup, IsOrdered}
+use Rattle.change_set.specs.records_model.Slots.{Slot, bytes_before, lookup, IsOrdered}
 use Rattle.indexed_file.specs.Chain.{kind_of}
 
 -- the key of slot j

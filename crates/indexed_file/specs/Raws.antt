@@ -3,11 +3,11 @@ use Rattle.std.specs.Prelude.{◌≡◌, ◌≤◌, ◌<◌, ◌⊎◌, ℕ, ◌
 use Rattle.file_base.specs.declared.head.FileHead.{FileHead}
 use Rattle.file_base.specs.Bytes.{piece_at}
 use Rattle.bucket_page.specs.Pages.{u16_at, u16_bytes, key_in, slots_of, next_of, suits, all_suit, slot_at, joined, inserted, Packs}
-use Rattle.records_model.specs.Slots.{Slot}
-use Rattle.records_model.specs.Slots as slots_model
+use Rattle.change_set.specs.records_model.Slots.{Slot}
+use Rattle.change_set.specs.records_model.Slots as slots_model
 use Rattle.indexed_file.specs.Chain.{kind_of, slot_of, keeps_record, all_keep, slots_set}
-use Rattle.records_model.specs.Parts.{fits_at, greater_part, has_place, IsBest}
-use Rattle.records_model.specs.Chain.{place_of}
+use Rattle.change_set.specs.records_model.Parts.{fits_at, greater_part, has_place, IsBest}
+use Rattle.change_set.specs.records_model.Chain.{place_of}
 
 -- the bytes of a slot: its room, its record's length, and a piece at a place of the room, which is zero elsewhere
 abbrev pub slot_bytes : ℕ → ℕ → ℕ → List ℕ → List ℕ

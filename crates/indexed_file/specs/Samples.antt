@@ -1,6 +1,6 @@
 -- What tests ask of a file and of held keys.
 use Rattle.std.specs.Prelude.{◌==◌, ◌%◌, Bool, false, slice_index}
-use Rattle.vms_model.specs.Keys.{Key, Number, Text, End}
+use Rattle.vms_base.specs.vms_model.Keys.{Key, Number, Text, End}
 
 -- the first byte of a key is even
 abbrev pub is_even_text : Key → Bool

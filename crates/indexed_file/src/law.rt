@@ -1,7 +1,7 @@
 //! What the definitions of an indexed file promise.
-ghost use Rattle.records_model.specs.Slots.{PutSets, PutKeepsOrder, TargetTells, TidyKeeps, TidyKeepsOrder, TidyKeepsRooms, PutKeepsRooms};
+ghost use Rattle.change_set.specs.records_model.Slots.{PutSets, PutKeepsOrder, TargetTells, TidyKeeps, TidyKeepsOrder, TidyKeepsRooms, PutKeepsRooms};
 ghost use Rattle.indexed_file.specs.Chain.{AddsFew};
-ghost use Rattle.records_model.specs.Parts.{PartsKeep};
+ghost use Rattle.change_set.specs.records_model.Parts.{PartsKeep};
 
 /// A slot that is put into the bucket for its key sets the key, and no other.
 pub fn put_law()

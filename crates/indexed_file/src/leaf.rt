@@ -1,8 +1,8 @@
 //! One bucket of a file, read into a frame.
 ghost use Rattle.std.specs.Prelude.{◌≡◌, ◌≤◌, ◌<◌, ◌+◌, ◌-◌, ◌*◌, ℕ, true, false, Some, None, length};
-ghost use Rattle.vms_model.specs.Limits.{record_limit};
+ghost use Rattle.vms_base.specs.vms_model.Limits.{record_limit};
 ghost use Rattle.bucket_page.specs.Pages.{slots_of, key_in, slot_at, IsBucket, IsPacked, u16_at};
-ghost use Rattle.records_model.specs.Slots.{bytes_before};
+ghost use Rattle.change_set.specs.records_model.Slots.{bytes_before};
 ghost use Rattle.std.specs.Ordering.{nat_cmp, is_lt, ordering_reverse};
 ghost use Rattle.std.specs.Cmp.Lexicographic.{slice_cmp};
 ghost use Rattle.indexed_file.specs.Chain.{HasKeys, kind_of, value_of};

@@ -11,6 +11,7 @@ mod restore;
 mod set;
 mod slots;
 
+pub use change_set::{Held, give_frame, take_frame};
 pub use law::{order_law, part_law, put_law, room_law, target_law, tidy_law};
 pub use make::make_file;
 pub use next::next_in_leaf;

@@ -1,8 +1,8 @@
 //! The one leaf of an empty indexed file.
 ghost use Rattle.std.specs.Prelude.{◌≡◌, ◌≤◌, ◌<◌, ◌+◌, ◌*◌, ℕ, List, [], Some, None, length, take, OnOk, OnErr, IfSome};
 ghost use Rattle.block_disk.specs.Sizes.{content_start};
-ghost use Rattle.careful_write.specs.Down.{Counts};
-ghost use Rattle.careful_write.specs.State.{IsIdle};
+ghost use Rattle.change_set.specs.careful_write.Down.{Counts};
+ghost use Rattle.change_set.specs.careful_write.State.{IsIdle};
 ghost use Rattle.frame_pool.specs.Pool.{IsOut};
 ghost use Rattle.bucket_page.specs.Pages.{no_next, Holds};
 ghost use Rattle.change_set.specs.Buckets.{frame_of, with_frame};
@@ -13,8 +13,7 @@ ghost use Rattle.indexed_file.specs.Made.{MakesLeaf};
 use crate::leaf::kind;
 use block_disk::Disk;
 use bucket_page::Page;
-use careful_write::{Down, Store};
-use change_set::{give_frame, stage_bucket, take_frame};
+use change_set::{Down, Store, give_frame, stage_bucket, take_frame};
 use file_base::FileHead;
 use frame_pool::Frame;
 

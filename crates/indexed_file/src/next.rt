@@ -1,7 +1,7 @@
 //! The first key behind one.
 ghost use Rattle.std.specs.Prelude.{◌≡◌, ◌≤◌, ◌<◌, ◌+◌, ◌-◌, ℕ, Option, Some, None, length, map, IfSome, IfNone};
 ghost use Rattle.std.specs.Option.{option_copied};
-ghost use Rattle.vms_model.specs.Limits.{record_limit};
+ghost use Rattle.vms_base.specs.vms_model.Limits.{record_limit};
 ghost use Rattle.bucket_page.specs.Pages.{slots_of, IsBucket};
 ghost use Rattle.indexed_file.specs.Chain.{HasKeys, kind_of, slot_of, HasSlot};
 ghost use Rattle.indexed_file.specs.Behind.{first_behind, IsFound, StartsBehind};

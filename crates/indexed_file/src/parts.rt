@@ -3,7 +3,7 @@ ghost use Rattle.std.specs.Prelude.{◌≡◌, ◌≤◌, ◌<◌, ◌+◌, ◌-
 ghost use Rattle.block_disk.specs.Sizes.{greatest_disk_size};
 ghost use Rattle.bucket_page.specs.Pages.{slots_of, next_of, joined, suits, reach, inserted, IsPacked, Packs};
 ghost use Rattle.indexed_file.specs.Chain.{kind_of, slot_of};
-ghost use Rattle.records_model.specs.Parts.{bytes_of, fits_at, has_place, IsBest};
+ghost use Rattle.change_set.specs.records_model.Parts.{bytes_of, fits_at, has_place, IsBest};
 ghost use Rattle.indexed_file.specs.Raws.{Parted};
 
 use crate::leaf::kind;

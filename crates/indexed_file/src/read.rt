@@ -1,9 +1,9 @@
 //! The record of a key.
 ghost use Rattle.std.specs.Prelude.{◌≡◌, ◌≤◌, ◌<◌, ◌-◌, ℕ, true, false, Some, None, length, IfNone};
-ghost use Rattle.vms_model.specs.Limits.{record_limit};
+ghost use Rattle.vms_base.specs.vms_model.Limits.{record_limit};
 ghost use Rattle.bucket_page.specs.Pages.{IsBucket};
-ghost use Rattle.records_model.specs.Slots.{slot_at};
-ghost use Rattle.records_model.specs.Chain.{begins_by};
+ghost use Rattle.change_set.specs.records_model.Slots.{slot_at};
+ghost use Rattle.change_set.specs.records_model.Chain.{begins_by};
 ghost use Rattle.indexed_file.specs.Chain.{kind_of, HasSlot};
 ghost use Rattle.indexed_file.specs.Places.{Decides};
 ghost use Rattle.indexed_file.specs.Raws.{slots_at};

@@ -1,10 +1,10 @@
 //! A key that is set: the bucket for it is written anew, and parted where it overflows.
 ghost use Rattle.std.specs.Prelude.{◌≡◌, ◌≤◌, ◌<◌, ◌+◌, ◌-◌, ℕ, true, false, [], Option, Some, None, length, take};
 ghost use Rattle.std.specs.Option.{option_copied};
-ghost use Rattle.vms_model.specs.Keys.{Text};
+ghost use Rattle.vms_base.specs.vms_model.Keys.{Text};
 ghost use Rattle.block_disk.specs.Sizes.{greatest_disk_size};
 ghost use Rattle.bucket_page.specs.Pages.{slots_of, next_of, slot_at, suits, inserted, page_of, IsPacked, IsBucket, Holds};
-ghost use Rattle.records_model.specs.Slots.{size_of};
+ghost use Rattle.change_set.specs.records_model.Slots.{size_of};
 ghost use Rattle.indexed_file.specs.Chain.{HasKeys, kind_of, all_keep, SuitsText};
 ghost use Rattle.indexed_file.specs.Places.{IsPlace};
 ghost use Rattle.indexed_file.specs.Raws.{slot_bytes, Means, tidied_raws, raws_added, place_added, Parted, SetsLeaf};

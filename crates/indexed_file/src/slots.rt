@@ -1,6 +1,6 @@
 //! Slots of a bucket that are made, and tidied.
 ghost use Rattle.std.specs.Prelude.{◌≡◌, ◌≤◌, ◌<◌, ◌+◌, ◌-◌, ◌*◌, ◌++◌, ℕ, List, Bool, true, false, [], length, take, drop, if◌then◌else◌, ◌&&◌, nat_lt};
-ghost use Rattle.vms_model.specs.Keys.{Text};
+ghost use Rattle.vms_base.specs.vms_model.Keys.{Text};
 ghost use Rattle.byteorder.specs.Endian.{little_bytes};
 ghost use Rattle.bucket_page.specs.Pages.{slots_of, next_of, key_in, slot_at, suits, IsPacked, Packs, u16_at, u16_bytes};
 ghost use Rattle.indexed_file.specs.Chain.{HasKeys, kind_of};

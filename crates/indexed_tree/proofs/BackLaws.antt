@@ -3,18 +3,18 @@ use Rattle.std.proofs.Common.{◌≡◌, ◌≤◌, ◌<◌, ⊎_elim, inl, inr,
 use Rattle.std.specs.List.{list_any}
 use Rattle.std.proofs.lemmas.Bool.{cases_Bool}
 use Rattle.file_base.specs.declared.head.FileHead.{FileHead}
-use Rattle.vms_model.specs.Keys.{Text}
+use Rattle.vms_base.specs.vms_model.Keys.{Text}
 use Rattle.bucket_page.specs.Pages.{slots_of}
-use Rattle.records_model.specs.Slots.{Slot, same_bytes, bytes_before, slot_at, value_in, room_in, lookup, size_of, with_value, put, IsOrdered}
-use Rattle.records_model.specs.Parts.{bytes_of}
-use Rattle.records_model.specs.Chain.{bucket_with, slot_back}
-use Rattle.records_model.proofs.SlotLaws.{same_bytes_are, or_slot, if_true, if_false, slot_at-append, behind_absent, before_absent, behind_trans}
-use Rattle.tree_model.specs.Layouts.{Leaf, slots_along}
-use Rattle.tree_model.specs.Setting.{starts_by, leaves_from, leaves_with, slots_for, leaf_place, leaf_back, index_with, layout_with, layout_back}
-use Rattle.tree_model.specs.Trees.{AreBounded}
-use Rattle.tree_model.proofs.BoundLemmas.{lower_slots, higher_slots}
-use Rattle.index_model.proofs.TreeLemmas.{slots_same}
-use Rattle.index_bucket.specs.Entries.{sizes_of}
+use Rattle.indexed_file.specs.records_model.Slots.{Slot, same_bytes, bytes_before, slot_at, value_in, room_in, lookup, size_of, with_value, put, IsOrdered}
+use Rattle.indexed_file.specs.records_model.Parts.{bytes_of}
+use Rattle.indexed_file.specs.records_model.Chain.{bucket_with, slot_back}
+use Rattle.indexed_file.proofs.records_model.SlotLaws.{same_bytes_are, or_slot, if_true, if_false, slot_at-append, behind_absent, before_absent, behind_trans}
+use Rattle.indexed_file.specs.tree_model.Layouts.{Leaf, slots_along}
+use Rattle.indexed_file.specs.tree_model.Setting.{starts_by, leaves_from, leaves_with, slots_for, leaf_place, leaf_back, index_with, layout_with, layout_back}
+use Rattle.indexed_file.specs.tree_model.Trees.{AreBounded}
+use Rattle.indexed_file.proofs.tree_model.BoundLemmas.{lower_slots, higher_slots}
+use Rattle.index_blocks.proofs.index_model.TreeLemmas.{slots_same}
+use Rattle.index_blocks.specs.index_bucket.Entries.{sizes_of}
 use Rattle.index_blocks.specs.Buckets.{bucket_at}
 use Rattle.index_blocks.specs.Levels.{leaf_entries, leaf_for}
 use Rattle.indexed_file.specs.Backs.{HasRoom, TriesLeaf, changed, lacking}

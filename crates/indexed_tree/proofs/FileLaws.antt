@@ -1,13 +1,13 @@
 -- The calls on an indexed file, as those on a map from keys to records.
 use Rattle.std.proofs.Common.{◌≡◌, ◌≤◌, ℕ, Bool, true, List, [], Option, Some, None, IfSome, IsSomeAnd, option_map, refl, sym, ap, subst, ◌∙◌, arith}
 use Rattle.file_base.specs.declared.head.FileHead.{FileHead}
-use Rattle.vms_model.specs.Keys.{Key, Number, Text, End}
-use Rattle.change_set.specs.Files.{AgreesOn, SameFile}
-use Rattle.change_set.specs.Maps.{set_key, empty_map, IsNext, EndsAfter, is_after, key_before}
-use Rattle.records_model.specs.Slots.{Slot, lookup, room_of, size_of}
-use Rattle.tree_model.specs.Layouts.{Layout, slots_along, used_of}
-use Rattle.tree_model.specs.Setting.{layout_set, layout_back}
-use Rattle.index_bucket.specs.Entries.{sizes_of}
+use Rattle.vms_base.specs.vms_model.Keys.{Key, Number, Text, End}
+use Rattle.indexed_file.specs.change_set.Files.{AgreesOn, SameFile}
+use Rattle.indexed_file.specs.change_set.Maps.{set_key, empty_map, IsNext, EndsAfter, is_after, key_before}
+use Rattle.indexed_file.specs.records_model.Slots.{Slot, lookup, room_of, size_of}
+use Rattle.indexed_file.specs.tree_model.Layouts.{Layout, slots_along, used_of}
+use Rattle.indexed_file.specs.tree_model.Setting.{layout_set, layout_back}
+use Rattle.index_blocks.specs.index_bucket.Entries.{sizes_of}
 use Rattle.index_blocks.specs.Levels.{HasRoot}
 use Rattle.indexed_file.specs.Behind.{first_behind, IsFound}
 use Rattle.indexed_file.specs.Chain.{HasKeys}

@@ -11,3 +11,5 @@ pub mod RootLaws
 pub mod SetLaws
 pub mod StayLaws
 pub mod StoreLaws
+pub mod index_blocks
+pub mod indexed_file

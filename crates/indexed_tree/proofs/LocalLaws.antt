@@ -2,16 +2,16 @@
 use Rattle.std.proofs.Common.{◌≡◌, ◌≤◌, inr, ◌+◌, ℕ, List, [], ◌∷◌, ◌++◌, length, map, sym, ap, ◌∙◌, subst, arith}
 use Rattle.file_base.specs.declared.head.FileHead.{FileHead}
 use Rattle.bucket_page.specs.Pages.{no_next, next_of}
-use Rattle.change_set.specs.Files.{AgreesOn}
-use Rattle.change_set.proofs.Extents.{extent_bucket}
-use Rattle.tree_model.specs.Layouts.{Layout, first_layout}
-use Rattle.tree_model.specs.Trees.{IsTree}
-use Rattle.tree_model.proofs.ZeroLemmas.{first_is_tree}
-use Rattle.index_model.specs.Indexes.{numbers_of, counts_of, AllDiffer, AllBelow}
-use Rattle.index_model.specs.Trees.{child_of, leaf_at}
-use Rattle.index_model.proofs.HandLemmas.{counts_agree}
-use Rattle.index_model.proofs.TreeLemmas.{SameSlots, leaves_same}
-use Rattle.index_bucket.specs.Entries.{sizes_of, IsIndexBucket}
+use Rattle.indexed_file.specs.change_set.Files.{AgreesOn}
+use Rattle.indexed_file.proofs.change_set.Extents.{extent_bucket}
+use Rattle.indexed_file.specs.tree_model.Layouts.{Layout, first_layout}
+use Rattle.indexed_file.specs.tree_model.Trees.{IsTree}
+use Rattle.indexed_file.proofs.tree_model.ZeroLemmas.{first_is_tree}
+use Rattle.index_blocks.specs.index_model.Indexes.{numbers_of, counts_of, AllDiffer, AllBelow}
+use Rattle.index_blocks.specs.index_model.Trees.{child_of, leaf_at}
+use Rattle.index_blocks.proofs.index_model.HandLemmas.{counts_agree}
+use Rattle.index_blocks.proofs.index_model.TreeLemmas.{SameSlots, leaves_same}
+use Rattle.index_blocks.specs.index_bucket.Entries.{sizes_of, IsIndexBucket}
 use Rattle.index_blocks.specs.Buckets.{bucket_at}
 use Rattle.index_blocks.specs.Levels.{entries_in, least_key, below_at, levels_above, height, leaf_entries, levels_of, AllAre}
 use Rattle.indexed_file.specs.Chain.{slot_of, slots_in, all_keep, IsLeaf, Leads}

@@ -4,18 +4,18 @@ use Rattle.std.proofs.lemmas.Bool.Decides.{nat_tests}
 use Rattle.block_disk.specs.Disk.{DiskState}
 use Rattle.file_base.specs.declared.head.FileHead.{FileHead}
 use Rattle.bucket_page.specs.Pages.{slots_of, IsBucket}
-use Rattle.change_set.specs.Files.{IsPlaced}
-use Rattle.records_model.specs.Slots.{Slot, bytes_before, lookup, size_of, room_of, room_in, put, tidied, IsOrdered}
-use Rattle.records_model.specs.Parts.{bytes_of, added_buckets}
-use Rattle.records_model.proofs.SlotLaws.{if_true}
-use Rattle.tree_model.specs.Layouts.{Layout, slots_along}
-use Rattle.tree_model.specs.Laws.{first_lowest, TreeHasSet, TreeRooms}
-use Rattle.tree_model.specs.Setting.{layout_with}
-use Rattle.tree_model.proofs.RoomLemmas.{tree_keeps_rooms}
-use Rattle.tree_model.proofs.SetLemmas.{tree_has_set}
-use Rattle.tree_model.proofs.ZeroLemmas.{zeros_least}
-use Rattle.index_bucket.specs.Entries.{sizes_of}
-use Rattle.index_bucket.proofs.HandLaws.{fan_out_wide}
+use Rattle.indexed_file.specs.change_set.Files.{IsPlaced}
+use Rattle.indexed_file.specs.records_model.Slots.{Slot, bytes_before, lookup, size_of, room_of, room_in, put, tidied, IsOrdered}
+use Rattle.indexed_file.specs.records_model.Parts.{bytes_of, added_buckets}
+use Rattle.indexed_file.proofs.records_model.SlotLaws.{if_true}
+use Rattle.indexed_file.specs.tree_model.Layouts.{Layout, slots_along}
+use Rattle.indexed_file.specs.tree_model.Laws.{first_lowest, TreeHasSet, TreeRooms}
+use Rattle.indexed_file.specs.tree_model.Setting.{layout_with}
+use Rattle.indexed_file.proofs.tree_model.RoomLemmas.{tree_keeps_rooms}
+use Rattle.indexed_file.proofs.tree_model.SetLemmas.{tree_has_set}
+use Rattle.indexed_file.proofs.tree_model.ZeroLemmas.{zeros_least}
+use Rattle.index_blocks.specs.index_bucket.Entries.{sizes_of}
+use Rattle.index_blocks.proofs.index_bucket.HandLaws.{fan_out_wide}
 use Rattle.index_blocks.specs.Buckets.{bucket_at}
 use Rattle.index_blocks.specs.Laws.{IsNoted}
 use Rattle.index_blocks.specs.Levels.{leaf_for, HasRoot}

@@ -4,12 +4,12 @@ use Rattle.std.proofs.lemmas.List.{map-append}
 use Rattle.std.specs.List.{list_any}
 use Rattle.file_base.specs.declared.head.FileHead.{FileHead}
 use Rattle.bucket_page.specs.Pages.{no_next}
-use Rattle.records_model.specs.Slots.{Slot, bytes_before, AllBefore}
-use Rattle.records_model.proofs.SlotLaws.{if_false}
-use Rattle.index_model.specs.Indexes.{Entry, leads_by, child_for, Ascends, AllBelow}
-use Rattle.index_model.specs.Trees.{child_of}
-use Rattle.index_model.proofs.DescentLemmas.{none_above}
-use Rattle.index_model.proofs.HandLemmas.{below_parts}
+use Rattle.indexed_file.specs.records_model.Slots.{Slot, bytes_before, AllBefore}
+use Rattle.indexed_file.proofs.records_model.SlotLaws.{if_false}
+use Rattle.index_blocks.specs.index_model.Indexes.{Entry, leads_by, child_for, Ascends, AllBelow}
+use Rattle.index_blocks.specs.index_model.Trees.{child_of}
+use Rattle.index_blocks.proofs.index_model.DescentLemmas.{none_above}
+use Rattle.index_blocks.proofs.index_model.HandLemmas.{below_parts}
 use Rattle.index_blocks.specs.Buckets.{bucket_at}
 use Rattle.index_blocks.specs.Levels.{least_key, leaf_entries, leaf_for, AllAre}
 use Rattle.indexed_file.specs.Behind.{first_behind, IsFound}

@@ -4,11 +4,11 @@ use Rattle.std.proofs.lemmas.List.{take-map, drop-map, length-map}
 use Rattle.file_base.specs.declared.head.FileHead.{FileHead}
 use Rattle.bucket_page.specs.Pages.{no_next, slots_of, next_of, ascend, Packs, all_suit, joined}
 use Rattle.bucket_page.proofs.Orders.{ascend-take, ascend-drop}
-use Rattle.change_set.specs.Buckets.{with_bucket}
-use Rattle.change_set.proofs.BucketLaws.{length-with_bucket}
-use Rattle.records_model.specs.Slots.{Slot}
-use Rattle.records_model.specs.Parts as parts
-use Rattle.records_model.specs.Parts.{bytes_of, has_place, IsBest, IsParted}
+use Rattle.indexed_file.specs.change_set.Buckets.{with_bucket}
+use Rattle.indexed_file.proofs.change_set.BucketLaws.{length-with_bucket}
+use Rattle.indexed_file.specs.records_model.Slots.{Slot}
+use Rattle.indexed_file.specs.records_model.Parts as parts
+use Rattle.indexed_file.specs.records_model.Parts.{bytes_of, has_place, IsBest, IsParted}
 use Rattle.index_blocks.specs.Buckets.{bucket_first, bucket_at}
 use Rattle.index_blocks.specs.Levels.{AllAre}
 use Rattle.index_blocks.proofs.WriteLaws.{bucket_same, bucket_other}

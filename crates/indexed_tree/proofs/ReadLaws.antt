@@ -3,7 +3,7 @@ use Rattle.std.proofs.Common.{◌≡◌, ◌≤◌, ◌<◌, ◌*◌, ◌++◌, 
 use Rattle.std.proofs.lemmas.List.{length-take-le}
 use Rattle.file_base.specs.declared.head.FileHead.{FileHead}
 use Rattle.bucket_page.specs.Pages.{IsBucket}
-use Rattle.records_model.specs.Slots.{Slot, value_in, lookup, slot_at, IsOrdered}
+use Rattle.indexed_file.specs.records_model.Slots.{Slot, value_in, lookup, slot_at, IsOrdered}
 use Rattle.index_blocks.specs.Buckets.{bucket_at}
 use Rattle.index_blocks.specs.Levels.{leaf_for}
 use Rattle.indexed_file.specs.Chain.{kind_of, slots_in, IsLeaf}

@@ -3,7 +3,7 @@ use Rattle.std.proofs.Common.{◌≡◌, ◌<◌, ◌*◌, ℕ, Bool, true, fals
 use Rattle.block_disk.specs.Disk.{DiskState}
 use Rattle.file_base.specs.declared.head.FileHead.{FileHead}
 use Rattle.bucket_page.specs.Pages.{slots_of, IsBucket}
-use Rattle.change_set.specs.Files.{IsPlaced}
+use Rattle.indexed_file.specs.change_set.Files.{IsPlaced}
 use Rattle.index_blocks.specs.Buckets.{bucket_at}
 use Rattle.index_blocks.specs.Levels.{leaf_for, HasRoot}
 use Rattle.indexed_file.specs.Backs.{TriesLeaf, TriesBytes}

@@ -2,20 +2,20 @@
 use Rattle.std.proofs.Common.{◌≡◌, ◌≤◌, ◌<◌, ℕ, zero, suc, Bool, true, false, List, [], ◌∷◌, ◌++◌, length, map, refl, sym, ap, ◌∙◌, subst, arith, length-append, append_assoc}
 use Rattle.std.specs.List.{list_any}
 use Rattle.file_base.specs.declared.head.FileHead.{FileHead}
-use Rattle.records_model.specs.Slots.{Slot, slot_at, AllBefore, AllBehind, IsOrdered, IsFor}
-use Rattle.records_model.proofs.SlotLaws.{if_true, if_false, ordered_parts}
-use Rattle.tree_model.specs.Layouts.{slots_along, index_size}
-use Rattle.tree_model.specs.Laws.{first_lowest}
-use Rattle.tree_model.specs.Trees.{AreBounded}
-use Rattle.tree_model.proofs.BoundLemmas.{lower_slots, higher_slots}
-use Rattle.tree_model.proofs.IndexLemmas.{one_level_one_bucket}
-use Rattle.tree_model.proofs.FindLemmas.{tree_finds}
-use Rattle.index_model.specs.Indexes.{Entry, first_separator, entries_along, parent_entry, AreLevels, leads_by, child_for, Ascends, with_added, numbers_of, counts_of, AllBelow}
-use Rattle.index_model.specs.Trees.{child_of, leaf_at}
-use Rattle.index_model.proofs.DescentLemmas.{some_below}
-use Rattle.index_model.proofs.HandLemmas.{below_both, differ_parts}
-use Rattle.index_model.proofs.TreeLemmas.{bounded_ascend, any_same, slots_same}
-use Rattle.index_bucket.specs.Entries.{sizes_of, IsIndexBucket}
+use Rattle.indexed_file.specs.records_model.Slots.{Slot, slot_at, AllBefore, AllBehind, IsOrdered, IsFor}
+use Rattle.indexed_file.proofs.records_model.SlotLaws.{if_true, if_false, ordered_parts}
+use Rattle.indexed_file.specs.tree_model.Layouts.{slots_along, index_size}
+use Rattle.indexed_file.specs.tree_model.Laws.{first_lowest}
+use Rattle.indexed_file.specs.tree_model.Trees.{AreBounded}
+use Rattle.indexed_file.proofs.tree_model.BoundLemmas.{lower_slots, higher_slots}
+use Rattle.indexed_file.proofs.tree_model.IndexLemmas.{one_level_one_bucket}
+use Rattle.indexed_file.proofs.tree_model.FindLemmas.{tree_finds}
+use Rattle.index_blocks.specs.index_model.Indexes.{Entry, first_separator, entries_along, parent_entry, AreLevels, leads_by, child_for, Ascends, with_added, numbers_of, counts_of, AllBelow}
+use Rattle.index_blocks.specs.index_model.Trees.{child_of, leaf_at}
+use Rattle.index_blocks.proofs.index_model.DescentLemmas.{some_below}
+use Rattle.index_blocks.proofs.index_model.HandLemmas.{below_both, differ_parts}
+use Rattle.index_blocks.proofs.index_model.TreeLemmas.{bounded_ascend, any_same, slots_same}
+use Rattle.index_blocks.specs.index_bucket.Entries.{sizes_of, IsIndexBucket}
 use Rattle.index_blocks.specs.Buckets.{bucket_at}
 use Rattle.index_blocks.specs.Levels.{entries_in, least_key, below_at, levels_above, height, leaf_entries, levels_of, AllAre, LeadsDown, leaf_for}
 use Rattle.index_blocks.specs.Laws as index

@@ -3,22 +3,22 @@ use Rattle.std.proofs.Common.{◌≡◌, ◌≤◌, ◌<◌, ◌⊎◌, inl, inr
 use Rattle.std.proofs.lemmas.List.{map-append}
 use Rattle.file_base.specs.declared.head.FileHead.{FileHead}
 use Rattle.bucket_page.specs.Pages.{no_next, next_of, slots_of, IsBucket}
-use Rattle.records_model.specs.Slots.{Slot, bytes_before, put, tidied, IsOrdered, IsFor}
-use Rattle.records_model.specs.Parts.{bytes_of, parted}
-use Rattle.records_model.specs.Chain.{bucket_with, place_of}
-use Rattle.records_model.proofs.SlotLaws.{if_true, ordered_parts}
-use Rattle.tree_model.specs.Setting.{first_key, layout_with}
-use Rattle.tree_model.specs.Laws.{first_lowest}
-use Rattle.tree_model.specs.Trees.{AllHold, AllFit, IsTree}
-use Rattle.tree_model.proofs.PartsLemmas.{AllFull, bucket_parts}
-use Rattle.tree_model.proofs.ZeroLemmas.{zeros_least}
-use Rattle.index_model.specs.Indexes.{Entry, Index, AreLevels, Ascends, child_for, with_added, handed_up, numbers_of, counts_of, IsNoneOf, AllDiffer, AllBelow}
-use Rattle.index_model.specs.Trees.{Tree, child_of, leaf_at, layout_of, entries_from, set_slots, slots_from, first_part, later_parts, tree_with, IsNumbered}
-use Rattle.index_model.specs.Laws.{NumberedHasSet}
-use Rattle.index_model.proofs.HandLemmas.{AgreeOn, counts_agree, levels_agree, none_below, below_more, below_parts, differ_about, differ_parts, EachNone, added_none, hand_up_keeps_index}
-use Rattle.index_model.proofs.TreeLemmas.{bounded_ascend, SameSlots, leaves_same, from_below, set_slots_here, set_slots_other, length_entries, numbered_has_set}
-use Rattle.index_bucket.specs.Entries.{sizes_of}
-use Rattle.index_bucket.proofs.HandLaws.{fan_out_wide}
+use Rattle.indexed_file.specs.records_model.Slots.{Slot, bytes_before, put, tidied, IsOrdered, IsFor}
+use Rattle.indexed_file.specs.records_model.Parts.{bytes_of, parted}
+use Rattle.indexed_file.specs.records_model.Chain.{bucket_with, place_of}
+use Rattle.indexed_file.proofs.records_model.SlotLaws.{if_true, ordered_parts}
+use Rattle.indexed_file.specs.tree_model.Setting.{first_key, layout_with}
+use Rattle.indexed_file.specs.tree_model.Laws.{first_lowest}
+use Rattle.indexed_file.specs.tree_model.Trees.{AllHold, AllFit, IsTree}
+use Rattle.indexed_file.proofs.tree_model.PartsLemmas.{AllFull, bucket_parts}
+use Rattle.indexed_file.proofs.tree_model.ZeroLemmas.{zeros_least}
+use Rattle.index_blocks.specs.index_model.Indexes.{Entry, Index, AreLevels, Ascends, child_for, with_added, handed_up, numbers_of, counts_of, IsNoneOf, AllDiffer, AllBelow}
+use Rattle.index_blocks.specs.index_model.Trees.{Tree, child_of, leaf_at, layout_of, entries_from, set_slots, slots_from, first_part, later_parts, tree_with, IsNumbered}
+use Rattle.index_blocks.specs.index_model.Laws.{NumberedHasSet}
+use Rattle.index_blocks.proofs.index_model.HandLemmas.{AgreeOn, counts_agree, levels_agree, none_below, below_more, below_parts, differ_about, differ_parts, EachNone, added_none, hand_up_keeps_index}
+use Rattle.index_blocks.proofs.index_model.TreeLemmas.{bounded_ascend, SameSlots, leaves_same, from_below, set_slots_here, set_slots_other, length_entries, numbered_has_set}
+use Rattle.index_blocks.specs.index_bucket.Entries.{sizes_of}
+use Rattle.index_blocks.proofs.index_bucket.HandLaws.{fan_out_wide}
 use Rattle.index_blocks.specs.Buckets.{bucket_at}
 use Rattle.index_blocks.specs.Levels.{entries_in, least_key, height, leaf_entries, levels_of, AllAre, LeadsDown, way, leaf_for}
 use Rattle.index_blocks.specs.Climbs.{MayClimb, Climbs, TellsRoot, climbed}

@@ -1,10 +1,10 @@
 -- An index whose buckets stay is read as before.
 use Rattle.std.proofs.Common.{◌≡◌, ◌≤◌, ◌+◌, ◌-◌, ℕ, zero, suc, List, [], ◌∷◌, map, refl, sym, ap, ◌∙◌, subst, arith}
 use Rattle.file_base.specs.declared.head.FileHead.{FileHead}
-use Rattle.index_model.specs.Indexes.{Entry, entries_along, parent_entry, numbers_of}
-use Rattle.index_model.specs.Trees.{child_of}
-use Rattle.index_model.proofs.HandLemmas.{AgreeOn, along_agree, parents_agree}
-use Rattle.index_bucket.specs.Entries.{entries_at, IsIndexBucket}
+use Rattle.index_blocks.specs.index_model.Indexes.{Entry, entries_along, parent_entry, numbers_of}
+use Rattle.index_blocks.specs.index_model.Trees.{child_of}
+use Rattle.index_blocks.proofs.index_model.HandLemmas.{AgreeOn, along_agree, parents_agree}
+use Rattle.index_blocks.specs.index_bucket.Entries.{entries_at, IsIndexBucket}
 use Rattle.index_blocks.specs.Buckets.{bucket_at}
 use Rattle.index_blocks.specs.Levels.{entries_in, below_at, levels_above, height, leaf_entries, levels_of, AllAre, LeadsDown}
 use Rattle.index_blocks.proofs.LevelLaws.{are_parts}

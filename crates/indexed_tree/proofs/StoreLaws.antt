@@ -8,13 +8,13 @@ use Rattle.careful_write.specs.State.{StoreState}
 use Rattle.careful_write.proofs.Reading.{more_read}
 use Rattle.file_base.specs.declared.head.FileHead.{FileHead}
 use Rattle.frame_pool.specs.Pool.{IsOut}
-use Rattle.change_set.specs.Buckets.{frame_of, with_frame, with_bucket, WasFree}
-use Rattle.change_set.specs.Files.{IsPlaced, StagesIn}
-use Rattle.change_set.proofs.Extents.{bucket_staged, stages_more}
-use Rattle.change_set.proofs.Frames.{with_frame_own}
-use Rattle.records_model.specs.Slots.{size_of}
-use Rattle.index_model.specs.Indexes.{Entry}
-use Rattle.index_bucket.specs.Entries.{sizes_of}
+use Rattle.indexed_file.specs.change_set.Buckets.{frame_of, with_frame, with_bucket, WasFree}
+use Rattle.indexed_file.specs.change_set.Files.{IsPlaced, StagesIn}
+use Rattle.indexed_file.proofs.change_set.Extents.{bucket_staged, stages_more}
+use Rattle.indexed_file.proofs.change_set.Frames.{with_frame_own}
+use Rattle.indexed_file.specs.records_model.Slots.{size_of}
+use Rattle.index_blocks.specs.index_model.Indexes.{Entry}
+use Rattle.index_blocks.specs.index_bucket.Entries.{sizes_of}
 use Rattle.index_blocks.specs.Buckets.{bucket_first, with_blocks_of}
 use Rattle.index_blocks.specs.Climbs.{MayClimb, Climbs}
 use Rattle.index_blocks.specs.Laws.{IsNoted, grown_head}

@@ -1,9 +1,9 @@
 -- What becomes of an indexed file under an index where a key is set back in place.
 use Rattle.std.specs.Prelude.{◌≡◌, ◌≤◌, ◌<◌, ◌*◌, ℕ, true, false, List, length, take, Option, IfSome, if◌then◌else◌}
 use Rattle.file_base.specs.declared.head.FileHead.{FileHead}
-use Rattle.vms_model.specs.Keys.{Text}
-use Rattle.records_model.specs.Slots.{same_bytes, lookup, size_of, room_of}
-use Rattle.tree_model.specs.Setting.{layout_back}
+use Rattle.vms_base.specs.vms_model.Keys.{Text}
+use Rattle.indexed_file.specs.records_model.Slots.{same_bytes, lookup, size_of, room_of}
+use Rattle.indexed_file.specs.tree_model.Setting.{layout_back}
 use Rattle.index_blocks.specs.Buckets.{bucket_at}
 use Rattle.index_blocks.specs.Levels.{leaf_for}
 use Rattle.indexed_file.specs.Backs.{TriesLeaf}

@@ -2,13 +2,13 @@
 use Rattle.std.specs.Prelude.{◌≡◌, ◌≤◌, ℕ, Bool, true, List, Option, Some, None, IfSome, option_map}
 use Rattle.file_base.specs.declared.head.FileHead.{FileHead}
 use Rattle.file_base.specs.declared.head.Organization.TheVariants.{Indexed}
-use Rattle.vms_model.specs.Keys.{Key, Number, Text, End}
-use Rattle.change_set.specs.Maps.{Map, set_key}
-use Rattle.records_model.specs.Slots.{lookup, room_of, size_of}
-use Rattle.tree_model.specs.Layouts.{Layout, used_of}
-use Rattle.tree_model.specs.Layouts as layouts
-use Rattle.tree_model.specs.Setting.{layout_with, layout_set, layout_back}
-use Rattle.index_bucket.specs.Entries.{sizes_of}
+use Rattle.vms_base.specs.vms_model.Keys.{Key, Number, Text, End}
+use Rattle.indexed_file.specs.change_set.Maps.{Map, set_key}
+use Rattle.indexed_file.specs.records_model.Slots.{lookup, room_of, size_of}
+use Rattle.indexed_file.specs.tree_model.Layouts.{Layout, used_of}
+use Rattle.indexed_file.specs.tree_model.Layouts as layouts
+use Rattle.indexed_file.specs.tree_model.Setting.{layout_with, layout_set, layout_back}
+use Rattle.index_blocks.specs.index_bucket.Entries.{sizes_of}
 use Rattle.index_blocks.specs.Levels.{HasRoot}
 use Rattle.indexed_file.specs.Chain.{HasKeys}
 use Rattle.indexed_tree.specs.Maps.{all_slots, need_in, TakesKey}

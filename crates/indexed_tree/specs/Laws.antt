@@ -2,13 +2,13 @@
 use Rattle.std.specs.Prelude.{◌≡◌, ◌≤◌, ◌<◌, ◌*◌, ℕ, List, [], ◌∷◌, ◌++◌, map}
 use Rattle.file_base.specs.declared.head.FileHead.{FileHead}
 use Rattle.bucket_page.specs.Pages.{no_next, Holds}
-use Rattle.change_set.specs.Files.{AgreesOn}
-use Rattle.records_model.specs.Slots.{Slot, slot_at, IsFor}
-use Rattle.tree_model.specs.Layouts.{first_layout, slots_along, used_of, levels_of}
-use Rattle.tree_model.specs.Laws.{first_lowest}
-use Rattle.index_model.specs.Indexes.{Entry}
-use Rattle.index_model.specs.Trees.{leaf_at, IsNumbered}
-use Rattle.index_bucket.specs.Entries.{sizes_of}
+use Rattle.indexed_file.specs.change_set.Files.{AgreesOn}
+use Rattle.indexed_file.specs.records_model.Slots.{Slot, slot_at, IsFor}
+use Rattle.indexed_file.specs.tree_model.Layouts.{first_layout, slots_along, used_of, levels_of}
+use Rattle.indexed_file.specs.tree_model.Laws.{first_lowest}
+use Rattle.index_blocks.specs.index_model.Indexes.{Entry}
+use Rattle.index_blocks.specs.index_model.Trees.{leaf_at, IsNumbered}
+use Rattle.index_blocks.specs.index_bucket.Entries.{sizes_of}
 use Rattle.index_blocks.specs.Buckets.{bucket_at}
 use Rattle.index_blocks.specs.Levels.{least_key, height, leaf_entries, IsWay, way, leaf_for}
 use Rattle.indexed_file.specs.Chain.{kind_of, slots_in, IsLeaf}

@@ -1,8 +1,8 @@
 -- What a file under an index means: what each key has, and when a key may be set.
 use Rattle.std.specs.Prelude.{◌≡◌, ◌≤◌, ◌+◌, ◌==◌, ◌⊎◌, ℕ, Bool, true, List, Option, Some, None, if◌then◌else◌}
 use Rattle.file_base.specs.declared.head.FileHead.{FileHead}
-use Rattle.records_model.specs.Slots.{Slot, same_bytes, lookup, size_of, room_of}
-use Rattle.tree_model.specs.Layouts.{slots_along}
+use Rattle.indexed_file.specs.records_model.Slots.{Slot, same_bytes, lookup, size_of, room_of}
+use Rattle.indexed_file.specs.tree_model.Layouts.{slots_along}
 use Rattle.index_blocks.specs.Levels.{least_key, leaf_for}
 use Rattle.indexed_tree.specs.Rooted.{layout_in}
 use Rattle.indexed_tree.specs.Sets.{HasSet}

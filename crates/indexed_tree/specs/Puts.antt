@@ -1,8 +1,8 @@
 -- Leaves that are staged.
 use Rattle.std.specs.Prelude.{◌≡◌, ◌≤◌, ◌<◌, ◌+◌, ◌*◌, ℕ, Bool, true, List, length, take, Option, IfSome, IsSomeAnd}
 use Rattle.file_base.specs.declared.head.FileHead.{FileHead}
-use Rattle.records_model.specs.Slots.{size_of, room_of}
-use Rattle.index_bucket.specs.Entries.{sizes_of}
+use Rattle.indexed_file.specs.records_model.Slots.{size_of, room_of}
+use Rattle.index_blocks.specs.index_bucket.Entries.{sizes_of}
 use Rattle.index_blocks.specs.Buckets.{bucket_at}
 use Rattle.index_blocks.specs.Laws.{IsNoted}
 use Rattle.index_blocks.specs.Levels.{leaf_for}

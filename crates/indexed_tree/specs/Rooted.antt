@@ -2,11 +2,11 @@
 use Rattle.std.specs.Prelude.{◌≡◌, ◌+◌, ℕ, List, ◌++◌, length, map}
 use Rattle.file_base.specs.declared.head.FileHead.{FileHead}
 use Rattle.bucket_page.specs.Pages.{no_next}
-use Rattle.tree_model.specs.Layouts.{Layout}
-use Rattle.tree_model.specs.Trees.{IsTree}
-use Rattle.index_model.specs.Indexes.{numbers_of, AllDiffer}
-use Rattle.index_model.specs.Trees.{Tree, child_of, layout_of}
-use Rattle.index_bucket.specs.Entries.{sizes_of}
+use Rattle.indexed_file.specs.tree_model.Layouts.{Layout}
+use Rattle.indexed_file.specs.tree_model.Trees.{IsTree}
+use Rattle.index_blocks.specs.index_model.Indexes.{numbers_of, AllDiffer}
+use Rattle.index_blocks.specs.index_model.Trees.{Tree, child_of, layout_of}
+use Rattle.index_blocks.specs.index_bucket.Entries.{sizes_of}
 use Rattle.index_blocks.specs.Buckets.{bucket_at}
 use Rattle.index_blocks.specs.Levels.{entries_in, leaf_entries, levels_of, AllAre, LeadsDown}
 use Rattle.indexed_file.specs.Chain.{slots_in, IsLeaf, Leads}

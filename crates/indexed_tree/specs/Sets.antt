@@ -3,12 +3,12 @@ use Rattle.std.specs.Prelude.{◌≡◌, ◌≤◌, ◌<◌, ◌+◌, ◌-◌, �
 use Rattle.block_disk.specs.Sizes.{content_start}
 use Rattle.file_base.specs.declared.head.FileHead.{FileHead}
 use Rattle.bucket_page.specs.Pages.{no_next, slots_of, IsBucket}
-use Rattle.records_model.specs.Slots.{size_of}
-use Rattle.records_model.specs.Chain.{bucket_with}
-use Rattle.tree_model.specs.Setting.{first_key, layout_with}
-use Rattle.index_model.specs.Indexes.{Entry}
-use Rattle.index_model.specs.Trees.{entries_from, later_parts}
-use Rattle.index_bucket.specs.Entries.{sizes_of}
+use Rattle.indexed_file.specs.records_model.Slots.{size_of}
+use Rattle.indexed_file.specs.records_model.Chain.{bucket_with}
+use Rattle.indexed_file.specs.tree_model.Setting.{first_key, layout_with}
+use Rattle.index_blocks.specs.index_model.Indexes.{Entry}
+use Rattle.index_blocks.specs.index_model.Trees.{entries_from, later_parts}
+use Rattle.index_blocks.specs.index_bucket.Entries.{sizes_of}
 use Rattle.index_blocks.specs.Buckets.{bucket_at}
 use Rattle.index_blocks.specs.Levels.{leaf_entries, levels_of, HasRoot, leaf_for}
 use Rattle.index_blocks.specs.Climbs.{MayClimb, Climbs}

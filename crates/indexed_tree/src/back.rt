@@ -1,8 +1,8 @@
 //! A leaf in which a key was set back in place.
 ghost use Rattle.std.specs.Prelude.{◌≡◌, ◌≤◌, ◌<◌, ◌+◌, ◌*◌, ℕ, List, length, take, option_map, IfSome, IsSomeAnd};
 ghost use Rattle.frame_pool.specs.Pool.{IsOut};
-ghost use Rattle.change_set.specs.Buckets.{frame_of, with_frame};
-ghost use Rattle.change_set.specs.Files.{IsPlaced, StagesIn};
+ghost use Rattle.indexed_file.specs.change_set.Buckets.{frame_of, with_frame};
+ghost use Rattle.indexed_file.specs.change_set.Files.{IsPlaced, StagesIn};
 ghost use Rattle.index_blocks.specs.Levels.{HasRoot};
 ghost use Rattle.indexed_tree.specs.Puts.{PutsBack};
 

@@ -1,14 +1,14 @@
 //! An indexed file under an index as a map from keys to records.
 ghost use Rattle.std.specs.Prelude.{◌≡◌, ◌≤◌, ◌<◌, ◌+◌, ◌*◌, ℕ, List, true, false, Some, None, OnOk, OnErr, IfOk, IfSome, length, option_map};
 ghost use Rattle.std.specs.Option.{option_copied};
-ghost use Rattle.vms_model.specs.Keys.{Text};
+ghost use Rattle.vms_base.specs.vms_model.Keys.{Text};
 ghost use Rattle.vms_base.specs.Keys.{key_of};
 ghost use Rattle.careful_write.specs.Down.{Counts};
 ghost use Rattle.careful_write.specs.Reads.{SameButReads};
 ghost use Rattle.careful_write.specs.State.{IsIdle};
 ghost use Rattle.careful_write.specs.Sizes.{staged_limit};
-ghost use Rattle.change_set.specs.Files.{IsPlaced, free_frames, fell, unstaged, StagesIn, SameFile, in_extent, AgreesOut, LeavesOut};
-ghost use Rattle.change_set.specs.Maps.{IsNext, EndsAfter, empty_map};
+ghost use Rattle.indexed_file.specs.change_set.Files.{IsPlaced, free_frames, fell, unstaged, StagesIn, SameFile, in_extent, AgreesOut, LeavesOut};
+ghost use Rattle.indexed_file.specs.change_set.Maps.{IsNext, EndsAfter, empty_map};
 ghost use Rattle.indexed_file.specs.Chain.{StandsAt, Suits};
 ghost use Rattle.indexed_tree.specs.Files.{IsTreeHead, IsNewHead, map_of, first_layout_of, KeySet, KeyBack};
 ghost use Rattle.indexed_tree.specs.Maps.{need_in};
@@ -20,9 +20,8 @@ use crate::restore::restore_key;
 use crate::set::set_key;
 use block_disk::Disk;
 use careful_write::{Down, Store};
-use change_set::Held;
 use file_base::FileHead;
-use indexed_file::make_file;
+use indexed_file::{Held, make_file};
 use vms_base::{Key, KeyText, Record};
 
 /// Indexed files whose records are found by an index of buckets over their leaves. After `Down` nothing is staged.

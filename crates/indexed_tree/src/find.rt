@@ -3,8 +3,8 @@ ghost use Rattle.std.specs.Prelude.{◌≡◌, ◌≤◌, ◌<◌, ◌+◌, ◌-
 ghost use Rattle.careful_write.specs.Down.{answered};
 ghost use Rattle.careful_write.specs.Reads.{SameButReads};
 ghost use Rattle.frame_pool.specs.Pool.{IsOut};
-ghost use Rattle.change_set.specs.Buckets.{frame_of, with_frame};
-ghost use Rattle.change_set.specs.Files.{IsPlaced};
+ghost use Rattle.indexed_file.specs.change_set.Buckets.{frame_of, with_frame};
+ghost use Rattle.indexed_file.specs.change_set.Files.{IsPlaced};
 ghost use Rattle.index_blocks.specs.Laws.{IsNoted};
 ghost use Rattle.index_blocks.specs.Levels.{height, leaf_for, HasRoot};
 ghost use Rattle.indexed_tree.specs.Rooted.{IsRooted};

@@ -1,18 +1,18 @@
 //! The entries that lead to new leaves.
 ghost use Rattle.std.specs.Prelude.{◌≡◌, ◌≤◌, ◌<◌, ◌+◌, ◌-◌, ◌*◌, ℕ, List, true, false, length, take, drop};
 ghost use Rattle.block_disk.specs.Sizes.{greatest_disk_size};
-ghost use Rattle.vms_model.specs.Limits.{key_limit};
+ghost use Rattle.vms_base.specs.vms_model.Limits.{key_limit};
 ghost use Rattle.bucket_page.specs.Pages.{slots_of, IsPacked};
-ghost use Rattle.index_bucket.specs.Entries.{entry_of};
-ghost use Rattle.index_bucket.specs.Takes.{entries_of};
-ghost use Rattle.tree_model.specs.Setting.{first_key};
+ghost use Rattle.index_blocks.specs.index_bucket.Entries.{entry_of};
+ghost use Rattle.index_blocks.specs.index_bucket.Takes.{entries_of};
+ghost use Rattle.indexed_file.specs.tree_model.Setting.{first_key};
 ghost use Rattle.indexed_file.specs.Chain.{kind_of};
 ghost use Rattle.indexed_file.specs.Raws.{slots_at};
 ghost use Rattle.indexed_tree.specs.Sets.{entry_to, entries_to, HasSlots, NewHaveSlots};
 
 use bucket_page::{Page, PageKind};
 use file_base::FileHead;
-use index_bucket::{ENTRY_BYTES, Handed, entry_bytes};
+use index_blocks::{ENTRY_BYTES, Handed, entry_bytes};
 
 // The kind of leaves.
 fn kind(head: &FileHead) -> PageKind

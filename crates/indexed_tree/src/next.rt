@@ -4,8 +4,8 @@ ghost use Rattle.std.specs.Option.{option_copied};
 ghost use Rattle.careful_write.specs.Down.{answered};
 ghost use Rattle.careful_write.specs.Reads.{SameButReads};
 ghost use Rattle.frame_pool.specs.Pool.{IsOut};
-ghost use Rattle.change_set.specs.Buckets.{frame_of, with_frame};
-ghost use Rattle.change_set.specs.Files.{IsPlaced, free_frames};
+ghost use Rattle.indexed_file.specs.change_set.Buckets.{frame_of, with_frame};
+ghost use Rattle.indexed_file.specs.change_set.Files.{IsPlaced, free_frames};
 ghost use Rattle.index_blocks.specs.Buckets.{bucket_at};
 ghost use Rattle.index_blocks.specs.Levels.{HasRoot};
 ghost use Rattle.indexed_file.specs.Behind.{first_behind, IsFound};
@@ -17,11 +17,10 @@ use crate::find::find_leaf;
 use block_disk::Disk;
 use bucket_page::Page;
 use careful_write::{Down, Store};
-use change_set::{give_frame, take_frame};
 use file_base::FileHead;
 use frame_pool::Frame;
 use index_blocks::{MAX_HEIGHT, load_index};
-use indexed_file::next_in_leaf;
+use indexed_file::{give_frame, next_in_leaf, take_frame};
 use vms_base::{KeyText, Record};
 
 // Reads leaf n: its first key behind another that has a record, and which leaf is next.

@@ -4,9 +4,9 @@ ghost use Rattle.careful_write.specs.Down.{answered};
 ghost use Rattle.careful_write.specs.Reads.{SameButReads};
 ghost use Rattle.frame_pool.specs.Pool.{IsOut};
 ghost use Rattle.bucket_page.specs.Pages.{slots_of, IsBucket};
-ghost use Rattle.change_set.specs.Buckets.{frame_of, with_frame};
-ghost use Rattle.change_set.specs.Files.{IsPlaced, free_frames};
-ghost use Rattle.records_model.specs.Slots.{lookup, slot_at, IsOrdered};
+ghost use Rattle.indexed_file.specs.change_set.Buckets.{frame_of, with_frame};
+ghost use Rattle.indexed_file.specs.change_set.Files.{IsPlaced, free_frames};
+ghost use Rattle.indexed_file.specs.records_model.Slots.{lookup, slot_at, IsOrdered};
 ghost use Rattle.index_blocks.specs.Buckets.{bucket_at};
 ghost use Rattle.index_blocks.specs.Levels.{HasRoot};
 ghost use Rattle.indexed_file.specs.Chain.{kind_of, slots_in, IsLeaf, Stands};
@@ -18,11 +18,10 @@ ghost use Rattle.indexed_tree.specs.Rooted.{IsRooted};
 use crate::find::find_leaf;
 use block_disk::Disk;
 use careful_write::{Down, Store};
-use change_set::{give_frame, take_frame};
 use file_base::FileHead;
 use frame_pool::Frame;
 use index_blocks::{MAX_HEIGHT, load_index};
-use indexed_file::read_slot;
+use indexed_file::{give_frame, read_slot, take_frame};
 use vms_base::Record;
 
 // The record of a key in leaf n: true where it has one there.

@@ -4,9 +4,9 @@ ghost use Rattle.std.specs.Option.{option_copied};
 ghost use Rattle.careful_write.specs.Down.{answered};
 ghost use Rattle.careful_write.specs.Reads.{SameButReads};
 ghost use Rattle.frame_pool.specs.Pool.{IsOut};
-ghost use Rattle.change_set.specs.Buckets.{frame_of, with_frame};
-ghost use Rattle.change_set.specs.Files.{IsPlaced, StagesIn, free_frames};
-ghost use Rattle.records_model.specs.Slots.{size_of, room_of};
+ghost use Rattle.indexed_file.specs.change_set.Buckets.{frame_of, with_frame};
+ghost use Rattle.indexed_file.specs.change_set.Files.{IsPlaced, StagesIn, free_frames};
+ghost use Rattle.indexed_file.specs.records_model.Slots.{size_of, room_of};
 ghost use Rattle.index_blocks.specs.Levels.{HasRoot};
 ghost use Rattle.indexed_file.specs.Chain.{HasKeys, SuitsText};
 ghost use Rattle.indexed_tree.specs.Backs.{HasSetBack};
@@ -19,11 +19,10 @@ use crate::find::find_leaf;
 use crate::set::read_frame;
 use block_disk::Disk;
 use careful_write::{Down, Store};
-use change_set::{give_frame, take_frame};
 use file_base::FileHead;
 use frame_pool::{FRAME_BYTES, Frame};
 use index_blocks::{MAX_HEIGHT, load_index};
-use indexed_file::restore_in_leaf;
+use indexed_file::{give_frame, restore_in_leaf, take_frame};
 use vms_base::Record;
 
 // Sets a key back in leaf n, whose bytes a frame has, and stages that one. Where the key has no room there, nothing is done.

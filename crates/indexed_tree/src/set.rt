@@ -1,14 +1,14 @@
 //! A key that is set.
 ghost use Rattle.std.specs.Prelude.{◌≡◌, ◌≤◌, ◌<◌, ◌+◌, ◌-◌, ◌*◌, ℕ, List, true, false, length, take, OnOk, OnErr, IfSome, IsSomeAnd, slice_index_or};
 ghost use Rattle.std.specs.Option.{option_copied};
-ghost use Rattle.vms_model.specs.Keys.{Text};
+ghost use Rattle.vms_base.specs.vms_model.Keys.{Text};
 ghost use Rattle.careful_write.specs.Down.{answered};
 ghost use Rattle.careful_write.specs.Reads.{SameButReads};
 ghost use Rattle.frame_pool.specs.Pool.{IsOut};
 ghost use Rattle.careful_write.specs.Sizes.{staged_limit};
 ghost use Rattle.bucket_page.specs.Pages.{slots_of, IsBucket};
-ghost use Rattle.change_set.specs.Buckets.{frame_of, with_frame};
-ghost use Rattle.change_set.specs.Files.{IsPlaced, StagesIn, free_frames};
+ghost use Rattle.indexed_file.specs.change_set.Buckets.{frame_of, with_frame};
+ghost use Rattle.indexed_file.specs.change_set.Files.{IsPlaced, StagesIn, free_frames};
 ghost use Rattle.index_blocks.specs.Laws.{IsNoted};
 ghost use Rattle.index_blocks.specs.Levels.{height, HasRoot};
 ghost use Rattle.indexed_file.specs.Chain.{HasKeys, SuitsText};
@@ -20,11 +20,10 @@ use crate::find::find_leaf;
 use crate::put::{may_part, put_leaf};
 use block_disk::Disk;
 use careful_write::{Down, Store};
-use change_set::{Held, give_frame, take_frame};
 use file_base::FileHead;
 use frame_pool::{FRAME_BYTES, Frame};
 use index_blocks::{MAX_HEIGHT, Path, load_index};
-use indexed_file::set_in_leaf;
+use indexed_file::{Held, give_frame, set_in_leaf, take_frame};
 use vms_base::Record;
 
 /// Reads a frame.

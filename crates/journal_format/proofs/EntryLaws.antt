@@ -6,7 +6,7 @@ use Rattle.std.proofs.lemmas.Bool.{eqb-true, eq-eqb, cases_lt}
 use Rattle.std.proofs.lemmas.Bool.Decides.{nat_tests}
 use Rattle.std.proofs.lemmas.List.{get_or-take, get_or-drop, get_or_past, length-take-le, length-take, length-drop, length-append, drop-drop, take_at, drop_at, ext_get_or, get_or-replicate}
 use Rattle.std.proofs.lemmas.Nat.{le_bytes_8, from_le_bytes-to_le_bytes_8}
-use Rattle.vms_model.specs.Ids.{id_bytes}
+use Rattle.vms_base.specs.vms_model.Ids.{id_bytes}
 use Rattle.journal_format.specs.IdForms.{IsIdForm, id_said}
 use Rattle.journal_model.specs.Entries.{Entry, IsEntry, has_image, is_image, is_moment, total, tail_of, spelling}
 use Rattle.journal_format.specs.Fronts.{next_ok, Begun, size_of, read_entry}

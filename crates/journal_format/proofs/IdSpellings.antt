@@ -5,8 +5,8 @@ use Rattle.std.proofs.lemmas.Bool.{eqb-true, cases_lt}
 use Rattle.std.proofs.lemmas.Bool.Decides.{nat_tests}
 use Rattle.std.proofs.lemmas.List.{get_or_append_left, get_or-append_right, get_or-replicate, get_or_past, get_or-take, get_or-drop, length-append, length-replicate, length-take, length-take-le, length-drop, drop-drop}
 use Rattle.std.proofs.lemmas.Nat.{le_bytes_4, from_le_bytes-to_le_bytes_4}
-use Rattle.vms_model.specs.Names.{node_named}
-use Rattle.vms_model.specs.Ids.{Id, IsId, padded, id_bytes}
+use Rattle.vms_base.specs.vms_model.Names.{node_named}
+use Rattle.vms_base.specs.vms_model.Ids.{Id, IsId, padded, id_bytes}
 use Rattle.vms_base.specs.Ids.{until_zero}
 use Rattle.vms_base.proofs.IdLemmas.{node_read, rest_read}
 use Rattle.journal_format.specs.IdForms.{is_letter, is_letter_or_digit, id_byte, IsIdForm, id_said}

@@ -5,7 +5,7 @@ use Rattle.std.specs.List.{list_all}
 use Rattle.std.specs.Char.{to_ascii_uppercase, is_ascii_alphabetic}
 use Rattle.std.proofs.lemmas.Bool.{false≢true}
 use Rattle.std.proofs.lemmas.Bool.Decides.{nat_tests}
-use Rattle.vms_model.specs.Names.{in_name, is_name, node_named, upper}
+use Rattle.vms_base.specs.vms_model.Names.{in_name, is_name, node_named, upper}
 use Rattle.vms_base.specs.Ids.{until_zero}
 use Rattle.vms_base.proofs.NameLemmas.{both, chosen}
 use Rattle.journal_format.specs.IdForms.{is_letter, is_letter_or_digit}

@@ -1,7 +1,7 @@
 -- The bytes of an id, one by one: a node's name with zeros up to 8 bytes, then 8 bytes of numbers.
 use Rattle.std.specs.Prelude.{◌≡◌, ℕ, ◌<◌, ◌-◌, ◌==◌, ◌||◌, ◌&&◌, Bool, true, List, length, slice_index, not, nat_lt, nat_le, take, drop, if◌then◌else◌}
 use Rattle.std.specs.Int.{w32, from_le_bytes}
-use Rattle.vms_model.specs.Ids.{Id}
+use Rattle.vms_base.specs.vms_model.Ids.{Id}
 use Rattle.vms_base.specs.Ids.{until_zero}
 
 -- a capital letter

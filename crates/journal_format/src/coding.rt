@@ -2,8 +2,8 @@
 ghost use Rattle.std.specs.Prelude.{◌≡◌, ◌==◌, ◌&&◌, ◌≤◌, ◌<◌, ◌+◌, ◌*◌, ◌++◌, ℕ, List, [], ◌∷◌, IfOk, IfErr, length, take, drop, unwrap_or, option_copied, vec_len, vec_capacity, slice_index};
 ghost use Rattle.std.specs.Int.{to_le_bytes, w16, w64};
 ghost use Rattle.byteorder.specs.Endian.{little_bytes, little_number};
-ghost use Rattle.vms_model.specs.Ids.{IsId, id_bytes};
-ghost use Rattle.vms_model.specs.Limits.{key_limit, record_limit};
+ghost use Rattle.vms_base.specs.vms_model.Ids.{IsId, id_bytes};
+ghost use Rattle.vms_base.specs.vms_model.Limits.{key_limit, record_limit};
 ghost use Rattle.vms_base.specs.Ids.{id_of};
 ghost use Rattle.journal_model.specs.Entries.{Entry, IsEntry, spelling, total};
 ghost use Rattle.journal_format.specs.IdForms.{IsIdForm, id_said};

@@ -1,8 +1,8 @@
 -- The entries of a journal, and the one spelling of each.
 use Rattle.std.specs.Prelude.{◌≡◌, ℕ, ◌+◌, ◌^◌, ◌<◌, ◌==◌, ◌&&◌, Bool, true, List, ◌∷◌, ◌++◌, length, nat_le, if◌then◌else◌}
 use Rattle.std.specs.Int.{w16, w64, to_le_bytes}
-use Rattle.vms_model.specs.Ids.{Id, IsId, id_bytes}
-use Rattle.vms_model.specs.Limits.{key_limit, record_limit}
+use Rattle.file_base.specs.vms_model.Ids.{Id, IsId, id_bytes}
+use Rattle.file_base.specs.vms_model.Limits.{key_limit, record_limit}
 
 -- An entry says that a branch changed a record, that it is prepared, or that it is settled.
 pub record Entry : Type 0 where

@@ -3,8 +3,8 @@ use Rattle.std.specs.List.{flat_map, AllByRecursion}
 use Rattle.std.proofs.lemmas.List.{take_at, drop_at, length-append}
 use Rattle.std.proofs.lemmas.List.Concat.{flat_map-cons}
 use Rattle.std.proofs.Common.{zero, suc, take, drop, [], ◌∷◌, refl, append_assoc, ◌≡◌, ℕ, ◌+◌, ◌-◌, List, ◌++◌, length, sym, ◌∙◌, ap, arith}
-use Rattle.journal_model.specs.Entries.{Entry, IsEntry, spelling}
-use Rattle.journal_model.specs.Ring.{byte_at, stream, StandsAt, IsJournal, BeginsAt}
+use Rattle.journal_format.specs.journal_model.Entries.{Entry, IsEntry, spelling}
+use Rattle.journal_format.specs.journal_model.Ring.{byte_at, stream, StandsAt, IsJournal, BeginsAt}
 use Rattle.file_base.specs.declared.head.Span.{Span}
 use Rattle.journal_store.proofs.Journals.{stream-add}
 

@@ -6,9 +6,9 @@ use Rattle.std.proofs.lemmas.Nat.{mod_below}
 use Rattle.std.proofs.lemmas.Bool.{cases_lt, cases_eq}
 use Rattle.std.proofs.lemmas.List.{get_or-set_same, get_or-set_other, set_past, append-nil, length-set}
 use Rattle.std.proofs.lemmas.List.Concat.{flat_map-cons}
-use Rattle.block_disk.specs.Blocks.{block_at}
-use Rattle.journal_model.specs.Entries.{Entry, IsEntry, spelling}
-use Rattle.journal_model.specs.Ring.{ring_size, block_of, place_of, byte_at, stream, put_byte, put_stream, HasRing, IsJournal, KeepsOthers}
+use Rattle.careful_write.specs.block_disk.Blocks.{block_at}
+use Rattle.journal_format.specs.journal_model.Entries.{Entry, IsEntry, spelling}
+use Rattle.journal_format.specs.journal_model.Ring.{ring_size, block_of, place_of, byte_at, stream, put_byte, put_stream, HasRing, IsJournal, KeepsOthers}
 use Rattle.file_base.specs.declared.head.Span.{Span}
 
 -- two positions that are less than a ring apart lie at two places

@@ -3,9 +3,9 @@ use Rattle.std.proofs.Common.{◌≡◌, ℕ, zero, suc, ◌<◌, ◌≤◌, ◌
 use Rattle.std.proofs.lemmas.Bool.{cases_lt}
 use Rattle.std.proofs.lemmas.List.{get_or-take, length-take-le, length-take, take_at, append-nil}
 use Rattle.file_base.specs.declared.head.Span.{Span}
-use Rattle.block_disk.specs.Blocks.{block_at}
-use Rattle.journal_model.specs.Entries.{Entry, IsEntry, spelling, total}
-use Rattle.journal_model.specs.Ring.{ring_size, block_of, place_of, byte_at, stream, StandsAt}
+use Rattle.careful_write.specs.block_disk.Blocks.{block_at}
+use Rattle.journal_format.specs.journal_model.Entries.{Entry, IsEntry, spelling, total}
+use Rattle.journal_format.specs.journal_model.Ring.{ring_size, block_of, place_of, byte_at, stream, StandsAt}
 use Rattle.journal_format.proofs.Decoding.{entry_size, total_is}
 use Rattle.journal_format.specs.Heads.{entry_of, IsPlain}
 use Rattle.journal_format.specs.declared.head.EntryHead.{EntryHead}

@@ -4,8 +4,8 @@ use Rattle.std.proofs.Math.Seq.{set-set}
 use Rattle.std.proofs.Math.Nat.{mod-add-mod, mod-eq_of_lt, mod_self}
 use Rattle.std.proofs.lemmas.Bool.{cases_lt}
 use Rattle.std.proofs.lemmas.List.{set-get_or, get_or-set_same, set_past, take-append-drop, drop-drop, length-take-le, length-drop}
-use Rattle.block_disk.specs.Blocks.{block_at}
-use Rattle.journal_model.specs.Ring.{ring_size, block_of, place_of, put_bytes, put_byte, put_stream}
+use Rattle.careful_write.specs.block_disk.Blocks.{block_at}
+use Rattle.journal_format.specs.journal_model.Ring.{ring_size, block_of, place_of, put_bytes, put_byte, put_stream}
 use Rattle.file_base.specs.declared.head.Span.{Span}
 
 pub put_stream-append : (xs ys : List ℕ) (c : List (List ℕ)) (s : Span) (p : ℕ) → put_stream c s p (xs ++ ys) ≡ put_stream (put_stream c s p xs) s (p + length xs) ys

@@ -1,8 +1,8 @@
 -- What is read where an entry may stand.
 use Rattle.std.specs.Prelude.{◌≡◌, ℕ, ◌+◌, ◌*◌, ◌<◌, List, length, slice_index, min, max, Option, Some, None}
 use Rattle.file_base.specs.declared.head.Span.{Span}
-use Rattle.journal_model.specs.Entries.{Entry, IsEntry, spelling}
-use Rattle.journal_model.specs.Ring.{StandsAt, byte_at}
+use Rattle.journal_format.specs.journal_model.Entries.{Entry, IsEntry, spelling}
+use Rattle.journal_format.specs.journal_model.Ring.{StandsAt, byte_at}
 use Rattle.journal_format.specs.Heads.{entry_of, IsPlain}
 use Rattle.journal_format.specs.declared.head.EntryHead.{EntryHead}
 

@@ -1,9 +1,9 @@
 -- Where a journal's ring lies.
 use Rattle.std.specs.Prelude.{◌+◌, ◌-◌, ◌<◌, ◌≤◌, ◌^◌}
-use Rattle.block_disk.specs.Disk.{DiskState}
-use Rattle.block_disk.specs.Sizes.{content_start, greatest_disk_size}
+use Rattle.careful_write.specs.block_disk.Disk.{DiskState}
+use Rattle.careful_write.specs.block_disk.Sizes.{content_start, greatest_disk_size}
 use Rattle.file_base.specs.declared.head.Span.{Span}
-use Rattle.journal_model.specs.Ring.{ring_size}
+use Rattle.journal_format.specs.journal_model.Ring.{ring_size}
 
 -- the ring lies in the content of a disk, its entries fit it, and its positions are low
 pub record IsRing (s : Span) (disk : DiskState) : Type 0 where

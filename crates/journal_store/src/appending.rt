@@ -1,16 +1,15 @@
 // Entries at the end of a journal.
 ghost use Rattle.std.specs.Prelude.{◌≡◌, ◌≤◌, ◌<◌, ◌+◌, ◌-◌, ◌*◌, ◌/◌, ◌%◌, ◌^◌, ◌↔◌, ℕ, OnOk, OnErr, IfErr, IfSome, Ok, Err, length, option_map, min, slice_set, take, drop};
-ghost use Rattle.block_disk.specs.Blocks.{block_at, with_number};
-ghost use Rattle.block_disk.specs.Sizes.{content_start};
+ghost use Rattle.careful_write.specs.block_disk.Blocks.{block_at, with_number};
+ghost use Rattle.careful_write.specs.block_disk.Sizes.{content_start};
 ghost use Rattle.careful_write.specs.Down.{answered};
 ghost use Rattle.careful_write.specs.State.{InHome, StoreState};
 ghost use Rattle.careful_write.specs.Sizes.{group_limit};
-ghost use Rattle.journal_model.specs.Ring.{ring_size, block_of, place_of, put_bytes, put_stream};
+ghost use Rattle.journal_format.specs.journal_model.Ring.{ring_size, block_of, place_of, put_bytes, put_stream};
 ghost use Rattle.journal_store.specs.Refusing.{Refuses};
 ghost use Rattle.journal_store.specs.Rings.{IsRing};
 
-use block_disk::Disk;
-use careful_write::{Down, Store};
+use careful_write::{Disk, Down, Store};
 use file_base::Span;
 use journal_format::EntryBuf;
 use thiserror::Error;

@@ -1,22 +1,20 @@
 // Entries where they stand.
 ghost use Rattle.std.specs.Prelude.{◌≡◌, ◌≤◌, ◌<◌, ◌+◌, ◌-◌, ◌*◌, ◌^◌, ℕ, List, OnOk, IfOk, IfErr, IfSome, Some, length, slice_index};
 ghost use Rattle.byteorder.specs.Endian.{little_bytes, little_number};
-ghost use Rattle.block_disk.specs.Blocks.{block_at};
-ghost use Rattle.block_disk.specs.Sizes.{content_start};
+ghost use Rattle.careful_write.specs.block_disk.Blocks.{block_at};
+ghost use Rattle.careful_write.specs.block_disk.Sizes.{content_start};
 ghost use Rattle.careful_write.specs.State.{InHome};
 ghost use Rattle.journal_format.specs.Heads.{entry_of};
-ghost use Rattle.journal_model.specs.Entries.{IsEntry};
-ghost use Rattle.journal_model.specs.Ring.{byte_at};
+ghost use Rattle.journal_format.specs.journal_model.Entries.{IsEntry};
+ghost use Rattle.journal_format.specs.journal_model.Ring.{byte_at};
 ghost use Rattle.journal_store.specs.Leaving.{OnlyReads, Fell};
 ghost use Rattle.journal_store.specs.Reading.{Holds, ReadsAt, told_size};
 ghost use Rattle.journal_store.specs.Rings.{IsRing};
 
-use block_disk::Disk;
 use byteorder::{ByteOrder, LittleEndian};
-use careful_write::{Down, Store};
-use file_base::{Span, splice};
+use careful_write::{Disk, Down, Store};
+use file_base::{Record, Span, splice};
 use journal_format::{EntryHead, HEAD, LONGEST_ENTRY, decode};
-use vms_base::Record;
 
 // Reads bytes of one block, from a place on, over those of a buffer.
 fn read_block<D: Disk>(

@@ -2,8 +2,8 @@
 ghost use Rattle.std.specs.Prelude.{◌≡◌, ◌≤◌, ◌<◌, ◌+◌, ◌-◌, ◌++◌, ◌∷◌, [], ℕ, List, length};
 ghost use Rattle.std.specs.List.{flat_map};
 ghost use Rattle.file_base.specs.declared.head.Span.{Span};
-ghost use Rattle.journal_model.specs.Entries.{Entry, IsEntry, spelling};
-ghost use Rattle.journal_model.specs.Ring.{ring_size, put_stream, IsJournal, BeginsAt, KeepsOthers, StandsAt};
+ghost use Rattle.journal_format.specs.journal_model.Entries.{Entry, IsEntry, spelling};
+ghost use Rattle.journal_format.specs.journal_model.Ring.{ring_size, put_stream, IsJournal, BeginsAt, KeepsOthers, StandsAt};
 
 /// An entry's bytes at the end, and the end behind them, are one entry more. No block outside of the ring changes.
 pub fn one_entry_more()

@@ -5,16 +5,16 @@ use Rattle.std.specs.Prelude.{◌⊎◌, slice_index_or}
 use Rattle.block_disk.specs.Blocks.{block_at}
 use Rattle.file_base.specs.declared.head.FileHead.{FileHead}
 use Rattle.file_base.specs.declared.head.Span.{Span}
-use Rattle.journal_model.specs.Entries.{Entry, spelling}
-use Rattle.journal_model.specs.Ring.{put_stream}
+use Rattle.journal_format.specs.journal_model.Entries.{Entry, spelling}
+use Rattle.journal_format.specs.journal_model.Ring.{put_stream}
 use Rattle.volume.specs.Catalogs.{head_at}
 use Rattle.volume_format.specs.Head.{head_block_of}
-use Rattle.unit_journal.proofs.Entered.{OthersStay}
-use Rattle.image_appends.specs.declared.side.Side.{Side}
-use Rattle.image_appends.specs.declared.side.Side.TheVariants.{After, Before}
-use Rattle.image_appends.specs.Images.{content_grown, content_with, content_with_both, entered, files_grown, grown, heads_with, is_kept, span_of}
-use Rattle.image_appends.specs.Settling.{content_from, content_if, heads_if}
-use Rattle.image_appends.proofs.Growing.{below_length, others_if}
+use Rattle.file_settlements.proofs.unit_journal.Entered.{OthersStay}
+use Rattle.file_settlements.specs.image_appends.declared.side.Side.{Side}
+use Rattle.file_settlements.specs.image_appends.declared.side.Side.TheVariants.{After, Before}
+use Rattle.file_settlements.specs.image_appends.Images.{content_grown, content_with, content_with_both, entered, files_grown, grown, heads_with, is_kept, span_of}
+use Rattle.file_settlements.specs.image_appends.Settling.{content_from, content_if, heads_if}
+use Rattle.file_settlements.proofs.image_appends.Growing.{below_length, others_if}
 use Rattle.file_settlements.specs.Settling.{content_settled}
 
 -- a block is none of a ring's

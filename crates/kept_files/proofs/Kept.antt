@@ -4,17 +4,17 @@ use Rattle.std.specs.Prelude.{◌&&◌, ◌||◌, slice_index_or}
 use Rattle.std.proofs.lemmas.Bool.{cases_lt}
 use Rattle.std.proofs.lemmas.List.{get_or_past}
 use Rattle.file_base.specs.declared.head.FileHead.{FileHead}
-use Rattle.journal_model.specs.Entries.{Entry, spelling}
+use Rattle.journal_format.specs.journal_model.Entries.{Entry, spelling}
 use Rattle.unit_table.specs.Units.{OpenUnit}
 use Rattle.vms_base.specs.declared.ids.Serial.{Serial}
 use Rattle.vms_base.specs.declared.ids.Tid.{Tid}
 use Rattle.volume.specs.Catalogs.{head_at}
 use Rattle.volume.specs.State.{VolumeState}
 use Rattle.volume_format.specs.declared.home.Ending.{Ending}
-use Rattle.image_appends.specs.declared.side.Side.TheVariants.{After, Before}
-use Rattle.image_appends.specs.Images.{is_kept}
-use Rattle.image_appends.specs.Settling.{content_from, content_if, files_in, heads_from, heads_if, one_if}
-use Rattle.image_appends.proofs.Growing.{others_if}
+use Rattle.file_settlements.specs.image_appends.declared.side.Side.TheVariants.{After, Before}
+use Rattle.file_settlements.specs.image_appends.Images.{is_kept}
+use Rattle.file_settlements.specs.image_appends.Settling.{content_from, content_if, files_in, heads_from, heads_if, one_if}
+use Rattle.file_settlements.proofs.image_appends.Growing.{others_if}
 use Rattle.file_settlements.specs.Settling.{EntersSettled, KeepsNone, SettlesFiles, content_settled, heads_settled}
 use Rattle.file_settlements.proofs.Plain.{content_one, heads_one}
 use Rattle.kept_files.specs.Keeping.{TellsKeeping, keeping, keeps_some, kept_from, kept_in}

@@ -3,9 +3,9 @@ use Rattle.std.specs.Prelude.{◌≡◌, ◌≤◌, ◌<◌, ◌+◌, ◌&&◌, 
 use Rattle.vms_model.specs.Limits.{file_limit}
 use Rattle.file_base.specs.declared.head.FileHead.{FileHead}
 use Rattle.volume.specs.Catalogs.{head_at}
-use Rattle.image_appends.specs.declared.side.Side.TheVariants.{After, Before}
-use Rattle.image_appends.specs.Images.{is_kept}
-use Rattle.image_appends.specs.Settling.{one_if}
+use Rattle.file_settlements.specs.image_appends.declared.side.Side.TheVariants.{After, Before}
+use Rattle.file_settlements.specs.image_appends.Images.{is_kept}
+use Rattle.file_settlements.specs.image_appends.Settling.{one_if}
 
 -- whether a file keeps a journal of images
 abbrev pub keeps_some : Option FileHead → Bool

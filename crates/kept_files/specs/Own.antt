@@ -1,11 +1,11 @@
 -- A change that is a transaction of its own, of one file.
 use Rattle.std.specs.Prelude.{ℕ, List, Bool, true, Option, slice_set}
-use Rattle.journal_model.specs.Entries.{Entry}
+use Rattle.journal_format.specs.journal_model.Entries.{Entry}
 use Rattle.vms_base.specs.Ids.{serial_of, tid_of}
 use Rattle.vms_base.specs.declared.ids.Tid.{Tid}
 use Rattle.vms_model.specs.Keys.{Key}
 use Rattle.vms_model.specs.Transactions.{Commit}
-use Rattle.unit_journal.specs.Entries.{change_entry, settled_entry}
+use Rattle.file_settlements.specs.unit_journal.Entries.{change_entry, settled_entry}
 use Rattle.unit_table.specs.Units.{no_files}
 
 -- one file alone

@@ -2,7 +2,7 @@
 ghost use Rattle.std.specs.Prelude.{◌≡◌, ◌≤◌, length};
 ghost use Rattle.std.specs.Option.{option_copied};
 ghost use Rattle.vms_model.specs.Limits.{file_limit};
-ghost use Rattle.image_appends.specs.Settling.{files_in};
+ghost use Rattle.file_settlements.specs.image_appends.Settling.{files_in};
 ghost use Rattle.kept_files.specs.Keeping.{TellsKeeping, kept_in, keeps_some};
 
 use block_disk::Disk;

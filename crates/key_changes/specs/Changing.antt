@@ -6,7 +6,7 @@ use Rattle.change_set.specs.declared.walk.Place.{Place}
 use Rattle.file_base.specs.declared.head.FileHead.{FileHead}
 use Rattle.file_base.specs.declared.head.Organization.{Organization}
 use Rattle.file_base.specs.declared.head.Organization.TheVariants.{Sequential, Relative, Indexed}
-use Rattle.record_files.specs.Any.{Begins, IsFile, IsLaidOut, asks}
+use Rattle.volume_files.specs.record_files.Any.{Begins, IsFile, IsLaidOut, asks}
 use Rattle.record_locks.specs.Locks.{Lock, holder, not_locked}
 use Rattle.records_model.specs.Records.{key_cmp}
 use Rattle.records_model.specs.History.{same_id}
@@ -19,7 +19,7 @@ use Rattle.key_changes.specs.declared.asked.Asked.{Asked}
 use Rattle.key_changes.specs.declared.asked.KeyChange.{KeyChange}
 use Rattle.key_changes.specs.declared.asked.KeyChange.TheVariants.{Put, Replace, Remove}
 use Rattle.record_operations.specs.Causes.{Cause, RecordExists, KeyExists, RecordNotFound, BadRecordSize, KeyChanged, Locked, Changes, Locks, FileFull, first_cause, cause_if}
-use Rattle.unit_journal.specs.Entries.{key_bytes}
+use Rattle.unit_cuts.specs.unit_journal.Entries.{key_bytes}
 
 -- What a key has.
 

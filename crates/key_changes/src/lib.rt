@@ -10,3 +10,6 @@ pub use changing::{asked_by, read_before, room_in_file};
 pub use locking::{
     HeldIn, MOST_LOCKS, asks_end, free_keys, hold_key, is_same, lock_refusal, locks_refusal,
 };
+pub use unit_cuts::{
+    Cut, CutRoom, commit_cut, cut_records, gone_size, measure, own_branch, settle_own,
+};

@@ -2,12 +2,12 @@
 use Rattle.std.specs.Prelude.{◌⊎◌}
 use Rattle.std.proofs.Common.{◌≡◌, ◌≢◌, ℕ, zero, suc, ◌<◌, Bool, true, false, List, [], ◌∷◌, length, set, Option, Some, None, inl, inr, refl, ap, sym, subst, ◌∙◌, arith}
 use Rattle.std.proofs.lemmas.Bool.{cases_Bool}
-use Rattle.vms_model.specs.Ids.{Id}
-use Rattle.commit_protocol.specs.Messages.{LogRecord, same_id}
-use Rattle.commit_protocol.specs.Table.{record_serials}
-use Rattle.commit_protocol.specs.World.{In}
-use Rattle.commit_protocol.specs.Agreement.{Distinct}
-use Rattle.commit_protocol.proofs.Lists.{told_id}
+use Rattle.vms_base.specs.vms_model.Ids.{Id}
+use Rattle.log_laws.specs.commit_protocol.Messages.{LogRecord, same_id}
+use Rattle.log_laws.specs.commit_protocol.Table.{record_serials}
+use Rattle.log_laws.specs.commit_protocol.World.{In}
+use Rattle.log_laws.specs.commit_protocol.Agreement.{Distinct}
+use Rattle.log_laws.proofs.commit_protocol.Lists.{told_id}
 use Rattle.log_laws.specs.Slots.{Slots, records_in, has_slot}
 use Rattle.lmcp_log.specs.Log.{slot_at, is_of, is_free, IsFirst}
 use Rattle.lmcp_log.proofs.SlotLemmas.{first_here, first_later, none_first, clash}

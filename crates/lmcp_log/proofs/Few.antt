@@ -2,11 +2,11 @@
 use Rattle.std.proofs.Common.{◌≡◌, ℕ, zero, suc, ◌+◌, ◌-◌, ◌<◌, ◌≤◌, ◌==◌, ◌&&◌, Bool, true, false, List, [], ◌∷◌, ◌++◌, Option, Some, None, if◌then◌else◌, length, map, set, get_or, append-nil, append_assoc, length-append, ◌⊎◌, inl, inr, refl, sym, ap, subst, ◌∙◌, arith}
 use Rattle.std.proofs.lemmas.Bool.Decides.{nat_tests}
 use Rattle.vms_base.specs.declared.protocol.LogRec.{LogRec}
-use Rattle.vms_model.specs.Ids.{Id}
-use Rattle.commit_protocol.specs.Messages.{LogRecord}
-use Rattle.commit_protocol.specs.Table.{record_serials}
-use Rattle.commit_protocol.specs.World.{In}
-use Rattle.commit_protocol.specs.Agreement.{Distinct}
+use Rattle.vms_base.specs.vms_model.Ids.{Id}
+use Rattle.log_laws.specs.commit_protocol.Messages.{LogRecord}
+use Rattle.log_laws.specs.commit_protocol.Table.{record_serials}
+use Rattle.log_laws.specs.commit_protocol.World.{In}
+use Rattle.log_laws.specs.commit_protocol.Agreement.{Distinct}
 use Rattle.log_laws.specs.Slots.{Slots, committed_of, is_prepared_record, prepared_of, records_in}
 use Rattle.lmcp_log.specs.Log.{fewer, is_prepared, passed, slot_of, with_few_prepared}
 

@@ -2,9 +2,9 @@
 use Rattle.std.proofs.Common.{◌≡◌, ℕ, zero, ◌+◌, ◌*◌, ◌≤◌, ◌<◌, ◌++◌, List, [], ◌∷◌, length, map, take, get_or, arith, rules, refl, ◌∙◌, ap, sym, subst, replicate, suc, length-append, Some}
 use Rattle.std.specs.List.{concat}
 use Rattle.std.proofs.lemmas.List.{length-replicate, take_more, take-map, get_or-map, length-take-le}
-use Rattle.vms_model.specs.Names.{label_named}
-use Rattle.vms_model.specs.Ids.{Id, IsId, id_bytes, padded}
-use Rattle.commit_protocol.specs.Messages.{Name, LogRecord}
+use Rattle.vms_base.specs.vms_model.Names.{label_named}
+use Rattle.vms_base.specs.vms_model.Ids.{Id, IsId, id_bytes, padded}
+use Rattle.log_laws.specs.commit_protocol.Messages.{Name, LogRecord}
 use Rattle.file_base.specs.Bytes.{piece_at, spliced}
 use Rattle.vms_base.specs.Ids.{serial_of}
 use Rattle.vms_base.specs.declared.ids.Serial.{Serial}

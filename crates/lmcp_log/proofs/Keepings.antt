@@ -3,8 +3,8 @@ use Rattle.std.specs.Prelude.{IfSome, option_map, ◌⊎◌}
 use Rattle.std.proofs.Common.{◌≡◌, ◌≢◌, ℕ, zero, suc, ◌+◌, ◌<◌, ◌≤◌, Bool, true, false, List, [], ◌∷◌, length, take, set, get_or, replicate, Option, Some, None, inl, inr, refl, ap, sym, subst, ◌∙◌, arith}
 use Rattle.std.proofs.lemmas.Bool.{cases_Bool, cases_eq}
 use Rattle.std.proofs.lemmas.List.{length-set, get_or-set_same, get_or-set_other, length-replicate, take_all, take_more_same}
-use Rattle.vms_model.specs.Names.{label_named}
-use Rattle.vms_model.specs.Ids.{Id, IsId, id_bytes}
+use Rattle.vms_base.specs.vms_model.Names.{label_named}
+use Rattle.vms_base.specs.vms_model.Ids.{Id, IsId, id_bytes}
 use Rattle.vms_base.specs.Ids.{until_zero}
 use Rattle.vms_base.proofs.IdLemmas.{id_bytes-injective}
 use Rattle.volume_format.proofs.Names.{until_padded}
@@ -15,10 +15,10 @@ use Rattle.careful_write.specs.State.{StoreState, IsReady, IsEither, Leaves, con
 use Rattle.careful_write.proofs.GroupParts.{stop_closed}
 use Rattle.volume.specs.Empty.{IsEmptyVolume}
 use Rattle.volume_format.specs.declared.home.Home.{Home}
-use Rattle.commit_protocol.specs.Messages.{Name, LogRecord, RecordKind, PreparedRecord, CommittedRecord, same_id}
-use Rattle.commit_protocol.specs.Table.{record_serials}
-use Rattle.commit_protocol.specs.World.{In}
-use Rattle.commit_protocol.specs.Agreement.{Distinct}
+use Rattle.log_laws.specs.commit_protocol.Messages.{Name, LogRecord, RecordKind, PreparedRecord, CommittedRecord, same_id}
+use Rattle.log_laws.specs.commit_protocol.Table.{record_serials}
+use Rattle.log_laws.specs.commit_protocol.World.{In}
+use Rattle.log_laws.specs.commit_protocol.Agreement.{Distinct}
 use Rattle.log_laws.specs.Slots.{Slots, records_in, has_slot}
 use Rattle.lmcp_log.specs.Slot.{kind_number, slot_block, free_block, name_bytes, IsRecord}
 use Rattle.lmcp_log.specs.Log.{slot_at, is_of, block_of_slot, block_of, IsReadAt, IsReading}

@@ -4,7 +4,7 @@ use Rattle.std.specs.List.{concat}
 use Rattle.std.proofs.lemmas.List.{same_lists, places, append-nil, append_assoc, drop-drop, drop-take}
 use Rattle.std.proofs.lemmas.List.Folds.{concat-append}
 use Rattle.std.proofs.Math.Seq.{take-append_seam, drop-append-add}
-use Rattle.vms_model.specs.Ids.{padded}
+use Rattle.vms_base.specs.vms_model.Ids.{padded}
 use Rattle.file_base.specs.Bytes.{piece_at, spliced}
 
 -- each piece has sixteen bytes

@@ -4,14 +4,14 @@ use Rattle.std.proofs.Common.{◌≡◌, ◌↔◌, ℕ, zero, suc, ◌+◌, ◌
 use Rattle.std.proofs.lemmas.Bool.{cases_Bool, ltb-true, ltb-false}
 use Rattle.std.proofs.lemmas.List.{get_or-map, take_more, take-append-le, append-nil}
 use Rattle.std.proofs.Math.Seq.{take-append_seam}
-use Rattle.vms_model.specs.Ids.{Id}
+use Rattle.vms_base.specs.vms_model.Ids.{Id}
 use Rattle.vms_base.specs.declared.protocol.LogRec.{LogRec}
-use Rattle.commit_protocol.specs.Messages.{LogRecord}
-use Rattle.commit_protocol.specs.Table.{record_serials}
-use Rattle.commit_protocol.specs.World.{In}
-use Rattle.commit_protocol.specs.Agreement.{Distinct}
-use Rattle.commit_protocol.proofs.Lists.{told_id, in_parts}
-use Rattle.commit_protocol.proofs.Serials.{distinct_more, serials_append}
+use Rattle.log_laws.specs.commit_protocol.Messages.{LogRecord}
+use Rattle.log_laws.specs.commit_protocol.Table.{record_serials}
+use Rattle.log_laws.specs.commit_protocol.World.{In}
+use Rattle.log_laws.specs.commit_protocol.Agreement.{Distinct}
+use Rattle.log_laws.proofs.commit_protocol.Lists.{told_id, in_parts}
+use Rattle.log_laws.proofs.commit_protocol.Serials.{distinct_more, serials_append}
 use Rattle.tm_types.proofs.ListLemmas.{map_push}
 use Rattle.log_laws.specs.Slots.{Slots, records_in, has_slot}
 use Rattle.lmcp_log.specs.Slot.{slot_block, IsRecord}

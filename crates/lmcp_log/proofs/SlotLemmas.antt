@@ -4,8 +4,8 @@ use Rattle.std.proofs.Common.{◌≡◌, ℕ, zero, suc, ◌<◌, Bool, true, fa
 use Rattle.std.specs.Prelude.{is_some}
 use Rattle.std.proofs.lemmas.Bool.{cases_Bool}
 use Rattle.vms_base.specs.declared.protocol.LogRec.{LogRec}
-use Rattle.vms_model.specs.Ids.{Id}
-use Rattle.commit_protocol.specs.Messages.{LogRecord, same_id}
+use Rattle.vms_base.specs.vms_model.Ids.{Id}
+use Rattle.log_laws.specs.commit_protocol.Messages.{LogRecord, same_id}
 use Rattle.log_laws.specs.Slots.{Slots, has_slot, has_free, replaced, filled, put_in, forgotten}
 use Rattle.log_laws.specs.Slots.{records_in}
 use Rattle.lmcp_log.specs.Log.{slot_of, slot_at, is_of, is_free, record_with, IsFirst}

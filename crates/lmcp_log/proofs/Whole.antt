@@ -6,7 +6,7 @@ use Rattle.std.proofs.lemmas.List.{length-set, get_or-set_same, get_or-set_other
 use Rattle.careful_write.specs.State.{StoreState}
 use Rattle.volume.specs.Empty.{IsEmptyVolume}
 use Rattle.volume_format.specs.declared.home.Home.{Home}
-use Rattle.commit_protocol.specs.Messages.{LogRecord}
+use Rattle.log_laws.specs.commit_protocol.Messages.{LogRecord}
 use Rattle.log_laws.specs.Slots.{Slots}
 use Rattle.lmcp_log.specs.Log.{slot_at, block_of_slot, block_of, StagesSlot}
 use Rattle.lmcp_log.specs.Keeping.{IsWhole, SameSlots}

@@ -1,9 +1,9 @@
 -- A content keeps the slots that the memory has, so that a load of it gives them again.
 use Rattle.std.specs.Prelude.{◌≡◌, ℕ, ◌<◌, ◌+◌, List, length, Option, Some, None}
 use Rattle.block_disk.specs.Blocks.{block_at}
-use Rattle.commit_protocol.specs.Messages.{LogRecord}
-use Rattle.commit_protocol.specs.Table.{record_serials}
-use Rattle.commit_protocol.specs.Agreement.{Distinct}
+use Rattle.log_laws.specs.commit_protocol.Messages.{LogRecord}
+use Rattle.log_laws.specs.commit_protocol.Table.{record_serials}
+use Rattle.log_laws.specs.commit_protocol.Agreement.{Distinct}
 use Rattle.log_laws.specs.Slots.{Slots, records_in}
 use Rattle.lmcp_log.specs.Slot.{slot_block, IsRecord}
 use Rattle.lmcp_log.specs.Log.{slot_at, block_of_slot, block_of, IsReading}

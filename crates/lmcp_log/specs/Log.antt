@@ -1,12 +1,12 @@
 -- The log of a node: its slots, what a content tells of them, and what a call stages.
 use Rattle.std.specs.Prelude.{◌≡◌, ℕ, ◌+◌, ◌-◌, ◌<◌, ◌==◌, ◌&&◌, Bool, true, false, List, [], ◌∷◌, length, take, if◌then◌else◌, Option, Some, None, option_map, slice_set, slice_index_or}
-use Rattle.vms_model.specs.Ids.{Id}
-use Rattle.vms_model.specs.Blocks.{log_start}
+use Rattle.vms_base.specs.vms_model.Ids.{Id}
+use Rattle.vms_base.specs.vms_model.Blocks.{log_start}
 use Rattle.vms_base.specs.declared.protocol.LogRec.{LogRec}
 use Rattle.block_disk.specs.Blocks.{block_at, with_number}
 use Rattle.block_disk.specs.Disk.{MayLeave}
 use Rattle.careful_write.specs.State.{StoreState, IsReady, content}
-use Rattle.commit_protocol.specs.Messages.{LogRecord, same_id}
+use Rattle.log_laws.specs.commit_protocol.Messages.{LogRecord, same_id}
 use Rattle.log_laws.specs.Slots.{Slots, has_slot, is_prepared_record}
 use Rattle.tm_types.specs.Parts.{log_record_of}
 use Rattle.lmcp_log.specs.Slot.{slot_block, free_block, IsRecord}

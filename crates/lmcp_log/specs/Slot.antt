@@ -1,11 +1,11 @@
 -- The layout of a log slot, which has one record.
 use Rattle.std.specs.Prelude.{◌≡◌, ℕ, ◌≤◌, false, List, [], ◌∷◌, length, map, replicate, Some, ⊤}
 use Rattle.std.specs.List.{concat}
-use Rattle.vms_model.specs.Names.{label_named}
-use Rattle.vms_model.specs.Ids.{Id, IsId, id_bytes, padded}
-use Rattle.vms_model.specs.Limits.{bid_limit}
-use Rattle.commit_protocol.specs.Messages.{Name, LogRecord, RecordKind, PreparedRecord, CommittedRecord}
-use Rattle.commit_protocol.specs.Table.{nothing_left}
+use Rattle.vms_base.specs.vms_model.Names.{label_named}
+use Rattle.vms_base.specs.vms_model.Ids.{Id, IsId, id_bytes, padded}
+use Rattle.vms_base.specs.vms_model.Limits.{bid_limit}
+use Rattle.log_laws.specs.commit_protocol.Messages.{Name, LogRecord, RecordKind, PreparedRecord, CommittedRecord}
+use Rattle.log_laws.specs.commit_protocol.Table.{nothing_left}
 use Rattle.volume_format.specs.Layout.{Row, row, number_8, laid}
 
 -- the kinds' numbers; a free slot has 0 there

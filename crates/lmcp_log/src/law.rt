@@ -1,7 +1,7 @@
 //! What a node that opens its log again may cite.
 ghost use Rattle.std.specs.Prelude.{◌≡◌, ◌⊎◌, ◌+◌, ◌≤◌, ℕ, List, length, replicate, Option, None, IfSome};
 ghost use Rattle.careful_write.specs.State.{StoreState, IsReady, IsEither, Leaves, content};
-ghost use Rattle.commit_protocol.specs.Messages.{LogRecord};
+ghost use Rattle.log_laws.specs.commit_protocol.Messages.{LogRecord};
 ghost use Rattle.log_laws.specs.Slots.{Slots};
 ghost use Rattle.volume.specs.Empty.{IsEmptyVolume};
 ghost use Rattle.volume_format.specs.declared.home.Home.{Home};

@@ -1,14 +1,14 @@
 //! The log of a node, as its slots.
 ghost use Rattle.std.specs.Prelude.{◌≡◌, ◌≤◌, ◌<◌, ◌+◌, ◌↔◌, ℕ, true, false, [], length, map, Some, IsSome, IfOk, IfSome, IfNone, OnOk, OnErr, IsErr, option_copied, vec_capacity, vec_len};
-ghost use Rattle.vms_model.specs.Limits.{slot_limit};
-ghost use Rattle.vms_model.specs.Blocks.{log_start};
+ghost use Rattle.vms_base.specs.vms_model.Limits.{slot_limit};
+ghost use Rattle.vms_base.specs.vms_model.Blocks.{log_start};
 ghost use Rattle.vms_base.specs.Ids.{serial_of};
 ghost use Rattle.block_disk.specs.Blocks.{block_at};
 ghost use Rattle.careful_write.specs.Down.{Counts};
-ghost use Rattle.commit_protocol.specs.Messages.{LogRecord};
-ghost use Rattle.commit_protocol.specs.Table.{record_serials};
-ghost use Rattle.commit_protocol.specs.World.{In};
-ghost use Rattle.commit_protocol.specs.Agreement.{Distinct};
+ghost use Rattle.log_laws.specs.commit_protocol.Messages.{LogRecord};
+ghost use Rattle.log_laws.specs.commit_protocol.Table.{record_serials};
+ghost use Rattle.log_laws.specs.commit_protocol.World.{In};
+ghost use Rattle.log_laws.specs.commit_protocol.Agreement.{Distinct};
 ghost use Rattle.log_laws.specs.Slots.{Slots, committed_of, prepared_of, records_in, has_slot, has_free, put_in, forgotten};
 ghost use Rattle.tm_types.specs.Parts.{log_record_of};
 ghost use Rattle.lmcp_log.specs.Slot.{slot_block, HasForm, IsRecord};
@@ -49,7 +49,7 @@ pub struct Log {
 
 impl Model for Log {
     ghost use Rattle.std.specs.Prelude.{◌≤◌, length, map, vec_capacity};
-    ghost use Rattle.vms_model.specs.Limits.{slot_limit};
+    ghost use Rattle.vms_base.specs.vms_model.Limits.{slot_limit};
     ghost use Rattle.log_laws.specs.Slots.{Slots};
     ghost use Rattle.lmcp_log.specs.Log.{slot_of};
 

@@ -2,9 +2,9 @@
 ghost use Rattle.std.specs.Prelude.{◌≡◌, ◌≤◌, ◌+◌, ◌*◌, ℕ, List, [], ◌∷◌, length, map, Some};
 ghost use Rattle.std.specs.List.{concat};
 ghost use Rattle.std.specs.Option.{option_map};
-ghost use Rattle.vms_model.specs.Names.{label_named};
-ghost use Rattle.vms_model.specs.Ids.{Id as IdSaid, IsId, id_bytes, padded};
-ghost use Rattle.vms_model.specs.Limits.{bid_limit};
+ghost use Rattle.vms_base.specs.vms_model.Names.{label_named};
+ghost use Rattle.vms_base.specs.vms_model.Ids.{Id as IdSaid, IsId, id_bytes, padded};
+ghost use Rattle.vms_base.specs.vms_model.Limits.{bid_limit};
 ghost use Rattle.vms_base.specs.Ids.{id_of, serial_of, until_zero};
 ghost use Rattle.file_base.specs.Bytes.{piece_at};
 ghost use Rattle.volume_format.specs.Layout.{spliced, laid, number_8 as number_8_at};

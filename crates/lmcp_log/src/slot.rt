@@ -1,7 +1,7 @@
 //! A slot's block, and the record that it has.
 ghost use Rattle.std.specs.Prelude.{◌≡◌, ◌↔◌, ◌≤◌, ℕ, IsTrue, true, List, [], ◌∷◌, Option, Some};
 ghost use Rattle.std.specs.Option.{option_map};
-ghost use Rattle.commit_protocol.specs.Messages.{LogRecord, RecordKind};
+ghost use Rattle.log_laws.specs.commit_protocol.Messages.{LogRecord, RecordKind};
 ghost use Rattle.tm_types.specs.Parts.{log_record_of, log_kind_of};
 ghost use Rattle.vms_base.specs.declared.protocol.LogKind.{LogKind as KindSaid};
 ghost use Rattle.lmcp_log.specs.Slot.{kind_number as number_said, slot_block, HasForm, IsParts, IsRecord};

@@ -4,23 +4,23 @@ use Rattle.std.specs.FinMap.Entries.{find}
 use Rattle.std.proofs.lemmas.Bool.Decides.{nat_tests}
 use Rattle.std.proofs.lemmas.Nat.{mod_below}
 use Rattle.std.proofs.Math.Nat.{mod-add-div}
-use Rattle.file_base.specs.declared.head.FileHead.{FileHead}
-use Rattle.file_base.specs.Bytes.{piece_at}
+use Rattle.record_files.specs.file_base.declared.head.FileHead.{FileHead}
+use Rattle.record_files.specs.file_base.Bytes.{piece_at}
 use Rattle.vms_model.specs.Keys.{Key, Number, Text, End}
 use Rattle.records_model.specs.Records.{key_cmp}
-use Rattle.change_set.specs.Maps.{same_key}
-use Rattle.change_set.proofs.NumberKeys.{same_test, other_test}
-use Rattle.index_blocks.specs.Buckets as blocks
-use Rattle.relative_file.specs.Cells.{IsRelative, IsLaidOut, Suits, has_cell, cells_in, cells_end, first_of, place_of, cell_at, cell_of, cell_in, size_in, record_in, as_read, bucket_first, front_of, map_of}
-use Rattle.relative_file.specs.Cells as relative
-use Rattle.relative_file.proofs.CellLaws.{size_in-cell_of, record_in-cell_of, record_in-cell_of_none}
-use Rattle.relative_file.proofs.ReadLaws.{as_read_same}
-use Rattle.relative_file.specs.Local.{bucket_below}
+use Rattle.record_files.specs.change_set.Maps.{same_key}
+use Rattle.record_files.proofs.change_set.NumberKeys.{same_test, other_test}
+use Rattle.record_files.specs.index_blocks.Buckets as blocks
+use Rattle.record_files.specs.relative_file.Cells.{IsRelative, IsLaidOut, Suits, has_cell, cells_in, cells_end, first_of, place_of, cell_at, cell_of, cell_in, size_in, record_in, as_read, bucket_first, front_of, map_of}
+use Rattle.record_files.specs.relative_file.Cells as relative
+use Rattle.record_files.proofs.relative_file.CellLaws.{size_in-cell_of, record_in-cell_of, record_in-cell_of_none}
+use Rattle.record_files.proofs.relative_file.ReadLaws.{as_read_same}
+use Rattle.record_files.specs.relative_file.Local.{bucket_below}
 use Rattle.load_laws.specs.Records.{Keyed, what_has}
 use Rattle.load_laws.specs.Cells.{number_in, value_at, values_behind, cell_pages, AllTo, AllBehind, Climbs, AllShort, IsTo, IsBehind}
 use Rattle.load_laws.specs.Pages.{Stand, HasCells}
 use Rattle.load_laws.specs.Loads.{AllSuitBy}
-use Rattle.file_base.specs.declared.head.Organization.TheVariants.{Relative}
+use Rattle.record_files.specs.file_base.declared.head.Organization.TheVariants.{Relative}
 
 -- What a number has.
 

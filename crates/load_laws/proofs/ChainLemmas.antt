@@ -1,10 +1,10 @@
 -- Slots in buckets, each filled before the next.
 use Rattle.std.proofs.Common.{◌≡◌, ◌<◌, ◌≤◌, ◌+◌, ◌-◌, ℕ, suc, Bool, true, false, List, [], ◌∷◌, ◌++◌, length, nat_le, if◌then◌else◌, refl, sym, ap, subst, ◌∙◌, map, append-nil, append_assoc, length-append, arith}
-use Rattle.tree_model.proofs.Tests.{fits_test, over_test, tests_fit}
+use Rattle.load_model.proofs.tree_model.Tests.{fits_test, over_test, tests_fit}
 use Rattle.bucket_page.specs.Pages.{joined}
 use Rattle.bucket_page.proofs.PageLaws.{joined-append}
 use Rattle.records_model.specs.Placing.{filled_by}
-use Rattle.seq_file.specs.Placing.{BeginsAnew, buckets_for}
+use Rattle.record_files.specs.seq_file.Placing.{BeginsAnew, buckets_for}
 use Rattle.load_laws.specs.Chains.{packed, parts_of}
 
 over_tests : (n cap : ℕ) → cap < n → nat_le n cap ≡ false

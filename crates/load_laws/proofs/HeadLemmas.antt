@@ -1,11 +1,11 @@
 -- A file whose head tells other numbers of what it has.
 use Rattle.std.proofs.Common.{◌≡◌, ◌*◌, ℕ, zero, suc, List, [], ◌∷◌, map, replicate, Some, refl, ap}
-use Rattle.file_base.specs.declared.head.FileHead.{FileHead}
-use Rattle.file_base.specs.declared.head.Organization.TheVariants.{Relative, Indexed}
+use Rattle.record_files.specs.file_base.declared.head.FileHead.{FileHead}
+use Rattle.record_files.specs.file_base.declared.head.Organization.TheVariants.{Relative, Indexed}
 use Rattle.vms_model.specs.Keys.{Key, Number, Text, End}
-use Rattle.index_model.specs.Indexes.{Entry}
-use Rattle.relative_file.specs.Cells as relative
-use Rattle.indexed_file.specs.Chain as leaf
+use Rattle.index_bucket.specs.index_model.Indexes.{Entry}
+use Rattle.record_files.specs.relative_file.Cells as relative
+use Rattle.record_files.specs.indexed_file.Chain as leaf
 use Rattle.load_laws.specs.Records.{Keyed}
 use Rattle.load_laws.specs.Pages.{Page, Slots, Entries, Cells, IsPage, Stand}
 use Rattle.load_laws.specs.Cells.{values_behind, cell_pages}

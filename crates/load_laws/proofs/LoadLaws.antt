@@ -4,30 +4,30 @@ use Rattle.std.specs.List.{All}
 use Rattle.std.specs.FinMap.Entries.{is_sorted}
 use Rattle.std.proofs.lemmas.List.{length-map}
 use Rattle.std.proofs.lemmas.Nat.{mul-le, le-div}
-use Rattle.block_disk.specs.Disk.{DiskState}
-use Rattle.file_base.specs.declared.head.FileHead.{FileHead}
-use Rattle.file_base.specs.declared.head.Organization.{Organization}
-use Rattle.file_base.specs.declared.head.Organization.TheVariants.{Sequential, Relative, Indexed}
+use Rattle.record_files.specs.block_disk.Disk.{DiskState}
+use Rattle.record_files.specs.file_base.declared.head.FileHead.{FileHead}
+use Rattle.record_files.specs.file_base.declared.head.Organization.{Organization}
+use Rattle.record_files.specs.file_base.declared.head.Organization.TheVariants.{Sequential, Relative, Indexed}
 use Rattle.vms_model.specs.Keys.{Key, Number, Text, End}
 use Rattle.records_model.specs.Records.{key_cmp}
 use Rattle.bucket_page.specs.declared.kind.PageKind.{PageKind}
 use Rattle.bucket_page.specs.declared.kind.PageKind.TheVariants.{Seq}
-use Rattle.tree_model.specs.Layouts.{Layout, no_layout, slots_along, used_of, levels_of, index_size}
-use Rattle.tree_model.specs.Loads.{slot_for, index_over}
+use Rattle.record_files.specs.tree_model.Layouts.{Layout, no_layout, slots_along, used_of, levels_of, index_size}
+use Rattle.record_files.specs.tree_model.Loads.{slot_for, index_over}
 use Rattle.records_model.specs.Slots.{Slot, lookup}
-use Rattle.index_model.specs.Indexes.{Entry}
+use Rattle.index_bucket.specs.index_model.Indexes.{Entry}
 use Rattle.load_model.specs.Nodes.{nodes_over, all_nodes}
 use Rattle.load_model.proofs.Levels.{stays_low}
 use Rattle.index_bucket.proofs.HandLaws.{fan_out_wide}
 use Rattle.index_bucket.specs.Entries.{sizes_of}
-use Rattle.change_set.specs.Files.{IsPlaced}
-use Rattle.relative_file.specs.Cells.{cells_in}
-use Rattle.seq_file.specs.Layout.{capacity, IsRecord}
-use Rattle.seq_file.specs.Placing.{buckets_for}
-use Rattle.seq_file.specs.Records.{map_of_list, slot_sizes}
-use Rattle.indexed_file.specs.Chain.{HasKeys, kind_of}
-use Rattle.indexed_tree.specs.Files as tree
-use Rattle.indexed_tree.specs.Rooted.{layout_in}
+use Rattle.record_files.specs.change_set.Files.{IsPlaced}
+use Rattle.record_files.specs.relative_file.Cells.{cells_in}
+use Rattle.record_files.specs.seq_file.Layout.{capacity, IsRecord}
+use Rattle.record_files.specs.seq_file.Placing.{buckets_for}
+use Rattle.record_files.specs.seq_file.Records.{map_of_list, slot_sizes}
+use Rattle.record_files.specs.indexed_file.Chain.{HasKeys, kind_of}
+use Rattle.record_files.specs.indexed_tree.Files as tree
+use Rattle.record_files.specs.indexed_tree.Rooted.{layout_in}
 use Rattle.record_files.specs.Any.{FormBy, LaidOutBy, map_by, IsFile, IsLaidOut, map_of, layout_of}
 use Rattle.record_files.specs.Any as any
 use Rattle.load_laws.specs.Records.{Keyed, what_has, texts_of, values_of}

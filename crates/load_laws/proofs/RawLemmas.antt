@@ -5,21 +5,21 @@ use Rattle.std.specs.FinMap.Entries.{find, is_sorted}
 use Rattle.std.specs.FinMap.Entries.{below_all}
 use Rattle.std.proofs.lemmas.List.{take_all, length-take}
 use Rattle.std.proofs.lemmas.Bool.Decides.{nat_tests}
-use Rattle.file_base.specs.declared.head.FileHead.{FileHead}
-use Rattle.file_base.specs.Bytes.{piece_at}
+use Rattle.record_files.specs.file_base.declared.head.FileHead.{FileHead}
+use Rattle.record_files.specs.file_base.Bytes.{piece_at}
 use Rattle.vms_model.specs.Keys.{Key, Number, Text, End}
 use Rattle.bucket_page.specs.Pages.{u16_at, key_in, joined, suits, front_size, tells_well}
 use Rattle.bucket_page.proofs.PageLaws.{joined-append}
 use Rattle.records_model.specs.Records.{key_cmp}
 use Rattle.records_model.specs.Slots.{Slot, AllBehind, IsOrdered, lookup, value_in, slot_at, same_bytes}
 use Rattle.records_model.specs.Parts.{bytes_of}
-use Rattle.tree_model.specs.Loads.{slot_for, filled}
-use Rattle.tree_model.specs.Laws.{AllLoad}
-use Rattle.indexed_file.specs.Chain.{kind_of, slot_of, value_of, keeps_record, all_keep, Suits, SuitsText}
+use Rattle.record_files.specs.tree_model.Loads.{slot_for, filled}
+use Rattle.record_files.specs.tree_model.Laws.{AllLoad}
+use Rattle.record_files.specs.indexed_file.Chain.{kind_of, slot_of, value_of, keeps_record, all_keep, Suits, SuitsText}
 use Rattle.load_laws.specs.Records.{Keyed, what_has, bytes_in, texts_of, values_of}
 use Rattle.load_laws.specs.Chains.{raw_for, packed}
 use Rattle.load_laws.specs.Loads.{AllSuitBy}
-use Rattle.file_base.specs.declared.head.Organization.TheVariants.{Indexed}
+use Rattle.record_files.specs.file_base.declared.head.Organization.TheVariants.{Indexed}
 
 -- each record is one of the file, under its key
 abbrev pub AllTexts : FileHead → List Keyed → Type 0

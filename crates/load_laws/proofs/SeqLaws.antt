@@ -3,18 +3,18 @@ use Rattle.std.proofs.Common.{◌≡◌, ◌<◌, ◌≤◌, ◌+◌, ◌-◌, �
 use Rattle.std.specs.List.{All, slice_get}
 use Rattle.std.specs.FinMap.Entries.{find}
 use Rattle.std.proofs.lemmas.List.{take_all, length-map}
-use Rattle.file_base.specs.declared.head.FileHead.{FileHead}
+use Rattle.record_files.specs.file_base.declared.head.FileHead.{FileHead}
 use Rattle.vms_model.specs.Keys.{Key, Number, Text, End}
 use Rattle.records_model.specs.Records.{key_cmp}
 use Rattle.bucket_page.specs.declared.kind.PageKind.TheVariants.{Seq}
 use Rattle.bucket_page.specs.Pages.{slots_of, next_of, joined, ascend, precedes_all, may_follow, no_next, u16_bytes, IsPacked, IsBucket, Packs}
-use Rattle.change_set.specs.Maps.{same_key}
-use Rattle.change_set.proofs.NumberKeys.{same_test, other_test}
-use Rattle.index_blocks.specs.Buckets as blocks
-use Rattle.seq_file.specs.Layout.{bucket_at, slots_at, record_of, records_in, capacity, IsRecord, IsLaidOut}
-use Rattle.seq_file.specs.Layout as seq
-use Rattle.seq_file.specs.Placing.{buckets_for, slots_along, BeginsAnew}
-use Rattle.seq_file.specs.Records.{record_at, map_of_list, slot_sizes}
+use Rattle.record_files.specs.change_set.Maps.{same_key}
+use Rattle.record_files.proofs.change_set.NumberKeys.{same_test, other_test}
+use Rattle.record_files.specs.index_blocks.Buckets as blocks
+use Rattle.record_files.specs.seq_file.Layout.{bucket_at, slots_at, record_of, records_in, capacity, IsRecord, IsLaidOut}
+use Rattle.record_files.specs.seq_file.Layout as seq
+use Rattle.record_files.specs.seq_file.Placing.{buckets_for, slots_along, BeginsAnew}
+use Rattle.record_files.specs.seq_file.Records.{record_at, map_of_list, slot_sizes}
 use Rattle.load_laws.specs.Records.{Keyed, what_has, values_of}
 use Rattle.load_laws.specs.Loads.{AreNumbered}
 use Rattle.load_laws.specs.Pages.{Stand}

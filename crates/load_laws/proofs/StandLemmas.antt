@@ -1,11 +1,11 @@
 -- What stands in single buckets of a chain.
 use Rattle.std.proofs.Common.{◌≡◌, ◌<◌, ◌≤◌, ◌+◌, ◌*◌, ℕ, zero, suc, Bool, true, false, List, [], ◌∷◌, ◌++◌, length, take, get_or, nat_lt, refl, sym, ap, subst, ◌∙◌, arith, append-nil, append_assoc}
 use Rattle.std.proofs.lemmas.List.{take_more}
-use Rattle.file_base.specs.declared.head.FileHead.{FileHead}
+use Rattle.record_files.specs.file_base.declared.head.FileHead.{FileHead}
 use Rattle.bucket_page.specs.declared.kind.PageKind.{PageKind}
 use Rattle.bucket_page.specs.Pages.{slots_of, next_of, IsPacked, Packs}
-use Rattle.index_blocks.specs.Buckets.{bucket_at}
-use Rattle.seq_file.specs.Placing.{slots_along, BeginsAnew}
+use Rattle.record_files.specs.index_blocks.Buckets.{bucket_at}
+use Rattle.record_files.specs.seq_file.Placing.{slots_along, BeginsAnew}
 use Rattle.load_laws.specs.Pages.{Page, Slots, Stand}
 use Rattle.load_laws.specs.Chains.{packed, next_for, chain_pages}
 use Rattle.load_laws.proofs.ChainLemmas.{all_in, BeginBehind, AllBegin}

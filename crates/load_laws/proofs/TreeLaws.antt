@@ -3,21 +3,21 @@ use Rattle.std.proofs.Common.{◌≡◌, ◌<◌, ◌≤◌, ◌⊎◌, inl, inr
 use Rattle.std.proofs.lemmas.List.{length-map}
 use Rattle.std.proofs.lemmas.Bool.Decides.{nat_tests}
 use Rattle.std.specs.FinMap.Entries.{is_sorted}
-use Rattle.file_base.specs.declared.head.FileHead.{FileHead}
+use Rattle.record_files.specs.file_base.declared.head.FileHead.{FileHead}
 use Rattle.records_model.specs.Records.{key_cmp}
 use Rattle.bucket_page.specs.Pages.{slots_of, next_of, no_next, key_in, may_follow, ascend, IsBucket, Packs}
 use Rattle.records_model.specs.Slots.{Slot, IsOrdered}
 use Rattle.records_model.proofs.SlotLaws.{ordered_parts}
-use Rattle.tree_model.specs.Layouts.{Layout, Leaf, slots_along, used_of, levels_of, index_size}
-use Rattle.tree_model.specs.Setting.{first_key, new_leaves, leaves_from}
-use Rattle.tree_model.specs.Trees.{IsTree, AreBounded}
-use Rattle.tree_model.specs.Loads.{slot_for, filled, loaded, index_over}
-use Rattle.tree_model.specs.Laws.{HasLoaded}
-use Rattle.tree_model.proofs.LoadLemmas.{tree_loads}
-use Rattle.tree_model.proofs.BoundLemmas.{length_from}
-use Rattle.index_model.specs.Indexes.{Entry, first_separator, parent_entry, AreLevels, Ascends, AllBelow, AllDiffer, IsNoneOf, numbers_of, counts_of}
-use Rattle.index_model.specs.Trees.{child_of, leaf_at}
-use Rattle.index_model.proofs.TreeLemmas.{bounded_ascend}
+use Rattle.record_files.specs.tree_model.Layouts.{Layout, Leaf, slots_along, used_of, levels_of, index_size}
+use Rattle.record_files.specs.tree_model.Setting.{first_key, new_leaves, leaves_from}
+use Rattle.record_files.specs.tree_model.Trees.{IsTree, AreBounded}
+use Rattle.record_files.specs.tree_model.Loads.{slot_for, filled, loaded, index_over}
+use Rattle.record_files.specs.tree_model.Laws.{HasLoaded}
+use Rattle.load_model.proofs.tree_model.LoadLemmas.{tree_loads}
+use Rattle.load_model.proofs.tree_model.BoundLemmas.{length_from}
+use Rattle.index_bucket.specs.index_model.Indexes.{Entry, first_separator, parent_entry, AreLevels, Ascends, AllBelow, AllDiffer, IsNoneOf, numbers_of, counts_of}
+use Rattle.index_bucket.specs.index_model.Trees.{child_of, leaf_at}
+use Rattle.index_bucket.proofs.index_model.TreeLemmas.{bounded_ascend}
 use Rattle.load_model.specs.Nodes.{entries_by, nodes_over, all_nodes, numbers_from, numbered, StandFrom}
 use Rattle.load_model.specs.Laws.{IsLoadedIndex, IsNode, AreNodes, IsLow}
 use Rattle.load_model.proofs.Levels.{index_loads, all_suit, stays_low, levels_size}
@@ -25,13 +25,13 @@ use Rattle.load_model.proofs.Groups.{length_entries_by}
 use Rattle.index_bucket.specs.Entries.{index_kind, sizes_of, entry_of, IsIndexBucket}
 use Rattle.index_bucket.proofs.HandLaws.{fan_out_wide}
 use Rattle.index_bucket.proofs.HeldLaws.{packed_laid}
-use Rattle.index_blocks.specs.Buckets.{bucket_at}
-use Rattle.index_blocks.specs.Levels.{entries_in, least_key, leaf_entries, levels_of as index_levels, AllAre, LeadsDown}
-use Rattle.index_blocks.specs.Laws.{ReadsLevels}
-use Rattle.index_blocks.proofs.LevelLaws.{levels_read}
-use Rattle.indexed_file.specs.Chain.{kind_of, slot_of, slots_in, next_in, keeps_record, all_keep, IsLeaf, Leads, first_or}
-use Rattle.indexed_file.proofs.GrownLaws.{ascend_ordered}
-use Rattle.indexed_tree.specs.Rooted.{leaf_numbers, layout_in, IsRooted}
+use Rattle.record_files.specs.index_blocks.Buckets.{bucket_at}
+use Rattle.record_files.specs.index_blocks.Levels.{entries_in, least_key, leaf_entries, levels_of as index_levels, AllAre, LeadsDown}
+use Rattle.record_files.specs.index_blocks.Laws.{ReadsLevels}
+use Rattle.record_files.proofs.index_blocks.LevelLaws.{levels_read}
+use Rattle.record_files.specs.indexed_file.Chain.{kind_of, slot_of, slots_in, next_in, keeps_record, all_keep, IsLeaf, Leads, first_or}
+use Rattle.record_files.proofs.indexed_file.GrownLaws.{ascend_ordered}
+use Rattle.record_files.specs.indexed_tree.Rooted.{leaf_numbers, layout_in, IsRooted}
 use Rattle.load_laws.specs.Records.{Keyed, texts_of, values_of}
 use Rattle.load_laws.specs.Pages.{Page, Slots, Entries, Stand}
 use Rattle.load_laws.specs.Chains.{raw_for, packed, next_for, chain_pages}

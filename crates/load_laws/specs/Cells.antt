@@ -1,8 +1,8 @@
 -- Records in the cells of their numbers.
 use Rattle.std.specs.Prelude.{◌≡◌, ◌≤◌, ◌<◌, ◌+◌, ◌*◌, ℕ, zero, suc, List, [], ◌∷◌, length, map, Option, Some, None, unwrap_or, if◌then◌else◌}
-use Rattle.file_base.specs.declared.head.FileHead.{FileHead}
+use Rattle.record_files.specs.file_base.declared.head.FileHead.{FileHead}
 use Rattle.vms_model.specs.Keys.{Key, Number, Text, End}
-use Rattle.relative_file.specs.Cells.{cells_in}
+use Rattle.record_files.specs.relative_file.Cells.{cells_in}
 use Rattle.load_laws.specs.Pages.{Page, Cells}
 use Rattle.load_laws.specs.Records.{Keyed, what_has}
 

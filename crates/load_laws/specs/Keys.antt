@@ -1,11 +1,11 @@
 -- The lowest keys of buckets.
 use Rattle.std.specs.Prelude.{◌≡◌, ℕ, zero, suc, List, [], ◌∷◌, ◌+◌, length, map, drop, replicate}
-use Rattle.file_base.specs.declared.head.FileHead.{FileHead}
+use Rattle.record_files.specs.file_base.declared.head.FileHead.{FileHead}
 use Rattle.bucket_page.specs.Pages.{key_in}
-use Rattle.indexed_file.specs.Chain.{kind_of}
+use Rattle.record_files.specs.indexed_file.Chain.{kind_of}
 use Rattle.index_bucket.specs.Entries.{sizes_of}
 use Rattle.load_model.specs.Nodes.{nodes_over, all_nodes}
-use Rattle.index_model.specs.Indexes.{Entry}
+use Rattle.index_bucket.specs.index_model.Indexes.{Entry}
 use Rattle.load_laws.specs.Pages.{Page, Entries}
 
 -- the key of the first slot

@@ -1,8 +1,8 @@
 -- What holds of a file into which records were loaded.
 use Rattle.std.specs.Prelude.{◌≡◌, ◌≤◌, ℕ, List, length}
-use Rattle.block_disk.specs.Disk.{DiskState}
-use Rattle.file_base.specs.declared.head.FileHead.{FileHead}
-use Rattle.change_set.specs.Files.{IsPlaced}
+use Rattle.record_files.specs.block_disk.Disk.{DiskState}
+use Rattle.record_files.specs.file_base.declared.head.FileHead.{FileHead}
+use Rattle.record_files.specs.change_set.Files.{IsPlaced}
 use Rattle.record_files.specs.Any.{IsFile}
 use Rattle.load_laws.specs.Records.{Keyed}
 use Rattle.load_laws.specs.Pages.{Stand}

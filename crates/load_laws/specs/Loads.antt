@@ -1,19 +1,19 @@
 -- What a file has once records were loaded into it.
 use Rattle.std.specs.Prelude.{◌≡◌, ◌≤◌, ◌+◌, ◌-◌, ◌*◌, ℕ, suc, true, List, [], ◌∷◌, ◌++◌, length, map, Option, Some}
 use Rattle.std.specs.FinMap.Entries.{is_sorted}
-use Rattle.file_base.specs.declared.head.FileHead.{FileHead}
-use Rattle.file_base.specs.declared.head.Organization.{Organization}
-use Rattle.file_base.specs.declared.head.Organization.TheVariants.{Sequential, Relative, Indexed}
+use Rattle.record_files.specs.file_base.declared.head.FileHead.{FileHead}
+use Rattle.record_files.specs.file_base.declared.head.Organization.{Organization}
+use Rattle.record_files.specs.file_base.declared.head.Organization.TheVariants.{Sequential, Relative, Indexed}
 use Rattle.vms_model.specs.Keys.{Key, Number}
 use Rattle.records_model.specs.Records.{key_cmp}
-use Rattle.tree_model.specs.Layouts.{Layout, no_layout, used_of, levels_of, index_size}
-use Rattle.tree_model.specs.Loads.{slot_for, loaded, index_over}
+use Rattle.record_files.specs.tree_model.Layouts.{Layout, no_layout, used_of, levels_of, index_size}
+use Rattle.record_files.specs.tree_model.Loads.{slot_for, loaded, index_over}
 use Rattle.index_bucket.specs.Entries.{sizes_of}
-use Rattle.relative_file.specs.Cells.{Anything, cells_in}
-use Rattle.seq_file.specs.Layout.{capacity}
-use Rattle.seq_file.specs.Placing.{buckets_for}
-use Rattle.seq_file.specs.Records.{slot_sizes}
-use Rattle.indexed_file.specs.Chain.{HasKeys, kind_of}
+use Rattle.record_files.specs.relative_file.Cells.{Anything, cells_in}
+use Rattle.record_files.specs.seq_file.Layout.{capacity}
+use Rattle.record_files.specs.seq_file.Placing.{buckets_for}
+use Rattle.record_files.specs.seq_file.Records.{slot_sizes}
+use Rattle.record_files.specs.indexed_file.Chain.{HasKeys, kind_of}
 use Rattle.record_files.specs.Any.{IsFile, IsLaidOut, SuitsBy, map_of, layout_of}
 use Rattle.bucket_page.specs.declared.kind.PageKind.TheVariants.{Seq}
 use Rattle.load_laws.specs.Records.{Keyed, what_has, texts_of, values_of}

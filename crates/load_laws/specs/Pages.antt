@@ -1,12 +1,12 @@
 -- What is written into the buckets of a file, one after the other.
 use Rattle.std.specs.Prelude.{◌≡◌, ◌<◌, ◌+◌, ◌*◌, ℕ, suc, List, [], ◌∷◌, ◌++◌, length, take, drop, replicate, ◌-◌, Option, IfSome}
-use Rattle.file_base.specs.declared.head.FileHead.{FileHead}
+use Rattle.record_files.specs.file_base.declared.head.FileHead.{FileHead}
 use Rattle.bucket_page.specs.declared.kind.PageKind.{PageKind}
 use Rattle.bucket_page.specs.Pages.{no_next, next_of, IsPacked, Packs}
-use Rattle.index_model.specs.Indexes.{Entry}
+use Rattle.index_bucket.specs.index_model.Indexes.{Entry}
 use Rattle.index_bucket.specs.Entries.{index_kind, entries_at}
-use Rattle.index_blocks.specs.Buckets.{bucket_at}
-use Rattle.relative_file.specs.Cells.{cells_in, cells_end, cell_in, cell_of, front_of}
+use Rattle.record_files.specs.index_blocks.Buckets.{bucket_at}
+use Rattle.record_files.specs.relative_file.Cells.{cells_in, cells_end, cell_in, cell_of, front_of}
 
 -- slots of a kind with a next bucket; entries of an index; or cells with these records, of which those behind have none
 pub data Page : Type 0 where

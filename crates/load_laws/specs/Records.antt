@@ -3,7 +3,7 @@ use Rattle.std.specs.Prelude.{ℕ, List, [], map}
 use Rattle.std.specs.FinMap.Entries.{find}
 use Rattle.vms_model.specs.Keys.{Key, Number, Text, End}
 use Rattle.records_model.specs.Records.{key_cmp}
-use Rattle.change_set.specs.Maps.{Map}
+use Rattle.record_files.specs.change_set.Maps.{Map}
 
 -- a key with the bytes of its record
 abbrev pub Keyed : Type 0

@@ -1,8 +1,8 @@
 -- Entries in groups.
 use Rattle.std.proofs.Common.{◌≡◌, ◌≤◌, ◌<◌, ◌+◌, ◌-◌, ◌*◌, ℕ, zero, suc, Bool, true, false, List, [], ◌∷◌, ◌++◌, length, map, take, drop, if◌then◌else◌, nat_le, min, refl, sym, ap, ◌∙◌, subst, append_assoc, length-append, length-drop, arith}
 use Rattle.std.proofs.lemmas.List.{take-append-drop, length-take, length-map}
-use Rattle.tree_model.specs.Loads.{shared, index_over}
-use Rattle.tree_model.proofs.Tests.{fits_test, over_test}
+use Rattle.index_model.specs.tree_model.Loads.{shared, index_over}
+use Rattle.index_model.proofs.tree_model.Tests.{fits_test, over_test}
 use Rattle.index_model.specs.Indexes.{Entry, entries_along, first_separator, parent_entry, AllSome, AllAbove, Ascends, AllBelow}
 use Rattle.index_model.specs.Trees.{child_of}
 use Rattle.index_model.proofs.DescentLemmas.{above_parts, later_ascend, first_above, later_above}

@@ -1,9 +1,9 @@
 -- Levels of index buckets in a row.
 use Rattle.std.proofs.Common.{◌≡◌, ◌≤◌, ◌<◌, ◌+◌, ◌-◌, ◌*◌, ℕ, zero, suc, Bool, true, false, List, [], ◌∷◌, ◌++◌, length, map, if◌then◌else◌, nat_le, refl, sym, ap, ◌∙◌, subst, length-append, arith}
 use Rattle.std.proofs.lemmas.List.{length-map}
-use Rattle.tree_model.specs.Layouts.{index_size}
-use Rattle.tree_model.specs.Loads.{shared, index_over}
-use Rattle.tree_model.proofs.Tests.{fits_test, over_test}
+use Rattle.index_model.specs.tree_model.Layouts.{index_size}
+use Rattle.index_model.specs.tree_model.Loads.{shared, index_over}
+use Rattle.index_model.proofs.tree_model.Tests.{fits_test, over_test}
 use Rattle.index_model.specs.Indexes.{Entry, first_separator, AreLevels, Ascends, AllBelow, numbers_of, counts_of, entries_along, AllSome, parent_entry}
 use Rattle.load_model.specs.Nodes.{entries_by, grouped, level_over, keys_of, nodes_over, all_nodes, numbers_from, numbered, StandFrom}
 use Rattle.load_model.specs.Laws.{IsLoadedIndex, IndexLoads, IsNode, AreNodes, NodesSuit, IsLow, IndexStaysLow}

@@ -1,7 +1,7 @@
 -- What holds of the index of a file that is loaded.
 use Rattle.std.specs.Prelude.{◌≡◌, ◌≤◌, ◌<◌, ◌+◌, ℕ, suc, List, [], ◌∷◌, length, map}
-use Rattle.tree_model.specs.Layouts.{index_size}
-use Rattle.tree_model.specs.Loads.{index_over}
+use Rattle.index_model.specs.tree_model.Layouts.{index_size}
+use Rattle.index_model.specs.tree_model.Loads.{index_over}
 use Rattle.index_model.specs.Indexes.{Entry, first_separator, AreLevels, Ascends, AllBelow, numbers_of, counts_of}
 use Rattle.index_model.specs.Trees.{child_of}
 use Rattle.load_model.specs.Nodes.{entries_by, nodes_over, all_nodes, numbers_from, numbered, StandFrom}

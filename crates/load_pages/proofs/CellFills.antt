@@ -8,7 +8,7 @@ use Rattle.file_base.specs.Bytes.{piece_at, spliced}
 use Rattle.file_base.proofs.Splices.{length-spliced, piece_at-spliced_same, piece_at-spliced_below, piece_at-spliced_above, piece_at-take, take-spliced}
 use Rattle.vms_model.specs.Keys.{Key, Number, Text, End}
 use Rattle.records_model.specs.Records.{key_cmp}
-use Rattle.change_set.proofs.Extents.{ranges_apart}
+use Rattle.relative_file.proofs.change_set.Extents.{ranges_apart}
 use Rattle.relative_file.specs.Cells.{cells_in, cells_end, cell_of, cell_in, front_of, empty_bucket}
 use Rattle.relative_file.proofs.CellLaws.{length-cell_of}
 use Rattle.relative_file.proofs.ReadLaws.{take_spliced_below}

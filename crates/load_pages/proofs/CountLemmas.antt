@@ -3,9 +3,9 @@ use Rattle.std.proofs.Common.{◌≡◌, ◌<◌, ◌≤◌, ◌+◌, ◌-◌, �
 use Rattle.std.proofs.lemmas.List.{drop_more, drop_all}
 use Rattle.std.proofs.lemmas.Bool.Decides.{nat_tests}
 use Rattle.std.proofs.Math.Nat.{div-eq_of_lt, add-div_right}
-use Rattle.tree_model.specs.Layouts.{index_size}
-use Rattle.tree_model.specs.Loads.{shared, index_over}
-use Rattle.tree_model.proofs.Tests.{fits_test, over_test, tests_fit}
+use Rattle.relative_file.specs.tree_model.Layouts.{index_size}
+use Rattle.relative_file.specs.tree_model.Loads.{shared, index_over}
+use Rattle.load_model.proofs.tree_model.Tests.{fits_test, over_test, tests_fit}
 use Rattle.load_model.proofs.Levels.{shares_few}
 use Rattle.records_model.specs.Placing.{filled_by}
 use Rattle.load_pages.specs.declared.records.KeyedRecord.{KeyedRecord}

@@ -6,7 +6,7 @@ use Rattle.file_base.specs.declared.head.FileHead.{FileHead}
 use Rattle.file_base.specs.Bytes.{piece_at}
 use Rattle.bucket_page.specs.Pages.{joined, key_in, suits, u16_at}
 use Rattle.bucket_page.proofs.PageLaws.{joined-append}
-use Rattle.indexed_file.specs.Chain.{kind_of}
+use Rattle.load_laws.specs.indexed_file.Chain.{kind_of}
 use Rattle.load_laws.specs.Chains.{raw_for, packed}
 use Rattle.load_laws.specs.Keys.{first_raw_key, lowest_keys, every}
 use Rattle.load_laws.proofs.ChainLemmas.{packed_fits, packed_over, packed_some}

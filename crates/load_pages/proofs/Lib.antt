@@ -4,3 +4,5 @@ pub mod CountLemmas
 pub mod KeyLemmas
 pub mod NodeFills
 pub mod TreeCounts
+pub mod load_laws
+pub mod relative_file

@@ -6,7 +6,7 @@ use Rattle.std.proofs.Math.Nat.{div-mul-le_self}
 use Rattle.file_base.specs.declared.head.FileHead.{FileHead}
 use Rattle.bucket_page.specs.Pages.{slots_of, next_of, no_next, joined, suits, all_suit, inserted, IsPacked, Packs}
 use Rattle.bucket_page.proofs.PageLaws.{both_true}
-use Rattle.index_model.specs.Indexes.{Entry}
+use Rattle.index_bucket.specs.index_model.Indexes.{Entry}
 use Rattle.load_model.specs.Nodes.{entries_by}
 use Rattle.load_model.proofs.Groups.{length_entries_by}
 use Rattle.index_bucket.specs.Entries.{index_kind, entry_of, entries_at}

@@ -4,20 +4,20 @@ use Rattle.file_base.specs.declared.head.FileHead.{FileHead}
 use Rattle.std.proofs.lemmas.List.{length-map}
 use Rattle.std.proofs.lemmas.Nat.{mul-le}
 use Rattle.vms_model.specs.Keys.{Key, Number, Text, End}
-use Rattle.record_files.specs.Any.{SuitsBy}
-use Rattle.tree_model.proofs.Tests.{fits_test}
+use Rattle.load_laws.specs.record_files.Any.{SuitsBy}
+use Rattle.load_model.proofs.tree_model.Tests.{fits_test}
 use Rattle.file_base.specs.declared.head.Organization.{Organization}
 use Rattle.file_base.specs.declared.head.Organization.TheVariants.{Sequential, Relative, Indexed}
 use Rattle.records_model.specs.Slots.{Slot}
 use Rattle.records_model.specs.Parts.{bytes_of}
 use Rattle.records_model.specs.Placing.{filled_by}
-use Rattle.tree_model.specs.Layouts.{used_of, index_size}
-use Rattle.tree_model.specs.Loads.{slot_for, filled, index_over}
-use Rattle.tree_model.proofs.PartsLemmas.{bytes-append}
-use Rattle.tree_model.proofs.BoundLemmas.{length_from}
+use Rattle.relative_file.specs.tree_model.Layouts.{used_of, index_size}
+use Rattle.relative_file.specs.tree_model.Loads.{slot_for, filled, index_over}
+use Rattle.load_model.proofs.tree_model.PartsLemmas.{bytes-append}
+use Rattle.load_model.proofs.tree_model.BoundLemmas.{length_from}
 use Rattle.index_bucket.specs.Entries.{sizes_of}
-use Rattle.seq_file.specs.Placing.{buckets_for}
-use Rattle.seq_file.specs.Records.{slot_sizes}
+use Rattle.load_laws.specs.seq_file.Placing.{buckets_for}
+use Rattle.load_laws.specs.seq_file.Records.{slot_sizes}
 use Rattle.load_laws.specs.Records.{texts_of, values_of}
 use Rattle.load_laws.specs.Loads.{AllSuitBy, loaded_tree, head_by, tree_head}
 use Rattle.load_pages.specs.declared.records.KeyedRecord.{KeyedRecord}

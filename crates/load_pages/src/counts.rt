@@ -2,9 +2,9 @@
 ghost use Rattle.std.specs.Prelude.{◌≡◌, ◌≤◌, ◌<◌, ◌+◌, ◌-◌, ◌*◌, ◌/◌, ℕ, List, length, map};
 ghost use Rattle.block_disk.specs.Sizes.{greatest_disk_size};
 ghost use Rattle.vms_model.specs.Limits.{key_limit, record_limit};
-ghost use Rattle.tree_model.specs.Layouts.{index_size};
-ghost use Rattle.tree_model.specs.Loads.{index_over};
-ghost use Rattle.seq_file.specs.Placing.{buckets_for};
+ghost use Rattle.relative_file.specs.tree_model.Layouts.{index_size};
+ghost use Rattle.relative_file.specs.tree_model.Loads.{index_over};
+ghost use Rattle.load_laws.specs.seq_file.Placing.{buckets_for};
 ghost use Rattle.load_pages.specs.Given.{keyed};
 ghost use Rattle.load_laws.specs.Loads.{AreLoadable, loaded_buckets, loaded_head, tree_head};
 ghost use Rattle.load_pages.specs.Counts.{AllTell, sizes_behind};

@@ -2,7 +2,7 @@
 ghost use Rattle.std.specs.Prelude.{◌≡◌, ◌≤◌, ◌<◌, ◌+◌, ◌-◌, ◌*◌, ◌++◌, ◌∷◌, [], ℕ, List, length, map, IfOk, replicate};
 ghost use Rattle.vms_model.specs.Limits.{key_limit, record_limit};
 ghost use Rattle.file_base.specs.Bytes.{piece_at};
-ghost use Rattle.indexed_file.specs.Chain.{HasKeys, kind_of};
+ghost use Rattle.load_laws.specs.indexed_file.Chain.{HasKeys, kind_of};
 ghost use Rattle.load_laws.specs.Chains.{packed};
 ghost use Rattle.load_pages.specs.Given.{raw_of, AllRaw};
 ghost use Rattle.load_laws.specs.Keys.{lowest_keys};

@@ -6,8 +6,8 @@ use Rattle.std.proofs.lemmas.List.{drop_more, drop_all, take_all, length-map}
 use Rattle.file_base.specs.declared.head.FileHead.{FileHead}
 use Rattle.vms_model.specs.Keys.{Key, Number}
 use Rattle.records_model.specs.Records.{key_cmp}
-use Rattle.load_laws.specs.Records.{Keyed}
-use Rattle.load_laws.specs.Loads.{AllSuitBy, AreNumbered}
+use Rattle.load_pages.specs.load_laws.Records.{Keyed}
+use Rattle.load_pages.specs.load_laws.Loads.{AllSuitBy, AreNumbered}
 use Rattle.load_pages.specs.declared.records.KeyedRecord.{KeyedRecord}
 use Rattle.load_pages.specs.Given.{keyed}
 use Rattle.load_pages.proofs.CellFills.{keyed_at}

@@ -6,7 +6,7 @@ ghost use Rattle.std.specs.FinMap.Entries.{is_sorted, below_all};
 ghost use Rattle.vms_model.specs.Keys.{Number};
 ghost use Rattle.vms_base.specs.Keys.{key_of};
 ghost use Rattle.records_model.specs.Records.{key_cmp};
-ghost use Rattle.load_laws.specs.Loads.{AreLoadable, AllSuitBy, AreNumbered, NumberedBy, HeadBy};
+ghost use Rattle.load_pages.specs.load_laws.Loads.{AreLoadable, AllSuitBy, AreNumbered, NumberedBy, HeadBy};
 ghost use Rattle.load_pages.specs.Counts.{AllTell};
 ghost use Rattle.load_pages.specs.Given.{keyed};
 

@@ -4,7 +4,7 @@ use Rattle.std.proofs.Common.{◌≡◌, Bool, true, false, List, [], ◌∷◌,
 use Rattle.commit_protocol.specs.Messages.{LogRecord}
 use Rattle.commit_protocol.specs.Table.{Act, Key, Notes, Accepts, Prepares, Settles, Leaves, Acknowledges, Releases, Undoes, Sends, Prints, records_after, waits_for, holds, acknowledged, released, nothing_left}
 use Rattle.commit_protocol.specs.Effects.{Effect, KeepEffect, ForgetEffect, record_effects, acknowledge_effects, release_effects, act_effects, effects_of}
-use Rattle.vms_model.specs.Ids.{Id}
+use Rattle.commit_protocol.specs.vms_model.Ids.{Id}
 use Rattle.commit_protocol.specs.Messages.{Name}
 use Rattle.log_laws.specs.Handing.{HandsOn}
 

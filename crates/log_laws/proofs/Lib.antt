@@ -3,3 +3,4 @@ pub mod Slotting
 pub mod RowSlots
 pub mod Reading
 pub mod Counting
+pub mod commit_protocol

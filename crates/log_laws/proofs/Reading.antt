@@ -2,7 +2,7 @@
 -- by the same slots.
 use Rattle.std.specs.Prelude.{if◌then◌else◌}
 use Rattle.std.proofs.Common.{◌≡◌, List, [], ◌∷◌, ◌++◌, ◌⊎◌, inl, inr, refl, ap, sym, subst, ◌∙◌}
-use Rattle.vms_model.specs.Ids.{Id}
+use Rattle.commit_protocol.specs.vms_model.Ids.{Id}
 use Rattle.commit_protocol.specs.Messages.{Name, LogRecord, RecordKind, PreparedRecord, CommittedRecord}
 use Rattle.commit_protocol.specs.Table.{Key, Branch, State, Joining, Active, Ending, Voting, Prepared, Tm, holding, managers_of, prepared_record, prepared_state, prepared_records, record_serials, branch_serials, branch_of, branches_of, restarted}
 use Rattle.commit_protocol.specs.World.{In}

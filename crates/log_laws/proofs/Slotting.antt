@@ -1,8 +1,8 @@
 -- The slots of the log tell the table, act by act.
 use Rattle.std.specs.Prelude.{if◌then◌else◌}
 use Rattle.std.proofs.Common.{◌≡◌, ◌≢◌, Bool, true, false, List, [], ◌∷◌, Some, None, ◌⊎◌, inl, inr, refl, ap, sym, subst, ◌∙◌}
-use Rattle.vms_model.specs.Ids.{Id}
-use Rattle.vms_model.specs.Transactions.{Outcome, Reason}
+use Rattle.commit_protocol.specs.vms_model.Ids.{Id}
+use Rattle.commit_protocol.specs.vms_model.Transactions.{Outcome, Reason}
 use Rattle.commit_protocol.specs.Messages.{Name, LogRecord}
 use Rattle.commit_protocol.specs.Table.{Key, Branch, State, Joining, Active, Ending, Voting, Prepared, Tm, Act, Notes, Accepts, Prepares, Settles, Leaves, Acknowledges, Releases, Undoes, Sends, Prints, find, put, cut, prepared_record, prepared_state, prepared_records, branch_serials, record_serials, waits_for, holds, acknowledged, released, nothing_left, keep_record, acknowledge, release, after_act}
 use Rattle.commit_protocol.specs.Allowed.{is_prepared}

@@ -1,7 +1,7 @@
 -- The slots of a node's log, what each act of its table makes of them, and that they tell the records of the table.
 use Rattle.std.specs.Prelude.{◌≡◌, ℕ, ◌+◌, length, Bool, true, false, List, [], ◌∷◌, Option, Some, None, ◌⊎◌, if◌then◌else◌, map, slice_index_or}
 use Rattle.std.specs.List.{list_any}
-use Rattle.vms_model.specs.Ids.{Id}
+use Rattle.commit_protocol.specs.vms_model.Ids.{Id}
 use Rattle.commit_protocol.specs.Messages.{Name, LogRecord, RecordKind, PreparedRecord, CommittedRecord, same_name, same_id}
 use Rattle.commit_protocol.specs.Table.{Tm, Act, Prepares, Settles, Acknowledges, Releases, first, child, find, prepared_record, prepared_records, record_serials, after_act}
 use Rattle.commit_protocol.specs.Rows.{Event, Start, Begin}

@@ -4,9 +4,9 @@ use Rattle.std.specs.Prelude.{length, nat_lt}
 use Rattle.vms_model.specs.Ids.{Id}
 use Rattle.vms_model.specs.Transactions.{SyncFail}
 use Rattle.vms_model.specs.Limits.{message_limit}
-use Rattle.transcript_model.specs.Lines as line
-use Rattle.transcript_model.specs.Lines.{Line}
-use Rattle.script_model.specs.Statements.{At, EndTrans}
+use Rattle.world_laws.specs.transcript_model.Lines as line
+use Rattle.world_laws.specs.transcript_model.Lines.{Line}
+use Rattle.world_laws.specs.script_model.Statements.{At, EndTrans}
 use Rattle.commit_protocol.specs.Messages as message
 use Rattle.commit_protocol.specs.Messages.{Message, Name, OnePhaseEvent, PrepareEvent, RmEvent}
 use Rattle.commit_protocol.specs.Table as table
@@ -15,10 +15,10 @@ use Rattle.commit_protocol.specs.Rows as rows
 use Rattle.commit_protocol.specs.Rows.{all_replied, all_voted, asks, begins_ending, commits_if_all, ending, joined, sends_all, tells, to_each, which_event}
 use Rattle.commit_protocol.specs.World.{In}
 use Rattle.commit_protocol.proofs.Lists.{in_left, in_right}
-use Rattle.run_model.specs.World.{Node, Shared, Tables, acted, next_moment, shared_after}
-use Rattle.run_model.specs.Answers as answers
-use Rattle.run_model.specs.Answers.{Row, branch_labelled, is_declared, just, service, table_rows, told_rows}
-use Rattle.run_model.specs.Steps.{lines_of_rows}
+use Rattle.world_laws.specs.run_model.World.{Node, Shared, Tables, acted, next_moment, shared_after}
+use Rattle.world_laws.specs.run_model.Answers as answers
+use Rattle.world_laws.specs.run_model.Answers.{Row, branch_labelled, is_declared, just, service, table_rows, told_rows}
+use Rattle.world_laws.specs.run_model.Steps.{lines_of_rows}
 use Rattle.run_laws.proofs.Ending.{active_is, active_unprepared, done, end_lists, end_row, ends_waiting, row_is, standing}
 use Rattle.run_laws.proofs.Labelling.{label_of, served_up}
 use Rattle.manager_laws.specs.Asking.{IsAsked, PendingAskedHold}

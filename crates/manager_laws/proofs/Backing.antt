@@ -6,10 +6,10 @@ use Rattle.std.proofs.lemmas.Bool.{both_ways}
 use Rattle.vms_model.specs.Ids.{Id}
 use Rattle.vms_model.specs.Transactions as settles
 use Rattle.vms_model.specs.Transactions.{Aborted, Reason}
-use Rattle.transcript_model.specs.Lines as line
-use Rattle.transcript_model.specs.Lines.{Line}
-use Rattle.script_model.specs.Statements.{At, Init, Reading, Says, Request, Boot, StartTrans, StartBranch, DeclareRm, JoinRm, AckEvent, ForgetRm}
-use Rattle.script_model.specs.Grammar.{reading}
+use Rattle.world_laws.specs.transcript_model.Lines as line
+use Rattle.world_laws.specs.transcript_model.Lines.{Line}
+use Rattle.world_laws.specs.script_model.Statements.{At, Init, Reading, Says, Request, Boot, StartTrans, StartBranch, DeclareRm, JoinRm, AckEvent, ForgetRm}
+use Rattle.world_laws.specs.script_model.Grammar.{reading}
 use Rattle.unit_laws.specs.Units.{Map}
 use Rattle.commit_protocol.specs.Messages as message
 use Rattle.commit_protocol.specs.Messages.{LogRecord, Message, Name, same_name}
@@ -18,19 +18,19 @@ use Rattle.commit_protocol.specs.Table.{Branch, Key as BranchKey, acknowledge, a
 use Rattle.commit_protocol.specs.Table.{released as record_released}
 use Rattle.commit_protocol.specs.World.{In}
 use Rattle.commit_protocol.proofs.Lists.{in_parts}
-use Rattle.log_laws.specs.Slots.{committed_of, records_in}
-use Rattle.log_laws.proofs.Reading.{is_committed_one}
-use Rattle.run_model.specs.World as world
-use Rattle.run_model.specs.World.{Act, DiskCounts, Durable, IsOpening, MayTurnOut, Node, Outturn, Settlement, Shared, Tables, World, aborted_prepared, acted, find_node, next_moment, opened, powered, settlement_of, settled_more, with_half}
-use Rattle.run_model.specs.Answers.{Hears, Restarts, Row, Serves, Takes, Task, powers, refused_before_reading, service, task_service}
-use Rattle.run_model.specs.Statements.{RoseAt, Step, stops_at}
-use Rattle.run_model.specs.StepLaws.{is_refusal}
-use Rattle.run_model.specs.Steps.{Choice, Cut, TaskAllowed, TaskEffect, Unpowered, Whole, WithoutMemory, node_after, ready_node, task_effect, whole, with_unknown_volume}
-use Rattle.run_model.specs.Transcript.{AreOpening, Entry, Legal, Turn}
-use Rattle.run_model.proofs.CauseLemmas.{refuses_first}
-use Rattle.run_model.proofs.NodeLists.{put_node, some_is}
-use Rattle.run_model.proofs.Refusing.{same_last}
-use Rattle.run_model.proofs.TaskLemmas.{effect_name}
+use Rattle.world_laws.specs.log_laws.Slots.{committed_of, records_in}
+use Rattle.world_laws.proofs.log_laws.Reading.{is_committed_one}
+use Rattle.world_laws.specs.run_model.World as world
+use Rattle.world_laws.specs.run_model.World.{Act, DiskCounts, Durable, IsOpening, MayTurnOut, Node, Outturn, Settlement, Shared, Tables, World, aborted_prepared, acted, find_node, next_moment, opened, powered, settlement_of, settled_more, with_half}
+use Rattle.world_laws.specs.run_model.Answers.{Hears, Restarts, Row, Serves, Takes, Task, powers, refused_before_reading, service, task_service}
+use Rattle.world_laws.specs.run_model.Statements.{RoseAt, Step, stops_at}
+use Rattle.world_laws.specs.run_model.StepLaws.{is_refusal}
+use Rattle.world_laws.specs.run_model.Steps.{Choice, Cut, TaskAllowed, TaskEffect, Unpowered, Whole, WithoutMemory, node_after, ready_node, task_effect, whole, with_unknown_volume}
+use Rattle.world_laws.specs.run_model.Transcript.{AreOpening, Entry, Legal, Turn}
+use Rattle.world_laws.proofs.run_model.CauseLemmas.{refuses_first}
+use Rattle.world_laws.proofs.run_model.NodeLists.{put_node, some_is}
+use Rattle.world_laws.proofs.run_model.Refusing.{same_last}
+use Rattle.world_laws.proofs.run_model.TaskLemmas.{effect_name}
 use Rattle.world_laws.specs.Nodes.{IsUp}
 use Rattle.world_laws.proofs.WorldLemmas.{each_opening}
 use Rattle.run_laws.specs.Accounts.{made_anew}
@@ -198,8 +198,8 @@ module _ (tid serial : Id) (rm : Name) where
       spoils = λ a n h. h;
       boots = λ a n k h. h;
       booting = λ a n k h. h;
-      undoes = λ a n u next h. λ waits. more_settled (Some (world.settlement (Rattle.run_model.specs.Answers.unit_key u) settles.Abort settles.SegFail (next_moment n))) n.settled (h waits);
-      undoing = λ a n u next h. λ waits. more_settled (Some (world.settlement (Rattle.run_model.specs.Answers.unit_key u) settles.Abort settles.SegFail (next_moment n))) n.settled (h waits);
+      undoes = λ a n u next h. λ waits. more_settled (Some (world.settlement (Rattle.world_laws.specs.run_model.Answers.unit_key u) settles.Abort settles.SegFail (next_moment n))) n.settled (h waits);
+      undoing = λ a n u next h. λ waits. more_settled (Some (world.settlement (Rattle.world_laws.specs.run_model.Answers.unit_key u) settles.Abort settles.SegFail (next_moment n))) n.settled (h waits);
       rests = λ a n k h. h;
       none_ready = λ n e. tt;
       same_ready = λ n m e h. tt;

@@ -6,9 +6,9 @@ use Rattle.commit_protocol.specs.Messages.{Name}
 use Rattle.commit_protocol.specs.Table as table
 use Rattle.commit_protocol.specs.Table.{Branch, Prepared, table_after}
 use Rattle.commit_protocol.specs.World.{In}
-use Rattle.run_model.specs.World as world
-use Rattle.run_model.specs.World.{Act, Node, Tables, with_changed}
-use Rattle.run_model.specs.Steps.{node_after}
+use Rattle.world_laws.specs.run_model.World as world
+use Rattle.world_laws.specs.run_model.World.{Act, Node, Tables, with_changed}
+use Rattle.world_laws.specs.run_model.Steps.{node_after}
 use Rattle.run_laws.proofs.Moving.{in_cut, in_put}
 use Rattle.manager_laws.proofs.Taking.{HoldsIn, IsSteady}
 use Rattle.manager_laws.proofs.TasksTake.{AllSo, RowHolds}

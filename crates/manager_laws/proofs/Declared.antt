@@ -4,9 +4,9 @@ use Rattle.std.specs.List.{list_any}
 use Rattle.std.specs.Prelude.{is_some}
 use Rattle.std.proofs.lemmas.Bool.{both_ways}
 use Rattle.vms_model.specs.Ids.{Id}
-use Rattle.transcript_model.specs.Lines as line
-use Rattle.transcript_model.specs.Lines.{Line, Cause}
-use Rattle.script_model.specs.Statements.{Request, Init, Boot, StartTrans, StartBranch, DeclareRm, JoinRm, AckEvent, ForgetRm, Fuse, Clock}
+use Rattle.world_laws.specs.transcript_model.Lines as line
+use Rattle.world_laws.specs.transcript_model.Lines.{Line, Cause}
+use Rattle.world_laws.specs.script_model.Statements.{Request, Init, Boot, StartTrans, StartBranch, DeclareRm, JoinRm, AckEvent, ForgetRm, Fuse, Clock}
 use Rattle.records_model.specs.History.{same_id}
 use Rattle.commit_protocol.specs.Messages as message
 use Rattle.commit_protocol.specs.Messages.{LogRecord, Message, Name, Reply, RmEvent, same_name}
@@ -16,14 +16,14 @@ use Rattle.commit_protocol.specs.Rows.{asks, note_reply, with_manager, with_repl
 use Rattle.commit_protocol.specs.Allowed.{is_prepared}
 use Rattle.commit_protocol.specs.World.{In, undo_all}
 use Rattle.commit_protocol.proofs.Lists.{in_parts, same_name-eq, same_name-ne, same_name-true}
-use Rattle.run_model.specs.World as world
-use Rattle.run_model.specs.World.{Act, IsOpening, Node, Shared, Tables, acted, next_id, next_moment, powered, prepared_left, shared_after, with_changed}
-use Rattle.run_model.specs.Operations.{refused_if}
-use Rattle.run_model.specs.Answers as answers
-use Rattle.run_model.specs.Answers.{Hears, LosesLink, Restarts, Row, RunsDown, Serves, Service, Takes, Task, Ticks, boot_rows, has_joined, is_declared, left_active, powers, refused_before_reading, service, table_rows, task_service, unit_key}
-use Rattle.run_model.specs.Steps.{Choice, TaskAllowed, TaskEffect, node_after, node_after_rows, ready_node, succeeded, task_effect, with_unknown_volume}
-use Rattle.run_model.proofs.TaskLemmas.{Failing, First, Lacking, Late, Outcome, Success, outcome}
-use Rattle.run_model.proofs.Refusing.{not_ready}
+use Rattle.world_laws.specs.run_model.World as world
+use Rattle.world_laws.specs.run_model.World.{Act, IsOpening, Node, Shared, Tables, acted, next_id, next_moment, powered, prepared_left, shared_after, with_changed}
+use Rattle.world_laws.specs.run_model.Operations.{refused_if}
+use Rattle.world_laws.specs.run_model.Answers as answers
+use Rattle.world_laws.specs.run_model.Answers.{Hears, LosesLink, Restarts, Row, RunsDown, Serves, Service, Takes, Task, Ticks, boot_rows, has_joined, is_declared, left_active, powers, refused_before_reading, service, table_rows, task_service, unit_key}
+use Rattle.world_laws.specs.run_model.Steps.{Choice, TaskAllowed, TaskEffect, node_after, node_after_rows, ready_node, succeeded, task_effect, with_unknown_volume}
+use Rattle.world_laws.proofs.run_model.TaskLemmas.{Failing, First, Lacking, Late, Outcome, Success, outcome}
+use Rattle.world_laws.proofs.run_model.Refusing.{not_ready}
 use Rattle.world_laws.specs.Nodes.{IsKeptNode}
 use Rattle.world_laws.proofs.AnswerLemmas.{neither, not_refused}
 use Rattle.world_laws.proofs.BootLemmas.{branch_in}

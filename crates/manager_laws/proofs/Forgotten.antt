@@ -5,10 +5,10 @@ use Rattle.std.proofs.lemmas.Bool.{both_ways}
 use Rattle.std.specs.Str.{bytes_eq}
 use Rattle.std.proofs.lemmas.Slice.Eq.{bytes_eq-Decides}
 use Rattle.vms_model.specs.Ids.{Id}
-use Rattle.transcript_model.specs.Lines as line
-use Rattle.transcript_model.specs.Lines.{Line, Cause}
-use Rattle.script_model.specs.Statements.{At, Request, Init, JoinRm, AckEvent, Named as SaidName, Reading, Says, Blank, Bad}
-use Rattle.script_model.specs.Grammar.{reading}
+use Rattle.world_laws.specs.transcript_model.Lines as line
+use Rattle.world_laws.specs.transcript_model.Lines.{Line, Cause}
+use Rattle.world_laws.specs.script_model.Statements.{At, Request, Init, JoinRm, AckEvent, Named as SaidName, Reading, Says, Blank, Bad}
+use Rattle.world_laws.specs.script_model.Grammar.{reading}
 use Rattle.records_model.specs.History.{same_id}
 use Rattle.commit_protocol.specs.Messages.{ForgetReply, Name, NormalReply, PreparedReply, RememberReply, Reply, VetoReply, same_name}
 use Rattle.commit_protocol.specs.Table.{Active, Branch, Key as BranchKey, Manager, child}
@@ -16,13 +16,13 @@ use Rattle.commit_protocol.specs.Rows.{is_forget}
 use Rattle.commit_protocol.specs.Allowed.{is_prepared}
 use Rattle.commit_protocol.specs.World.{In}
 use Rattle.commit_protocol.proofs.Lists.{in_right, same_name-true}
-use Rattle.run_model.specs.World.{DiskCounts, Node, Shared, World, find_branch, find_node, opened}
-use Rattle.run_model.specs.Answers.{Serves, refused_before_reading, serial_named, service}
-use Rattle.run_model.specs.Statements.{RoseAt, Step, stops_at}
-use Rattle.run_model.specs.Steps.{Choice, TaskAllowed, TaskEffect, task_effect}
-use Rattle.run_model.specs.Transcript.{AreOpening, Entry, Legal, Turn}
-use Rattle.run_model.proofs.NodeLists.{some_is}
-use Rattle.run_model.proofs.TaskLemmas.{Failing, First, Lacking, Late, Outcome, Success, outcome}
+use Rattle.world_laws.specs.run_model.World.{DiskCounts, Node, Shared, World, find_branch, find_node, opened}
+use Rattle.world_laws.specs.run_model.Answers.{Serves, refused_before_reading, serial_named, service}
+use Rattle.world_laws.specs.run_model.Statements.{RoseAt, Step, stops_at}
+use Rattle.world_laws.specs.run_model.Steps.{Choice, TaskAllowed, TaskEffect, task_effect}
+use Rattle.world_laws.specs.run_model.Transcript.{AreOpening, Entry, Legal, Turn}
+use Rattle.world_laws.proofs.run_model.NodeLists.{some_is}
+use Rattle.world_laws.proofs.run_model.TaskLemmas.{Failing, First, Lacking, Late, Outcome, Success, outcome}
 use Rattle.world_laws.specs.Nodes.{IsKeptNode}
 use Rattle.world_laws.specs.Running.{IsDrawn}
 use Rattle.world_laws.proofs.IdLemmas.{id_is, id_itself}

@@ -4,27 +4,27 @@ use Rattle.std.specs.Str.{bytes_eq}
 use Rattle.std.proofs.lemmas.Bool.{both_ways}
 use Rattle.std.proofs.lemmas.Slice.Eq.{bytes_eq-Decides}
 use Rattle.vms_model.specs.Ids.{Id}
-use Rattle.transcript_model.specs.Lines as line
-use Rattle.transcript_model.specs.Lines.{Line, Cause}
-use Rattle.script_model.specs.Statements.{Statement, At, Deliver, LinkDown, Settle, Request, DeclareRm, JoinRm, Clock, Reading, Blank, Says, Bad}
+use Rattle.world_laws.specs.transcript_model.Lines as line
+use Rattle.world_laws.specs.transcript_model.Lines.{Line, Cause}
+use Rattle.world_laws.specs.script_model.Statements.{Statement, At, Deliver, LinkDown, Settle, Request, DeclareRm, JoinRm, Clock, Reading, Blank, Says, Bad}
 use Rattle.commit_protocol.specs.Messages.{LogRecord, Message, Name, RmEvent}
 use Rattle.commit_protocol.specs.Table as table
 use Rattle.commit_protocol.specs.Table.{Branch, Key as BranchKey, Prints, branch_serials, record_serials}
 use Rattle.commit_protocol.specs.World.{In}
 use Rattle.commit_protocol.proofs.Lists.{in_left, in_parts, in_right}
 use Rattle.commit_protocol.proofs.Serials.{in_serial}
-use Rattle.log_laws.specs.Slots.{records_in}
-use Rattle.log_laws.proofs.Reading.{committed_is}
-use Rattle.run_model.specs.World.{DiskCounts, Node, Shared, Tables, World, find_node, opened}
-use Rattle.run_model.specs.Answers as answers
-use Rattle.run_model.specs.Answers.{LosesLink, Row, Serves, Takes, Task, Ticks, service, task_service}
-use Rattle.run_model.specs.Steps.{Choice, TaskAllowed, lines_of_rows, task_effect}
-use Rattle.run_model.specs.Statements.{Allowed, Begins, Does, Part, PartEffect, Phase, Phases, RoseAt, Step, begun_with, message_at, part_effect, phases_of, refused_at_once, stops_at}
-use Rattle.run_model.specs.Transcript.{Legal, Turn}
-use Rattle.run_model.proofs.NodeLists.{found_name}
-use Rattle.run_model.proofs.PartLemmas.{EachPart, EachPhase}
-use Rattle.run_model.proofs.PartTasks.{Doing, Fixed, View, all_asked, each_restart, each_run_down, each_up, view}
-use Rattle.run_model.proofs.Refusing.{same_last}
+use Rattle.world_laws.specs.log_laws.Slots.{records_in}
+use Rattle.world_laws.proofs.log_laws.Reading.{committed_is}
+use Rattle.world_laws.specs.run_model.World.{DiskCounts, Node, Shared, Tables, World, find_node, opened}
+use Rattle.world_laws.specs.run_model.Answers as answers
+use Rattle.world_laws.specs.run_model.Answers.{LosesLink, Row, Serves, Takes, Task, Ticks, service, task_service}
+use Rattle.world_laws.specs.run_model.Steps.{Choice, TaskAllowed, lines_of_rows, task_effect}
+use Rattle.world_laws.specs.run_model.Statements.{Allowed, Begins, Does, Part, PartEffect, Phase, Phases, RoseAt, Step, begun_with, message_at, part_effect, phases_of, refused_at_once, stops_at}
+use Rattle.world_laws.specs.run_model.Transcript.{Legal, Turn}
+use Rattle.world_laws.proofs.run_model.NodeLists.{found_name}
+use Rattle.world_laws.proofs.run_model.PartLemmas.{EachPart, EachPhase}
+use Rattle.world_laws.proofs.run_model.PartTasks.{Doing, Fixed, View, all_asked, each_restart, each_run_down, each_up, view}
+use Rattle.world_laws.proofs.run_model.Refusing.{same_last}
 use Rattle.world_laws.specs.Nodes.{IsUp}
 use Rattle.world_laws.proofs.TableLemmas.{in_serials}
 use Rattle.run_laws.proofs.Deciding.{split_legal}
@@ -36,7 +36,7 @@ use Rattle.run_laws.proofs.Walking.{phases_walk, sighted, walk_keeps}
 use Rattle.commit_protocol.specs.Table.{Active, State, find_serial}
 use Rattle.commit_protocol.specs.Rows as rows
 use Rattle.commit_protocol.specs.Rows.{note_row, note_state, with_manager}
-use Rattle.run_model.specs.Answers.{branch_labelled, just, table_rows, told_rows}
+use Rattle.world_laws.specs.run_model.Answers.{branch_labelled, just, table_rows, told_rows}
 use Rattle.manager_laws.specs.Members.{EventsOfMembersHold, IsMember}
 use Rattle.manager_laws.proofs.Members.{AnyNames, Has, Joins, Kind, Plain, has_steady, has_tracks, joins_it, kind, legal_members, members, members_keeps, task_has}
 use Rattle.manager_laws.proofs.Taking.{HoldsIn}

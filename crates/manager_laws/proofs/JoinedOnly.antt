@@ -4,10 +4,10 @@ use Rattle.std.specs.Str.{bytes_eq}
 use Rattle.std.proofs.lemmas.Bool.{both_ways}
 use Rattle.std.proofs.lemmas.Slice.Eq.{bytes_eq-Decides}
 use Rattle.vms_model.specs.Ids.{Id}
-use Rattle.transcript_model.specs.Lines as line
-use Rattle.transcript_model.specs.Lines.{Line, Cause}
-use Rattle.script_model.specs.Statements.{At, Request, Boot, StartTrans, StartBranch, JoinRm, AckEvent, DeclareRm, ForgetRm, Reading, Says}
-use Rattle.script_model.specs.Grammar.{reading}
+use Rattle.world_laws.specs.transcript_model.Lines as line
+use Rattle.world_laws.specs.transcript_model.Lines.{Line, Cause}
+use Rattle.world_laws.specs.script_model.Statements.{At, Request, Boot, StartTrans, StartBranch, JoinRm, AckEvent, DeclareRm, ForgetRm, Reading, Says}
+use Rattle.world_laws.specs.script_model.Grammar.{reading}
 use Rattle.commit_protocol.specs.Messages as message
 use Rattle.commit_protocol.specs.Messages.{Message, Name, Reply}
 use Rattle.commit_protocol.specs.Table.{Active, Branch, Key as BranchKey, Manager}
@@ -15,12 +15,12 @@ use Rattle.commit_protocol.specs.Rows.{with_manager, with_reply}
 use Rattle.commit_protocol.specs.Allowed.{is_prepared}
 use Rattle.commit_protocol.specs.World.{In}
 use Rattle.commit_protocol.proofs.Lists.{in_parts}
-use Rattle.run_model.specs.World.{DiskCounts, IsOpening, Node, Shared, World, find_node, opened}
-use Rattle.run_model.specs.Answers.{Hears, Restarts, Row, Serves, Takes, Task, branch_labelled, powers, service, task_service, unit_key}
-use Rattle.run_model.specs.Statements.{RoseAt, Step, stops_at}
-use Rattle.run_model.specs.Steps.{Choice, TaskAllowed, TaskEffect, task_effect}
-use Rattle.run_model.specs.Transcript.{AreOpening, Entry, Legal, Turn}
-use Rattle.run_model.proofs.TaskLemmas.{Failing, First, Lacking, Late, Outcome, Success, outcome}
+use Rattle.world_laws.specs.run_model.World.{DiskCounts, IsOpening, Node, Shared, World, find_node, opened}
+use Rattle.world_laws.specs.run_model.Answers.{Hears, Restarts, Row, Serves, Takes, Task, branch_labelled, powers, service, task_service, unit_key}
+use Rattle.world_laws.specs.run_model.Statements.{RoseAt, Step, stops_at}
+use Rattle.world_laws.specs.run_model.Steps.{Choice, TaskAllowed, TaskEffect, task_effect}
+use Rattle.world_laws.specs.run_model.Transcript.{AreOpening, Entry, Legal, Turn}
+use Rattle.world_laws.proofs.run_model.TaskLemmas.{Failing, First, Lacking, Late, Outcome, Success, outcome}
 use Rattle.world_laws.specs.Nodes.{IsUp}
 use Rattle.world_laws.proofs.BootLemmas.{branch_in}
 use Rattle.world_laws.proofs.TableLemmas.{one_branch}
@@ -93,7 +93,7 @@ module _ (X : Id → Id → Name → Type 0) where
     weaken = λ free a n h. h;
     half = λ a n standing k ready may h. tt;
     spoils = λ a n h. tt;
-    boots = λ a n k h b i p. let r = branch_in (Rattle.run_model.specs.World.prepared_left n.durable) b i in absurd (both_ways (is_prepared b.state) p (ap (λ (x : Branch). is_prepared x.state) r.2));
+    boots = λ a n k h b i p. let r = branch_in (Rattle.world_laws.specs.run_model.World.prepared_left n.durable) b i in absurd (both_ways (is_prepared b.state) p (ap (λ (x : Branch). is_prepared x.state) r.2));
     booting = λ a n k h. tt;
     undoes = λ a n u next h b i. h b (in_cut (unit_key u) b n.volatile.branches i);
     undoing = λ a n u next h. tt;

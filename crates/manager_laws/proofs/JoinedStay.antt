@@ -4,10 +4,10 @@ use Rattle.std.specs.Str.{bytes_eq}
 use Rattle.std.proofs.lemmas.Bool.{both_ways}
 use Rattle.std.proofs.lemmas.Slice.Eq.{bytes_eq-Decides}
 use Rattle.vms_model.specs.Ids.{Id}
-use Rattle.transcript_model.specs.Lines as line
-use Rattle.transcript_model.specs.Lines.{Line, Cause}
-use Rattle.script_model.specs.Statements.{At, Request, Init, Boot, StartTrans, StartBranch, JoinRm, AckEvent, DeclareRm, ForgetRm, Reading, Says}
-use Rattle.script_model.specs.Grammar.{reading}
+use Rattle.world_laws.specs.transcript_model.Lines as line
+use Rattle.world_laws.specs.transcript_model.Lines.{Line, Cause}
+use Rattle.world_laws.specs.script_model.Statements.{At, Request, Init, Boot, StartTrans, StartBranch, JoinRm, AckEvent, DeclareRm, ForgetRm, Reading, Says}
+use Rattle.world_laws.specs.script_model.Grammar.{reading}
 use Rattle.unit_laws.specs.Units.{Map}
 use Rattle.commit_protocol.specs.Messages as message
 use Rattle.commit_protocol.specs.Messages.{Message, Name, Reply, RmEvent, same_name}
@@ -17,14 +17,14 @@ use Rattle.commit_protocol.specs.Rows as rows
 use Rattle.commit_protocol.specs.Rows.{asks, joined, note_reply, with_manager, with_reply}
 use Rattle.commit_protocol.specs.Allowed.{is_prepared}
 use Rattle.commit_protocol.specs.World.{In}
-use Rattle.run_model.specs.World as world
-use Rattle.run_model.specs.World.{Act, DiskCounts, Durable, Node, Settlement, Shared, Tables, World, acted, aborted_prepared, find_node, next_id, opened, prepared_left, settlement_of, with_half}
-use Rattle.run_model.specs.Answers as answers
-use Rattle.run_model.specs.Answers.{Hears, Restarts, Row, Serves, Takes, Task, powers, service, task_service, unit_key}
-use Rattle.run_model.specs.Statements.{Step}
-use Rattle.run_model.specs.Steps.{Choice, TaskAllowed, node_after, task_effect}
-use Rattle.run_model.specs.Transcript.{AreOpening, Entry, Legal, Turn}
-use Rattle.run_model.proofs.NodeLists.{some_is}
+use Rattle.world_laws.specs.run_model.World as world
+use Rattle.world_laws.specs.run_model.World.{Act, DiskCounts, Durable, Node, Settlement, Shared, Tables, World, acted, aborted_prepared, find_node, next_id, opened, prepared_left, settlement_of, with_half}
+use Rattle.world_laws.specs.run_model.Answers as answers
+use Rattle.world_laws.specs.run_model.Answers.{Hears, Restarts, Row, Serves, Takes, Task, powers, service, task_service, unit_key}
+use Rattle.world_laws.specs.run_model.Statements.{Step}
+use Rattle.world_laws.specs.run_model.Steps.{Choice, TaskAllowed, node_after, task_effect}
+use Rattle.world_laws.specs.run_model.Transcript.{AreOpening, Entry, Legal, Turn}
+use Rattle.world_laws.proofs.run_model.NodeLists.{some_is}
 use Rattle.world_laws.specs.Nodes.{IsOf}
 use Rattle.world_laws.specs.Running.{IsDrawn}
 use Rattle.world_laws.proofs.BootLemmas.{branch_in}

@@ -6,10 +6,10 @@ use Rattle.std.proofs.lemmas.Bool.{both_ways}
 use Rattle.std.proofs.lemmas.Slice.Eq.{bytes_eq-Decides}
 use Rattle.vms_model.specs.Ids.{Id}
 use Rattle.vms_model.specs.Transactions as settles
-use Rattle.transcript_model.specs.Lines as line
-use Rattle.transcript_model.specs.Lines.{Line, Cause}
-use Rattle.script_model.specs.Statements.{At, Request, Init, Boot, StartTrans, StartBranch, JoinRm, AckEvent, DeclareRm, ForgetRm, Reading, Says}
-use Rattle.script_model.specs.Grammar.{reading}
+use Rattle.world_laws.specs.transcript_model.Lines as line
+use Rattle.world_laws.specs.transcript_model.Lines.{Line, Cause}
+use Rattle.world_laws.specs.script_model.Statements.{At, Request, Init, Boot, StartTrans, StartBranch, JoinRm, AckEvent, DeclareRm, ForgetRm, Reading, Says}
+use Rattle.world_laws.specs.script_model.Grammar.{reading}
 use Rattle.unit_laws.specs.Units.{Map}
 use Rattle.commit_protocol.specs.Messages as message
 use Rattle.commit_protocol.specs.Messages.{LogRecord, Message, Name, Reply, same_name}
@@ -18,14 +18,14 @@ use Rattle.commit_protocol.specs.Table.{Active, Branch, Key as BranchKey, Manage
 use Rattle.commit_protocol.specs.Rows.{joined, with_manager, with_reply}
 use Rattle.commit_protocol.specs.World.{In}
 use Rattle.commit_protocol.proofs.Lists.{in_parts, same_name-true}
-use Rattle.log_laws.specs.Slots.{prepared_of, records_in}
-use Rattle.log_laws.proofs.Reading.{prepared_is}
-use Rattle.run_model.specs.World as world
-use Rattle.run_model.specs.World.{Act, DiskCounts, Durable, IsOpening, Node, Shared, Tables, World, aborted_prepared, acted, find_node, opened, prepared_left, with_half}
-use Rattle.run_model.specs.Answers.{Hears, Restarts, Row, Serves, Service, Takes, Task, powers, refused_before_reading, service, task_service, unit_key}
-use Rattle.run_model.specs.Statements.{RoseAt, Step, stops_at}
-use Rattle.run_model.specs.Steps.{Choice, Cut, TaskAllowed, TaskEffect, Unpowered, Whole, WithoutMemory, begun, node_after, task_effect, whole}
-use Rattle.run_model.specs.Transcript.{AreOpening, Entry, Legal, Turn}
+use Rattle.world_laws.specs.log_laws.Slots.{prepared_of, records_in}
+use Rattle.world_laws.proofs.log_laws.Reading.{prepared_is}
+use Rattle.world_laws.specs.run_model.World as world
+use Rattle.world_laws.specs.run_model.World.{Act, DiskCounts, Durable, IsOpening, Node, Shared, Tables, World, aborted_prepared, acted, find_node, opened, prepared_left, with_half}
+use Rattle.world_laws.specs.run_model.Answers.{Hears, Restarts, Row, Serves, Service, Takes, Task, powers, refused_before_reading, service, task_service, unit_key}
+use Rattle.world_laws.specs.run_model.Statements.{RoseAt, Step, stops_at}
+use Rattle.world_laws.specs.run_model.Steps.{Choice, Cut, TaskAllowed, TaskEffect, Unpowered, Whole, WithoutMemory, begun, node_after, task_effect, whole}
+use Rattle.world_laws.specs.run_model.Transcript.{AreOpening, Entry, Legal, Turn}
 use Rattle.world_laws.specs.Nodes.{IsUp}
 use Rattle.world_laws.proofs.BootLemmas.{branch_in}
 use Rattle.world_laws.proofs.WorldLemmas.{each_opening}

@@ -3,9 +3,9 @@ use Rattle.std.proofs.Common.{◌≡◌, ℕ, Bool, true, false, not, ◌||◌, 
 use Rattle.std.specs.List.{list_any}
 use Rattle.std.specs.Option.{option_and_then}
 use Rattle.vms_model.specs.Ids.{Id}
-use Rattle.transcript_model.specs.Lines as line
-use Rattle.transcript_model.specs.Lines.{Line, Cause}
-use Rattle.script_model.specs.Statements.{At, AckEvent, BySerial, ByLabel, Named as SaidName}
+use Rattle.world_laws.specs.transcript_model.Lines as line
+use Rattle.world_laws.specs.transcript_model.Lines.{Line, Cause}
+use Rattle.world_laws.specs.script_model.Statements.{At, AckEvent, BySerial, ByLabel, Named as SaidName}
 use Rattle.records_model.specs.History.{same_id}
 use Rattle.commit_protocol.specs.Messages.{LogRecord, Name, Reply, same_name}
 use Rattle.commit_protocol.specs.Table.{Branch, Manager, branch_serials, record_serials}
@@ -13,17 +13,17 @@ use Rattle.commit_protocol.specs.Rows.{joined}
 use Rattle.commit_protocol.specs.World.{In}
 use Rattle.commit_protocol.proofs.Lists.{in_left, in_right}
 use Rattle.commit_protocol.proofs.Serials.{in_serial}
-use Rattle.run_model.specs.World.{DiskCounts, Label, Node, World, find_branch, find_node, find_record, labelled, opened}
-use Rattle.run_model.specs.Answers as answers
-use Rattle.run_model.specs.Answers.{Known, Row, Serves, has_joined, branch_labelled, just, known, refused_before_reading, serial_named, service, table_rows, told_rows}
-use Rattle.run_model.specs.Steps.{TaskEffect, task_effect}
-use Rattle.run_model.specs.Statements.{RoseAt, Step, stops_at}
-use Rattle.run_model.specs.StepLaws.{is_refusal}
-use Rattle.run_model.specs.Transcript.{AreOpening, Entry, Legal, Turn}
-use Rattle.run_model.proofs.CauseLemmas.{refuses_first}
-use Rattle.run_model.proofs.NodeLists.{found_name, some_is}
-use Rattle.run_model.proofs.Refusing.{same_last}
-use Rattle.run_model.proofs.TaskLemmas.{Failing, First, Lacking, Late, Outcome, Success, outcome}
+use Rattle.world_laws.specs.run_model.World.{DiskCounts, Label, Node, World, find_branch, find_node, find_record, labelled, opened}
+use Rattle.world_laws.specs.run_model.Answers as answers
+use Rattle.world_laws.specs.run_model.Answers.{Known, Row, Serves, has_joined, branch_labelled, just, known, refused_before_reading, serial_named, service, table_rows, told_rows}
+use Rattle.world_laws.specs.run_model.Steps.{TaskEffect, task_effect}
+use Rattle.world_laws.specs.run_model.Statements.{RoseAt, Step, stops_at}
+use Rattle.world_laws.specs.run_model.StepLaws.{is_refusal}
+use Rattle.world_laws.specs.run_model.Transcript.{AreOpening, Entry, Legal, Turn}
+use Rattle.world_laws.proofs.run_model.CauseLemmas.{refuses_first}
+use Rattle.world_laws.proofs.run_model.NodeLists.{found_name, some_is}
+use Rattle.world_laws.proofs.run_model.Refusing.{same_last}
+use Rattle.world_laws.proofs.run_model.TaskLemmas.{Failing, First, Lacking, Late, Outcome, Success, outcome}
 use Rattle.world_laws.specs.Nodes.{IsUp}
 use Rattle.world_laws.proofs.AnswerLemmas.{neither, not_refused}
 use Rattle.world_laws.proofs.IdLemmas.{id_is}

@@ -3,9 +3,9 @@ use Rattle.std.proofs.Common.{◌≡◌, Bool, true, false, ◌&&◌, List, [], 
 use Rattle.std.proofs.lemmas.Bool.{and_parts}
 use Rattle.vms_model.specs.Ids.{Id}
 use Rattle.vms_model.specs.Transactions.{SyncFail}
-use Rattle.transcript_model.specs.Lines as line
-use Rattle.transcript_model.specs.Lines.{Line}
-use Rattle.script_model.specs.Statements.{At, EndTrans}
+use Rattle.world_laws.specs.transcript_model.Lines as line
+use Rattle.world_laws.specs.transcript_model.Lines.{Line}
+use Rattle.world_laws.specs.script_model.Statements.{At, EndTrans}
 use Rattle.commit_protocol.specs.Messages as message
 use Rattle.commit_protocol.specs.Messages.{Message, Name, RmEvent}
 use Rattle.commit_protocol.specs.Table as table
@@ -13,9 +13,9 @@ use Rattle.commit_protocol.specs.Table.{Active, Branch, Child, Key as BranchKey,
 use Rattle.commit_protocol.specs.Rows as rows
 use Rattle.commit_protocol.specs.Rows.{all_replied, all_taken, all_voted, asks, begins_ending, commits_if_all, ending, is_noted, is_replied, joined, row, sends_all, serials, tells, to_each, which_event}
 use Rattle.commit_protocol.specs.World.{In}
-use Rattle.run_model.specs.World.{find_node, tm_of}
-use Rattle.run_model.specs.Answers as answers
-use Rattle.run_model.specs.Answers.{branch_labelled, end_answer}
+use Rattle.world_laws.specs.run_model.World.{find_node, tm_of}
+use Rattle.world_laws.specs.run_model.Answers as answers
+use Rattle.world_laws.specs.run_model.Answers.{branch_labelled, end_answer}
 use Rattle.run_laws.specs.Causes.{HasJoined}
 use Rattle.run_laws.proofs.Ending.{active_is, active_unprepared, done, end_lists, end_row, ends_commit, ends_waiting, named_branch, row_is, sends_answer, standing, tells_answer}
 use Rattle.run_laws.proofs.Labelling.{label_of, served_up}

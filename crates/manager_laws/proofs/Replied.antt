@@ -8,10 +8,10 @@ use Rattle.std.proofs.lemmas.Slice.Eq.{bytes_eq-Decides}
 use Rattle.vms_model.specs.Ids.{Id}
 use Rattle.vms_model.specs.Transactions as settles
 use Rattle.vms_model.specs.Transactions.{Abort, Commit}
-use Rattle.transcript_model.specs.Lines as line
-use Rattle.transcript_model.specs.Lines.{Line, Cause}
-use Rattle.script_model.specs.Statements.{At, Request, Init, JoinRm, AckEvent, Named as SaidName, Reading, Says, Blank, Bad}
-use Rattle.script_model.specs.Grammar.{reading}
+use Rattle.world_laws.specs.transcript_model.Lines as line
+use Rattle.world_laws.specs.transcript_model.Lines.{Line, Cause}
+use Rattle.world_laws.specs.script_model.Statements.{At, Request, Init, JoinRm, AckEvent, Named as SaidName, Reading, Says, Blank, Bad}
+use Rattle.world_laws.specs.script_model.Grammar.{reading}
 use Rattle.records_model.specs.History.{same_id}
 use Rattle.commit_protocol.specs.Messages.{Name, Reply, RmEvent, same_name}
 use Rattle.commit_protocol.specs.Table as table
@@ -21,16 +21,16 @@ use Rattle.commit_protocol.specs.Rows.{is_veto, note_row, note_state, row, with_
 use Rattle.commit_protocol.specs.Allowed.{answers_waiting, is_active, is_prepared, is_working}
 use Rattle.commit_protocol.specs.World.{In}
 use Rattle.commit_protocol.proofs.Lists.{in_left, in_right, same_name-eq, same_name-true}
-use Rattle.run_model.specs.World.{DiskCounts, Node, Tables, World, acted, find_branch, find_node, opened, next_moment, tm_of}
-use Rattle.run_model.specs.Answers as answers
-use Rattle.run_model.specs.Answers.{Row, Serves, Task, branch_labelled, is_joinable, just, refused_before_reading, serial_named, service, table_rows, task_service, told_rows}
-use Rattle.run_model.specs.Statements.{RoseAt, Step, stops_at}
-use Rattle.run_model.specs.Steps.{Choice, Cut, TaskAllowed, TaskEffect, Unpowered, Whole, WithoutMemory, begun, whole, node_after_rows, task_effect}
-use Rattle.run_model.specs.StepLaws.{is_refusal}
-use Rattle.run_model.specs.Transcript.{AreOpening, Entry, Legal, Turn}
-use Rattle.run_model.proofs.NodeLists.{put_node, some_is}
-use Rattle.run_model.proofs.Refusing.{same_last}
-use Rattle.run_model.proofs.TaskLemmas.{Failing, First, Lacking, Late, Outcome, Success, effect_name, outcome}
+use Rattle.world_laws.specs.run_model.World.{DiskCounts, Node, Tables, World, acted, find_branch, find_node, opened, next_moment, tm_of}
+use Rattle.world_laws.specs.run_model.Answers as answers
+use Rattle.world_laws.specs.run_model.Answers.{Row, Serves, Task, branch_labelled, is_joinable, just, refused_before_reading, serial_named, service, table_rows, task_service, told_rows}
+use Rattle.world_laws.specs.run_model.Statements.{RoseAt, Step, stops_at}
+use Rattle.world_laws.specs.run_model.Steps.{Choice, Cut, TaskAllowed, TaskEffect, Unpowered, Whole, WithoutMemory, begun, whole, node_after_rows, task_effect}
+use Rattle.world_laws.specs.run_model.StepLaws.{is_refusal}
+use Rattle.world_laws.specs.run_model.Transcript.{AreOpening, Entry, Legal, Turn}
+use Rattle.world_laws.proofs.run_model.NodeLists.{put_node, some_is}
+use Rattle.world_laws.proofs.run_model.Refusing.{same_last}
+use Rattle.world_laws.proofs.run_model.TaskLemmas.{Failing, First, Lacking, Late, Outcome, Success, effect_name, outcome}
 use Rattle.world_laws.specs.Nodes.{IsUp}
 use Rattle.world_laws.specs.Running.{IsDrawn}
 use Rattle.world_laws.proofs.AnswerLemmas.{neither}
@@ -285,7 +285,7 @@ module _ (nodes : List Node) (disks : List DiskCounts) (opening : AreOpening nod
   joins_at : (n : Node) → find_node serial.node w.nodes ≡ Some n → refused_before_reading w.shared n (service request) ≡ None → find_node serial.node v.nodes ≡ Some (node_after_rows ((service request).rows w.shared n) n) → Joins
   joins_at n found first there = at_branch (there_labelled (branch_labelled w.shared n label) labelled.0)
     where
-      labelled : (answers.unsettled_label w.shared n label ≡ None) × (Rattle.run_model.specs.Operations.first_of (answers.declared_manager n rm) (answers.in_state (is_joinable rm) (branch_labelled w.shared n label)) ≡ None)
+      labelled : (answers.unsettled_label w.shared n label ≡ None) × (Rattle.world_laws.specs.run_model.Operations.first_of (answers.declared_manager n rm) (answers.in_state (is_joinable rm) (branch_labelled w.shared n label)) ≡ None)
       labelled = neither (answers.unsettled_label w.shared n label) _ (neither (answers.made_label w.shared n label) _ (refused_rest (not (n.up || false)) _ first)).1
 
       at_branch : (b : Branch) × (branch_labelled w.shared n label ≡ Some b) → Joins

@@ -1,24 +1,24 @@
 -- What one request to a node leaves of what is known of it.
 use Rattle.std.proofs.Common.{◌≡◌, ◌⊎◌, ℕ, Bool, true, false, not, ◌||◌, List, [], ◌∷◌, ◌++◌, inl, inr, Option, Some, None, refl, sym, ◌∙◌, ap, subst}
 use Rattle.std.proofs.lemmas.Bool.{both_ways}
-use Rattle.transcript_model.specs.Lines as line
-use Rattle.transcript_model.specs.Lines.{Line, Cause}
-use Rattle.script_model.specs.Statements.{Statement, At, Request, Init, AckEvent, Named as SaidName}
+use Rattle.world_laws.specs.transcript_model.Lines as line
+use Rattle.world_laws.specs.transcript_model.Lines.{Line, Cause}
+use Rattle.world_laws.specs.script_model.Statements.{Statement, At, Request, Init, AckEvent, Named as SaidName}
 use Rattle.vms_model.specs.Ids.{Id}
 use Rattle.commit_protocol.specs.Messages.{Name, Reply}
 use Rattle.commit_protocol.specs.Table.{Branch}
 use Rattle.commit_protocol.specs.Allowed.{may_reply}
-use Rattle.run_model.specs.World as world
-use Rattle.run_model.specs.World.{Node, Shared, World, find_branch, find_node}
-use Rattle.run_model.specs.Operations.{refused_if}
-use Rattle.run_model.specs.Answers as answers
-use Rattle.run_model.specs.Answers.{Serves, Task, refused_before_reading, serial_named, service, task_service}
-use Rattle.run_model.specs.Statements.{RoseAt, Step, stops_at}
-use Rattle.run_model.specs.Steps.{Choice, TaskAllowed, TaskEffect, task_effect}
-use Rattle.run_model.specs.StepLaws.{is_refusal}
-use Rattle.run_model.proofs.NodeLists.{put_node, some_is}
-use Rattle.run_model.proofs.Refusing.{same_last}
-use Rattle.run_model.proofs.TaskLemmas.{Failing, First, Lacking, Late, Outcome, Success, effect_name, outcome}
+use Rattle.world_laws.specs.run_model.World as world
+use Rattle.world_laws.specs.run_model.World.{Node, Shared, World, find_branch, find_node}
+use Rattle.world_laws.specs.run_model.Operations.{refused_if}
+use Rattle.world_laws.specs.run_model.Answers as answers
+use Rattle.world_laws.specs.run_model.Answers.{Serves, Task, refused_before_reading, serial_named, service, task_service}
+use Rattle.world_laws.specs.run_model.Statements.{RoseAt, Step, stops_at}
+use Rattle.world_laws.specs.run_model.Steps.{Choice, TaskAllowed, TaskEffect, task_effect}
+use Rattle.world_laws.specs.run_model.StepLaws.{is_refusal}
+use Rattle.world_laws.proofs.run_model.NodeLists.{put_node, some_is}
+use Rattle.world_laws.proofs.run_model.Refusing.{same_last}
+use Rattle.world_laws.proofs.run_model.TaskLemmas.{Failing, First, Lacking, Late, Outcome, Success, effect_name, outcome}
 use Rattle.world_laws.proofs.AnswerLemmas.{neither, not_refused}
 use Rattle.run_laws.proofs.Keeping.{Keeps, Kept, Scheme}
 use Rattle.run_laws.proofs.Labelling.{refused_rest}
@@ -43,7 +43,7 @@ module _ (t : Scheme) (k : Keeps t) (node : List ℕ) where
       (h n (subst (λ (x : World). find_node node x.nodes ≡ Some n) goes found))
 
   -- a request at the node, which keeps what is known, or is as Q says
-  pub request_on : (w v : World) (r : Request) (lines : List Line) (a : t.Told) (Q : Type 0) → Rattle.run_model.specs.StepLaws.task_of w (At node r) ≡ Some (record { node = node; task = Serves r }) → Step w (At node r) lines v →
+  pub request_on : (w v : World) (r : Request) (lines : List Line) (a : t.Told) (Q : Type 0) → Rattle.world_laws.specs.run_model.StepLaws.task_of w (At node r) ≡ Some (record { node = node; task = Serves r }) → Step w (At node r) lines v →
       ((n : Node) (c : Choice) → find_node node w.nodes ≡ Some n → TaskAllowed w.shared (stops_at node w) n (Serves r) (λ cause. RoseAt w node cause v.disks) c →
       lines ≡ (task_effect w.shared (stops_at node w) n (Serves r) c).lines ++ (task_effect w.shared (stops_at node w) n (Serves r) c).answer ∷ [] → Kept t k a n →
       Q ⊎ Kept t k (t.more (task_effect w.shared (stops_at node w) n (Serves r) c).lines a) (task_effect w.shared (stops_at node w) n (Serves r) c).node) → On a w → Q ⊎ On (t.more lines a) v

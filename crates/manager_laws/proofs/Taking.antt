@@ -11,7 +11,7 @@ use Rattle.commit_protocol.specs.Allowed.{is_prepared}
 use Rattle.commit_protocol.specs.World.{In}
 use Rattle.commit_protocol.proofs.Lists.{find-key, find_serial-serial}
 use Rattle.world_laws.proofs.TableLemmas.{found_in}
-use Rattle.run_model.proofs.NodeLists.{some_is}
+use Rattle.world_laws.proofs.run_model.NodeLists.{some_is}
 
 serial_in : (s : Id) (bs : List Branch) (b : Branch) → find_serial s bs ≡ Some b → In b bs
 serial_in s [] b e = let no : ⊥ = cc in absurd no

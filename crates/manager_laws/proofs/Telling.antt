@@ -8,9 +8,9 @@ use Rattle.vms_model.specs.Keys.{Key as RecordKey}
 use Rattle.vms_model.specs.Transactions as settles
 use Rattle.vms_model.specs.Transactions.{Reason, Aborted}
 use Rattle.vms_model.specs.Limits.{message_limit}
-use Rattle.transcript_model.specs.Lines as line
-use Rattle.transcript_model.specs.Lines.{Line, Cause}
-use Rattle.script_model.specs.Statements.{Statement, At, Deliver, LinkDown, Settle, Request, Init, Boot, Create, SetFile, StartTrans, AddBranch, StartBranch, Records, Direct, EndBranch, EndTrans, AbortTrans, Inquire, DeclareRm, JoinRm, AckEvent, ForgetRm, GetDti, LmcpShow, LmcpDump, Dump, DumpJournal, DumpImages, Backup, Recover, Fuse, Crash, Clock}
+use Rattle.world_laws.specs.transcript_model.Lines as line
+use Rattle.world_laws.specs.transcript_model.Lines.{Line, Cause}
+use Rattle.world_laws.specs.script_model.Statements.{Statement, At, Deliver, LinkDown, Settle, Request, Init, Boot, Create, SetFile, StartTrans, AddBranch, StartBranch, Records, Direct, EndBranch, EndTrans, AbortTrans, Inquire, DeclareRm, JoinRm, AckEvent, ForgetRm, GetDti, LmcpShow, LmcpDump, Dump, DumpJournal, DumpImages, Backup, Recover, Fuse, Crash, Clock}
 use Rattle.records_model.specs.Records.{Change}
 use Rattle.unit_laws.specs.Journal as journal
 use Rattle.unit_laws.specs.Journal.{JournalEntry, entry_size}
@@ -20,17 +20,17 @@ use Rattle.commit_protocol.specs.Table.{Accepts, Acknowledges, Branch, Key as Br
 use Rattle.commit_protocol.specs.Rows as rows
 use Rattle.commit_protocol.specs.Rows.{Event, row}
 use Rattle.commit_protocol.specs.World.{In, undo_all}
-use Rattle.log_laws.specs.Slots.{slot_records}
-use Rattle.run_model.specs.World as world
-use Rattle.run_model.specs.World.{DiskCounts, Label, Node, Settlement, Shared, Tables, World, acted, find_node, next_id, next_moment, shared_after, tm_of}
-use Rattle.run_model.specs.Answers as answers
-use Rattle.run_model.specs.Answers.{Hears, LosesLink, Restarts, Row, RunsDown, Serves, Service, Takes, Task, Ticks, begins, boot_rows, branch_labelled, branch_named, is_declared, just, last_line, last_lines, prepared_line, prepared_lines, refused_before_reading, service, table_rows, task_service, told_if, told_rows}
-use Rattle.run_model.specs.Steps.{Choice, Cut, Unpowered, Whole, WithoutMemory, begun, lines_of_rows, ready_node, rows_if, rows_to_cut, task_effect, whole}
-use Rattle.run_model.specs.Statements.{Asks, Begins, Does, Doubtful, Heard, Part, PartEffect, Phase, Phases, Question, Step, Unanswered, begun_with, message_at, part_effect, phases_of, question, refused_at_once, stops_at}
-use Rattle.run_model.specs.StepLaws.{TaskAt, asked_by, task_of_part}
-use Rattle.run_model.proofs.NodeLists.{some_is}
-use Rattle.run_model.proofs.PartLemmas.{EachPart, EachPhase, phases_fold}
-use Rattle.run_model.proofs.PartTasks.{Doing, Fixed, View, all_asked, each_restart, each_run_down, each_up, view}
+use Rattle.world_laws.specs.log_laws.Slots.{slot_records}
+use Rattle.world_laws.specs.run_model.World as world
+use Rattle.world_laws.specs.run_model.World.{DiskCounts, Label, Node, Settlement, Shared, Tables, World, acted, find_node, next_id, next_moment, shared_after, tm_of}
+use Rattle.world_laws.specs.run_model.Answers as answers
+use Rattle.world_laws.specs.run_model.Answers.{Hears, LosesLink, Restarts, Row, RunsDown, Serves, Service, Takes, Task, Ticks, begins, boot_rows, branch_labelled, branch_named, is_declared, just, last_line, last_lines, prepared_line, prepared_lines, refused_before_reading, service, table_rows, task_service, told_if, told_rows}
+use Rattle.world_laws.specs.run_model.Steps.{Choice, Cut, Unpowered, Whole, WithoutMemory, begun, lines_of_rows, ready_node, rows_if, rows_to_cut, task_effect, whole}
+use Rattle.world_laws.specs.run_model.Statements.{Asks, Begins, Does, Doubtful, Heard, Part, PartEffect, Phase, Phases, Question, Step, Unanswered, begun_with, message_at, part_effect, phases_of, question, refused_at_once, stops_at}
+use Rattle.world_laws.specs.run_model.StepLaws.{TaskAt, asked_by, task_of_part}
+use Rattle.world_laws.proofs.run_model.NodeLists.{some_is}
+use Rattle.world_laws.proofs.run_model.PartLemmas.{EachPart, EachPhase, phases_fold}
+use Rattle.world_laws.proofs.run_model.PartTasks.{Doing, Fixed, View, all_asked, each_restart, each_run_down, each_up, view}
 use Rattle.run_said.proofs.Passing.{AllPass, acknowledged_passes, prepared_passes, released_passes}
 use Rattle.manager_laws.proofs.Ordering.{Announces, Known, Orderly, With, row_orderly}
 use Rattle.world_laws.proofs.FileRows.{images_by, recovers_by, saves_by, sets_by, IsEntryLine}

@@ -8,9 +8,9 @@ use Rattle.vms_model.specs.Keys.{Key as RecordKey}
 use Rattle.vms_model.specs.Transactions as settles
 use Rattle.vms_model.specs.Transactions.{Aborted, Reason}
 use Rattle.vms_model.specs.Limits.{message_limit}
-use Rattle.transcript_model.specs.Lines as line
-use Rattle.transcript_model.specs.Lines.{Line}
-use Rattle.script_model.specs.Statements.{Request, Init, Boot, Create, SetFile, StartTrans, AddBranch, StartBranch, Records, Direct, EndBranch, EndTrans, AbortTrans, Inquire, DeclareRm, JoinRm, AckEvent, ForgetRm, GetDti, LmcpShow, LmcpDump, Dump, DumpJournal, DumpImages, Backup, Recover, Fuse, Crash, Clock}
+use Rattle.world_laws.specs.transcript_model.Lines as line
+use Rattle.world_laws.specs.transcript_model.Lines.{Line}
+use Rattle.world_laws.specs.script_model.Statements.{Request, Init, Boot, Create, SetFile, StartTrans, AddBranch, StartBranch, Records, Direct, EndBranch, EndTrans, AbortTrans, Inquire, DeclareRm, JoinRm, AckEvent, ForgetRm, GetDti, LmcpShow, LmcpDump, Dump, DumpJournal, DumpImages, Backup, Recover, Fuse, Crash, Clock}
 use Rattle.records_model.specs.Records.{Change}
 use Rattle.unit_laws.specs.Journal as journal
 use Rattle.unit_laws.specs.Journal.{JournalEntry, entry_size}
@@ -20,21 +20,21 @@ use Rattle.commit_protocol.specs.Table.{Accepts, Acknowledges, Branch, Key as Br
 use Rattle.commit_protocol.specs.Rows as rows
 use Rattle.commit_protocol.specs.Rows.{row}
 use Rattle.commit_protocol.specs.World.{In, undo_all}
-use Rattle.log_laws.specs.Slots.{slot_records}
-use Rattle.run_model.specs.World as world
-use Rattle.run_model.specs.World.{Act, Node, Shared, Tables, acted, next_moment, shared_after, tm_of}
-use Rattle.run_model.specs.Answers as answers
-use Rattle.run_model.specs.Answers.{Hears, LosesLink, Restarts, Row, RunsDown, Serves, Service, Takes, Task, Telling, Ticks, begins, branch_labelled, branch_named, is_declared, just, powers, service, table_rows, task_service, told_if, told_rows}
+use Rattle.world_laws.specs.log_laws.Slots.{slot_records}
+use Rattle.world_laws.specs.run_model.World as world
+use Rattle.world_laws.specs.run_model.World.{Act, Node, Shared, Tables, acted, next_moment, shared_after, tm_of}
+use Rattle.world_laws.specs.run_model.Answers as answers
+use Rattle.world_laws.specs.run_model.Answers.{Hears, LosesLink, Restarts, Row, RunsDown, Serves, Service, Takes, Task, Telling, Ticks, begins, branch_labelled, branch_named, is_declared, just, powers, service, table_rows, task_service, told_if, told_rows}
 use Rattle.run_said.proofs.Passing.{AllPass, acknowledged_passes, append_passes, prepared_passes, released_passes}
 use Rattle.world_laws.proofs.FileRows.{images_by, recovers_by, saves_by, sets_by, IsEntryLine}
-use Rattle.transcript_model.specs.Lines.{Cause}
+use Rattle.world_laws.specs.transcript_model.Lines.{Cause}
 use Rattle.commit_protocol.proofs.Lists.{in_left, in_parts}
 use Rattle.std.proofs.lemmas.Bool.{both_ways}
 use Rattle.std.proofs.Common.{not, ◌||◌, zero, suc, take}
-use Rattle.run_model.specs.World.{Outturn}
-use Rattle.run_model.specs.Operations.{refused_if}
-use Rattle.run_model.specs.Answers.{refused_before_reading, spoils}
-use Rattle.run_model.specs.Steps.{Choice, Cut, TaskAllowed, Unpowered, Whole, WithoutMemory, begun, lines_of_rows, ready_node, rows_if, rows_to_cut, task_effect, whole, with_unknown_volume}
+use Rattle.world_laws.specs.run_model.World.{Outturn}
+use Rattle.world_laws.specs.run_model.Operations.{refused_if}
+use Rattle.world_laws.specs.run_model.Answers.{refused_before_reading, spoils}
+use Rattle.world_laws.specs.run_model.Steps.{Choice, Cut, TaskAllowed, Unpowered, Whole, WithoutMemory, begun, lines_of_rows, ready_node, rows_if, rows_to_cut, task_effect, whole, with_unknown_volume}
 use Rattle.world_laws.proofs.AnswerLemmas.{neither, not_refused}
 use Rattle.run_laws.proofs.Keeping.{closes_none}
 use Rattle.run_laws.proofs.Once.{once, once_keeps}

@@ -5,28 +5,28 @@ use Rattle.std.proofs.lemmas.Bool.{both_ways}
 use Rattle.vms_model.specs.Ids.{Id}
 use Rattle.vms_model.specs.Transactions as settles
 use Rattle.vms_model.specs.Transactions.{Reason}
-use Rattle.transcript_model.specs.Lines as line
-use Rattle.transcript_model.specs.Lines.{Line, Cause}
-use Rattle.script_model.specs.Statements.{Statement, At, Deliver, LinkDown, Settle, Request, DeclareRm, Reading, Blank, Says, Bad}
+use Rattle.world_laws.specs.transcript_model.Lines as line
+use Rattle.world_laws.specs.transcript_model.Lines.{Line, Cause}
+use Rattle.world_laws.specs.script_model.Statements.{Statement, At, Deliver, LinkDown, Settle, Request, DeclareRm, Reading, Blank, Says, Bad}
 use Rattle.commit_protocol.specs.Messages.{AbortEvent, CommitEvent, LogRecord, Name, same_name}
 use Rattle.commit_protocol.specs.Table.{branch_serials, record_serials}
 use Rattle.commit_protocol.specs.World.{In}
 use Rattle.commit_protocol.proofs.Lists.{in_parts, in_right, same_name-true}
 use Rattle.commit_protocol.proofs.Serials.{in_serial}
-use Rattle.log_laws.specs.Slots.{committed_of, records_in, waiting_for}
-use Rattle.run_model.specs.World.{DiskCounts, Node, Shared, World, find_node, opened}
-use Rattle.run_model.specs.Answers.{Serves, Task, owed_line, refused_before_reading, service}
-use Rattle.run_model.specs.Steps.{Choice, Cut, TaskAllowed, TaskEffect, Unpowered, Whole, WithoutMemory, begun, task_effect, whole}
-use Rattle.run_model.specs.Statements.{Allowed, Begins, Part, PartEffect, Phases, RoseAt, Step, begun_with, part_effect, phases_of, refused_at_once, stops_at}
-use Rattle.run_model.specs.StepLaws.{is_refusal}
-use Rattle.run_model.specs.Transcript.{AreOpening, Entry, Legal, Turn}
-use Rattle.run_model.proofs.CauseLemmas.{is_success, refuses_first, refuses_then, task_succeeds}
-use Rattle.run_model.proofs.Failing.{once_refuses}
-use Rattle.run_model.proofs.NodeLists.{found_name, some_is}
-use Rattle.run_model.proofs.PartLemmas.{phases_fold}
-use Rattle.run_model.proofs.PartTasks.{Doing, Fixed, View, view}
-use Rattle.run_model.proofs.Refusing.{each_phase}
-use Rattle.run_model.proofs.TaskLemmas.{Failing, First, Lacking, Late, Outcome, Success, outcome}
+use Rattle.world_laws.specs.log_laws.Slots.{committed_of, records_in, waiting_for}
+use Rattle.world_laws.specs.run_model.World.{DiskCounts, Node, Shared, World, find_node, opened}
+use Rattle.world_laws.specs.run_model.Answers.{Serves, Task, owed_line, refused_before_reading, service}
+use Rattle.world_laws.specs.run_model.Steps.{Choice, Cut, TaskAllowed, TaskEffect, Unpowered, Whole, WithoutMemory, begun, task_effect, whole}
+use Rattle.world_laws.specs.run_model.Statements.{Allowed, Begins, Part, PartEffect, Phases, RoseAt, Step, begun_with, part_effect, phases_of, refused_at_once, stops_at}
+use Rattle.world_laws.specs.run_model.StepLaws.{is_refusal}
+use Rattle.world_laws.specs.run_model.Transcript.{AreOpening, Entry, Legal, Turn}
+use Rattle.world_laws.proofs.run_model.CauseLemmas.{is_success, refuses_first, refuses_then, task_succeeds}
+use Rattle.world_laws.proofs.run_model.Failing.{once_refuses}
+use Rattle.world_laws.proofs.run_model.NodeLists.{found_name, some_is}
+use Rattle.world_laws.proofs.run_model.PartLemmas.{phases_fold}
+use Rattle.world_laws.proofs.run_model.PartTasks.{Doing, Fixed, View, view}
+use Rattle.world_laws.proofs.run_model.Refusing.{each_phase}
+use Rattle.world_laws.proofs.run_model.TaskLemmas.{Failing, First, Lacking, Late, Outcome, Success, outcome}
 use Rattle.world_laws.specs.Nodes.{IsUp}
 use Rattle.run_laws.specs.Owing.{Waits}
 use Rattle.run_laws.specs.Promises.{IsSettledSo, IsShown, ShownThere, commitment, settlements_of}

@@ -3,9 +3,9 @@ use Rattle.std.proofs.Common.{◌≡◌, ◌⊎◌, ℕ, ◌+◌, ◌<◌, ◌�
 use Rattle.std.specs.List.{list_any}
 use Rattle.std.proofs.lemmas.Bool.{and_parts, both_ways}
 use Rattle.vms_model.specs.Ids.{Id}
-use Rattle.transcript_model.specs.Lines as line
-use Rattle.transcript_model.specs.Lines.{Line, Cause}
-use Rattle.script_model.specs.Statements.{Request, Boot, StartTrans, StartBranch, JoinRm, AckEvent, DeclareRm, ForgetRm, Named as SaidName}
+use Rattle.world_laws.specs.transcript_model.Lines as line
+use Rattle.world_laws.specs.transcript_model.Lines.{Line, Cause}
+use Rattle.world_laws.specs.script_model.Statements.{Request, Boot, StartTrans, StartBranch, JoinRm, AckEvent, DeclareRm, ForgetRm, Named as SaidName}
 use Rattle.records_model.specs.History.{same_id}
 use Rattle.unit_laws.specs.Units.{Map}
 use Rattle.commit_protocol.specs.Messages as message
@@ -17,11 +17,11 @@ use Rattle.commit_protocol.specs.Rows.{all_replied, asks, is_empty, is_forget, i
 use Rattle.commit_protocol.specs.Allowed.{answers, answers_waiting, is_prepared, may_reply}
 use Rattle.commit_protocol.specs.World.{In}
 use Rattle.commit_protocol.proofs.Lists.{in_left, in_parts, same_name-eq, same_name-true}
-use Rattle.run_model.specs.World as world
-use Rattle.run_model.specs.World.{Act, Boots, Durable, Node, Shared, Tables, aborted_prepared, acted, find_branch, next_id, prepared_left, settlement_of, with_changed, with_half}
-use Rattle.run_model.specs.Answers as answering
-use Rattle.run_model.specs.Answers.{Hears, Restarts, Row, Serves, Takes, Task, powers, prepared_line, refused_before_reading, serial_named, service, task_service, unit_key}
-use Rattle.run_model.specs.Steps.{Choice, TaskAllowed, node_after, task_effect}
+use Rattle.world_laws.specs.run_model.World as world
+use Rattle.world_laws.specs.run_model.World.{Act, Boots, Durable, Node, Shared, Tables, aborted_prepared, acted, find_branch, next_id, prepared_left, settlement_of, with_changed, with_half}
+use Rattle.world_laws.specs.run_model.Answers as answering
+use Rattle.world_laws.specs.run_model.Answers.{Hears, Restarts, Row, Serves, Takes, Task, powers, prepared_line, refused_before_reading, serial_named, service, task_service, unit_key}
+use Rattle.world_laws.specs.run_model.Steps.{Choice, TaskAllowed, node_after, task_effect}
 use Rattle.world_laws.specs.Nodes.{IsOf, IsUp}
 use Rattle.world_laws.specs.Running.{IsDrawn}
 use Rattle.world_laws.proofs.BootLemmas.{branch_in}

@@ -3,9 +3,9 @@ use Rattle.std.proofs.Common.{◌≡◌, ◌⊎◌, ℕ, ◌+◌, ◌<◌, ◌�
 use Rattle.std.proofs.lemmas.Bool.{and_parts, both_ways}
 use Rattle.vms_model.specs.Ids.{Id}
 use Rattle.vms_model.specs.Transactions.{Abort, Commit, SegFail}
-use Rattle.transcript_model.specs.Lines as line
-use Rattle.transcript_model.specs.Lines.{Line, Cause}
-use Rattle.script_model.specs.Statements.{Request, Boot, StartTrans, StartBranch, JoinRm, AckEvent, DeclareRm, ForgetRm}
+use Rattle.world_laws.specs.transcript_model.Lines as line
+use Rattle.world_laws.specs.transcript_model.Lines.{Line, Cause}
+use Rattle.world_laws.specs.script_model.Statements.{Request, Boot, StartTrans, StartBranch, JoinRm, AckEvent, DeclareRm, ForgetRm}
 use Rattle.records_model.specs.History.{same_id}
 use Rattle.unit_laws.specs.Units.{Map}
 use Rattle.commit_protocol.specs.Messages as message
@@ -17,12 +17,12 @@ use Rattle.commit_protocol.specs.Rows.{all_replied, asks, is_replied, is_veto, n
 use Rattle.commit_protocol.specs.Allowed.{is_prepared}
 use Rattle.commit_protocol.specs.World.{In}
 use Rattle.commit_protocol.proofs.Lists.{in_left, in_parts, same_name-true}
-use Rattle.log_laws.specs.Slots.{prepared_of, records_in}
-use Rattle.run_model.specs.World as world
-use Rattle.run_model.specs.World.{Act, Boots, ComesUp, Durable, Node, Settlement, Shared, Tables, aborted_prepared, acted, find_record, next_id, prepared_left, records_by, settlement, settlement_of, settled_more, with_changed, with_half, without_record}
-use Rattle.run_model.specs.Answers as answers
-use Rattle.run_model.specs.Answers.{Hears, LosesLink, Restarts, Row, RunsDown, Serves, Takes, Task, Ticks, powers, prepared_line, prepared_lines, service, task_service, unit_key}
-use Rattle.run_model.specs.Steps.{Choice, TaskAllowed, node_after, task_effect}
+use Rattle.world_laws.specs.log_laws.Slots.{prepared_of, records_in}
+use Rattle.world_laws.specs.run_model.World as world
+use Rattle.world_laws.specs.run_model.World.{Act, Boots, ComesUp, Durable, Node, Settlement, Shared, Tables, aborted_prepared, acted, find_record, next_id, prepared_left, records_by, settlement, settlement_of, settled_more, with_changed, with_half, without_record}
+use Rattle.world_laws.specs.run_model.Answers as answers
+use Rattle.world_laws.specs.run_model.Answers.{Hears, LosesLink, Restarts, Row, RunsDown, Serves, Takes, Task, Ticks, powers, prepared_line, prepared_lines, service, task_service, unit_key}
+use Rattle.world_laws.specs.run_model.Steps.{Choice, TaskAllowed, node_after, task_effect}
 use Rattle.world_laws.specs.Nodes.{IsOf, IsUp}
 use Rattle.world_laws.specs.Running.{IsDrawn}
 use Rattle.world_laws.proofs.BootLemmas.{branch_in}
@@ -62,7 +62,7 @@ record_in [] serial r e = let no : ⊥ = cc in absurd no
 record_in (q ∷ rs) serial r e = go (same_id serial q.serial) e (record_in rs serial r)
   where
     go : (b : Bool) → ◌≡◌ {A = Option LogRecord} (if b then Some q else find_record serial rs) (Some r) → (find_record serial rs ≡ Some r → In r rs) → In r (q ∷ rs)
-    go true f more = inl (sym (Rattle.run_model.proofs.NodeLists.some_is q r f))
+    go true f more = inl (sym (Rattle.world_laws.proofs.run_model.NodeLists.some_is q r f))
     go false f more = inr (more f)
 
 pub ordered_in : (ids : List Id) (rs : List LogRecord) (r : LogRecord) → In r (records_by ids rs) → In r rs

@@ -1,18 +1,18 @@
 -- What each node is at the opening, and what each task keeps of it, it is in all worlds.
 use Rattle.std.proofs.Common.{◌≡◌, ℕ, List, [], ◌∷◌, Option, Some, None, sym, subst}
-use Rattle.transcript_model.specs.Lines as line
-use Rattle.transcript_model.specs.Lines.{Line, Cause}
-use Rattle.script_model.specs.Statements.{Statement, At, Deliver, LinkDown, Settle, Reading, Blank, Says, Bad}
-use Rattle.script_model.specs.Grammar.{reading}
-use Rattle.run_model.specs.World.{World, Shared, Node, DiskCounts, IsOpening, find_node, opened}
-use Rattle.run_model.specs.Answers.{Task}
-use Rattle.run_model.specs.Steps.{Choice, TaskAllowed, task_effect}
-use Rattle.run_model.specs.Statements.{Part, PartEffect, Begins, Phases, Step, Allowed, RoseAt, begun_with, part_effect, phases_of, refused_at_once, stops_at}
-use Rattle.run_model.specs.Transcript.{Entry, Legal, Turn}
-use Rattle.run_model.proofs.TaskLemmas.{effect_name}
-use Rattle.run_model.proofs.PartLemmas.{phases_fold}
-use Rattle.run_model.proofs.PartTasks.{View, Doing, Fixed, view}
-use Rattle.run_model.proofs.Refusing.{each_phase}
+use Rattle.world_laws.specs.transcript_model.Lines as line
+use Rattle.world_laws.specs.transcript_model.Lines.{Line, Cause}
+use Rattle.world_laws.specs.script_model.Statements.{Statement, At, Deliver, LinkDown, Settle, Reading, Blank, Says, Bad}
+use Rattle.world_laws.specs.script_model.Grammar.{reading}
+use Rattle.world_laws.specs.run_model.World.{World, Shared, Node, DiskCounts, IsOpening, find_node, opened}
+use Rattle.world_laws.specs.run_model.Answers.{Task}
+use Rattle.world_laws.specs.run_model.Steps.{Choice, TaskAllowed, task_effect}
+use Rattle.world_laws.specs.run_model.Statements.{Part, PartEffect, Begins, Phases, Step, Allowed, RoseAt, begun_with, part_effect, phases_of, refused_at_once, stops_at}
+use Rattle.world_laws.specs.run_model.Transcript.{Entry, Legal, Turn}
+use Rattle.world_laws.proofs.run_model.TaskLemmas.{effect_name}
+use Rattle.world_laws.proofs.run_model.PartLemmas.{phases_fold}
+use Rattle.world_laws.proofs.run_model.PartTasks.{View, Doing, Fixed, view}
+use Rattle.world_laws.proofs.run_model.Refusing.{each_phase}
 use Rattle.world_laws.specs.Worlds.{InAllWorlds}
 use Rattle.world_laws.proofs.WorldLemmas.{each_opening}
 use Rattle.run_laws.proofs.SoundWorlds.{Beside, Changed, Here, IsSound, IsSoundNode, begins_sound, changed, legal_sound, opening_sound, part_sound, sound_node}

@@ -1,12 +1,12 @@
 -- Whom an END_TRANS asks that is answered that something is missing.
 use Rattle.std.specs.Prelude.{◌⊎◌, ℕ, List}
 use Rattle.vms_model.specs.Ids.{Id}
-use Rattle.transcript_model.specs.Lines as line
-use Rattle.transcript_model.specs.Lines.{Line}
-use Rattle.script_model.specs.Statements.{At, EndTrans}
+use Rattle.world_laws.specs.transcript_model.Lines as line
+use Rattle.world_laws.specs.transcript_model.Lines.{Line}
+use Rattle.world_laws.specs.script_model.Statements.{At, EndTrans}
 use Rattle.commit_protocol.specs.Messages.{Name, OnePhaseEvent, PrepareEvent, RmEvent}
 use Rattle.commit_protocol.specs.World.{In}
-use Rattle.run_model.specs.Transcript.{Entry, InAllRuns}
+use Rattle.world_laws.specs.run_model.Transcript.{Entry, InAllRuns}
 use Rattle.run_laws.specs.Causes.{WasBegun}
 use Rattle.run_laws.specs.SaidLaws.{SaidThere}
 

@@ -3,8 +3,8 @@ use Rattle.std.specs.Prelude.{◌≡◌, true, false}
 use Rattle.commit_protocol.specs.Allowed.{is_prepared}
 use Rattle.commit_protocol.specs.Table.{Branch, Manager}
 use Rattle.commit_protocol.specs.World.{In}
-use Rattle.run_model.specs.World.{Node}
-use Rattle.run_model.specs.Answers.{is_declared}
+use Rattle.world_laws.specs.run_model.World.{Node}
+use Rattle.world_laws.specs.run_model.Answers.{is_declared}
 use Rattle.world_laws.specs.Worlds.{InAllWorlds}
 
 -- each resource manager that has joined an unsettled branch of a node which is not prepared is declared there

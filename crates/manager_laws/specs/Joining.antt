@@ -1,12 +1,12 @@
 -- Which resource managers joined a branch, as the lines tell; and whom an END_TRANS names that is answered that replies are missing, and what one has that commits at once.
 use Rattle.std.specs.Prelude.{ℕ, List}
 use Rattle.vms_model.specs.Ids.{Id}
-use Rattle.transcript_model.specs.Lines as line
-use Rattle.transcript_model.specs.Lines.{Line}
-use Rattle.script_model.specs.Statements.{At, EndTrans, JoinRm}
+use Rattle.world_laws.specs.transcript_model.Lines as line
+use Rattle.world_laws.specs.transcript_model.Lines.{Line}
+use Rattle.world_laws.specs.script_model.Statements.{At, EndTrans, JoinRm}
 use Rattle.commit_protocol.specs.Messages.{Name}
 use Rattle.commit_protocol.specs.World.{In}
-use Rattle.run_model.specs.Transcript.{Entry, InAllRuns}
+use Rattle.world_laws.specs.run_model.Transcript.{Entry, InAllRuns}
 use Rattle.run_laws.specs.Causes.{HasJoined, WasBegun}
 use Rattle.run_laws.specs.Naming.{IsNamed}
 use Rattle.run_laws.specs.SaidLaws.{SaidThere}

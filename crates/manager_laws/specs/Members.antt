@@ -1,14 +1,14 @@
 -- For which branches resource managers reply, and of which they are told something: those that they joined.
 use Rattle.std.specs.Prelude.{◌≡◌, ◌⊎◌, ℕ, List, Some}
 use Rattle.vms_model.specs.Ids.{Id}
-use Rattle.transcript_model.specs.Lines as line
-use Rattle.transcript_model.specs.Lines.{Line}
-use Rattle.script_model.specs.Statements.{At, AckEvent, BySerial, ByLabel, Named, Reading}
+use Rattle.world_laws.specs.transcript_model.Lines as line
+use Rattle.world_laws.specs.transcript_model.Lines.{Line}
+use Rattle.world_laws.specs.script_model.Statements.{At, AckEvent, BySerial, ByLabel, Named, Reading}
 use Rattle.commit_protocol.specs.Messages.{LogRecord, Name, Reply, RmEvent}
 use Rattle.commit_protocol.specs.World.{In}
-use Rattle.log_laws.specs.Slots.{records_in}
-use Rattle.run_model.specs.World.{Durable, Node, World, find_node}
-use Rattle.run_model.specs.Transcript.{Entry, InAllRuns}
+use Rattle.world_laws.specs.log_laws.Slots.{records_in}
+use Rattle.world_laws.specs.run_model.World.{Durable, Node, World, find_node}
+use Rattle.world_laws.specs.run_model.Transcript.{Entry, InAllRuns}
 use Rattle.run_laws.specs.Naming.{ToldLabel, find_told, labels_told}
 use Rattle.run_laws.specs.Promises.{ShownThere}
 use Rattle.run_laws.specs.SaidLaws.{SaidThere}

@@ -1,7 +1,7 @@
 -- What a run promises of its resource managers.
 use Rattle.std.specs.Prelude.{◌≡◌, ℕ, List, true, Some}
-use Rattle.run_model.specs.World.{Node, World, find_node}
-use Rattle.run_model.specs.Transcript.{Entry, InAllRuns}
+use Rattle.world_laws.specs.run_model.World.{Node, World, find_node}
+use Rattle.world_laws.specs.run_model.Transcript.{Entry, InAllRuns}
 use Rattle.run_laws.specs.Vetoing.{VetoesAbort}
 use Rattle.manager_laws.specs.Asking.{PendingAreAsked}
 use Rattle.manager_laws.specs.Joined.{AreDeclared}

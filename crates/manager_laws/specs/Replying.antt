@@ -1,14 +1,14 @@
 -- No branch is prepared, leaves as read-only or is committed while the reply of a resource manager is missing that has joined it.
 use Rattle.std.specs.Prelude.{◌≡◌, ◌⊎◌, ℕ, List, ◌∷◌, ◌++◌, true, false}
 use Rattle.vms_model.specs.Ids.{Id}
-use Rattle.transcript_model.specs.Lines as line
-use Rattle.transcript_model.specs.Lines.{Line, Cause}
-use Rattle.script_model.specs.Statements.{At, AckEvent, JoinRm, Named, Reading}
+use Rattle.world_laws.specs.transcript_model.Lines as line
+use Rattle.world_laws.specs.transcript_model.Lines.{Line, Cause}
+use Rattle.world_laws.specs.script_model.Statements.{At, AckEvent, JoinRm, Named, Reading}
 use Rattle.commit_protocol.specs.Allowed.{answers}
 use Rattle.commit_protocol.specs.Messages.{ForgetReply, OnePhaseEvent, PrepareEvent, Reply}
 use Rattle.commit_protocol.specs.Rows.{is_veto}
-use Rattle.run_model.specs.World.{World}
-use Rattle.run_model.specs.Transcript.{Entry, InAllRuns}
+use Rattle.world_laws.specs.run_model.World.{World}
+use Rattle.world_laws.specs.run_model.Transcript.{Entry, InAllRuns}
 use Rattle.run_laws.specs.Causes.{Names}
 use Rattle.run_laws.specs.Naming.{IsNamed}
 use Rattle.run_laws.specs.Promises.{ShownThere, WasLast}

@@ -2,14 +2,14 @@
 use Rattle.std.specs.Prelude.{◌≡◌, ◌⊎◌, ℕ, List, [], ◌∷◌, false, None, Some}
 use Rattle.vms_model.specs.Ids.{Id}
 use Rattle.vms_model.specs.Transactions.{Abort, Commit, Reason}
-use Rattle.transcript_model.specs.Lines as line
-use Rattle.transcript_model.specs.Lines.{Line}
-use Rattle.script_model.specs.Statements.{At, DeclareRm, Reading, Says}
-use Rattle.script_model.specs.Grammar.{reading}
+use Rattle.world_laws.specs.transcript_model.Lines as line
+use Rattle.world_laws.specs.transcript_model.Lines.{Line}
+use Rattle.world_laws.specs.script_model.Statements.{At, DeclareRm, Reading, Says}
+use Rattle.world_laws.specs.script_model.Grammar.{reading}
 use Rattle.commit_protocol.specs.Messages.{AbortEvent, CommitEvent, Name}
 use Rattle.commit_protocol.specs.World.{In}
-use Rattle.run_model.specs.World.{Node, World, find_node}
-use Rattle.run_model.specs.Transcript.{Entry, InAllRuns}
+use Rattle.world_laws.specs.run_model.World.{Node, World, find_node}
+use Rattle.world_laws.specs.run_model.Transcript.{Entry, InAllRuns}
 use Rattle.run_laws.specs.Accounts.{made_anew}
 use Rattle.run_laws.specs.Owing.{MayForget, NoneForget, Waits}
 use Rattle.run_laws.specs.Promises.{IsSettledSo, IsShown, ShownThere, commitment}

@@ -20,7 +20,7 @@ use Rattle.volume.specs.declared.catalog.Catalog.{Catalog}
 use Rattle.volume.specs.Catalogs.{IsSound, IsNew, StandsOnTheFront, TellsCatalog}
 use Rattle.volume.specs.Limits.{FileFits, EntryFits, SaveFits, KeysFit, RootFits, data_area, file_buckets, save_buckets}
 use Rattle.volume.specs.declared.limits.Buckets.{Buckets}
-use Rattle.run_model.specs.World.{File}
+use Rattle.directory_model.specs.run_model.World.{File}
 use Rattle.directory_model.specs.Files.{AreFiles, AreNamedOnce, Fit, head_at}
 use Rattle.directory_model.specs.Laws.{KeepsHeads, LieApart, StandsOnExtents, marked}
 

@@ -1,2 +1,3 @@
 pub mod CatalogLemmas
 pub mod NewHead
+pub mod indexed_tree

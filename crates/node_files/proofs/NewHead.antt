@@ -6,7 +6,7 @@ use Rattle.file_base.specs.declared.head.FileHead.{FileHead}
 use Rattle.script_lang.specs.declared.statement.Form.{Form}
 use Rattle.script_lang.specs.declared.statement.Form.TheVariants as form
 use Rattle.script_lang.specs.Statements.{form_of}
-use Rattle.run_model.specs.Answers.{are_sizes, buckets_for, is_file_form}
+use Rattle.directory_model.specs.run_model.Answers.{are_sizes, buckets_for, is_file_form}
 use Rattle.directory_model.specs.Files.{IsNewHead, IsOrganized}
 use Rattle.node_files.specs.declared.sizes.Sizes.{Sizes}
 use Rattle.node_files.specs.NewFile.{AreSizes, new_head, buckets_in, kept_by, greatest_by, position_by, key_by, used_by, levels_by}

@@ -8,7 +8,7 @@ use Rattle.file_base.specs.declared.head.Span.{Span}
 use Rattle.script_lang.specs.declared.statement.Form.{Form}
 use Rattle.script_lang.specs.declared.statement.Form.TheVariants as form
 use Rattle.script_lang.specs.Statements.{form_of}
-use Rattle.run_model.specs.Answers.{buckets_for, is_file_form}
+use Rattle.directory_model.specs.run_model.Answers.{buckets_for, is_file_form}
 use Rattle.volume.specs.Limits.{no_save}
 use Rattle.node_files.specs.declared.sizes.Sizes.{Sizes}
 

@@ -1,8 +1,8 @@
 //! The sizes and the form of a new file.
 ghost use Rattle.std.specs.Prelude.{◌≡◌, ◌≤◌, ◌*◌, ◌+◌, ℕ, true, IfSome, is_some};
-ghost use Rattle.script_model.specs.Statements as said;
+ghost use Rattle.script_lang.specs.script_model.Statements as said;
 ghost use Rattle.script_lang.specs.Statements.{form_of};
-ghost use Rattle.run_model.specs.Answers.{are_sizes, blocks_for, buckets_for, is_file_form};
+ghost use Rattle.directory_model.specs.run_model.Answers.{are_sizes, blocks_for, buckets_for, is_file_form};
 ghost use Rattle.directory_model.specs.Files.{IsNewHead};
 ghost use Rattle.node_files.specs.NewFile.{AreSizes, buckets_in, new_head, plain_head_of};
 

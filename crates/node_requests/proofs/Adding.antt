@@ -4,19 +4,19 @@ use Rattle.std.specs.Prelude.{not, ◌&&◌}
 use Rattle.std.specs.Option.{option_and_then}
 use Rattle.std.proofs.lemmas.Bool.{and_from, leb-false, lt-ltb}
 use Rattle.vms_model.specs.Limits.{bid_limit}
-use Rattle.commit_protocol.specs.Allowed.{may_authorise, there_is}
-use Rattle.commit_protocol.specs.Rows as rows
-use Rattle.commit_protocol.specs.Table.{Branch, find, find_serial, first}
+use Rattle.emitter_model.specs.commit_protocol.Allowed.{may_authorise, there_is}
+use Rattle.emitter_model.specs.commit_protocol.Rows as rows
+use Rattle.emitter_model.specs.commit_protocol.Table.{Branch, find, find_serial, first}
 use Rattle.vms_model.specs.Ids.{Id}
 use Rattle.emitter_model.specs.Emitting.{Emits, Shown, Since}
-use Rattle.transcript_model.specs.Lines as line
-use Rattle.transcript_model.specs.Lines.{Line}
-use Rattle.script_model.specs.Statements.{AddBranch}
-use Rattle.run_said.specs.Said.{line_said, refused_by_lines, request_said}
-use Rattle.said_steps.specs.Answers.{is_served}
-use Rattle.run_model.specs.Operations.{first_of, refused_if}
-use Rattle.run_model.specs.World.{Draws, Node, Shared, acted}
-use Rattle.run_model.specs.Answers.{branch_labelled, in_state, is_first_active, made_label, more_bids, new_label, service, unsettled, unsettled_label}
+use Rattle.emitter_model.specs.transcript_model.Lines as line
+use Rattle.emitter_model.specs.transcript_model.Lines.{Line}
+use Rattle.script_lang.specs.script_model.Statements.{AddBranch}
+use Rattle.file_requests.specs.run_said.Said.{line_said, refused_by_lines, request_said}
+use Rattle.file_requests.specs.said_steps.Answers.{is_served}
+use Rattle.world_laws.specs.run_model.Operations.{first_of, refused_if}
+use Rattle.world_laws.specs.run_model.World.{Draws, Node, Shared, acted}
+use Rattle.world_laws.specs.run_model.Answers.{branch_labelled, in_state, is_first_active, made_label, more_bids, new_label, service, unsettled, unsettled_label}
 use Rattle.world_laws.specs.Nodes.{RowsKeepUp}
 use Rattle.run_shared.specs.Sharing.{IsShared, SharedState}
 use Rattle.node_table.specs.Running.{KeepsUp, TellsRows}
@@ -24,7 +24,7 @@ use Rattle.node_table.specs.Standing.{IsUp, Up, UpRepresents}
 use Rattle.node_requests.specs.Labelled.{branch_in, made_in, unsettled_in}
 use Rattle.node_requests.specs.Requests.{DoesRequest, node_up}
 use Rattle.node_requests.specs.Running.{name_of}
-use Rattle.node_standing.specs.Telling.{said_shared}
+use Rattle.file_requests.specs.node_standing.Telling.{said_shared}
 use Rattle.node_requests.specs.Transacting.{new_in}
 use Rattle.node_requests.proofs.Drawing.{add_acts, add_told, id_next, new_is, next_is, with_drawn}
 use Rattle.node_requests.proofs.Ending.{first_parts, first_there}

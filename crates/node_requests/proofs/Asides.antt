@@ -3,21 +3,21 @@ use Rattle.std.proofs.Common.{◌≡◌, ◌≤◌, ◌+◌, ℕ, zero, suc, Lis
 use Rattle.std.specs.Prelude.{OnOk}
 use Rattle.careful_write.specs.declared.down.Down.{Down}
 use Rattle.block_disk.specs.Disk.{DiskState}
-use Rattle.commit_protocol.specs.Table.{Key, Tm}
-use Rattle.commit_protocol.specs.World.{In}
+use Rattle.emitter_model.specs.commit_protocol.Table.{Key, Tm}
+use Rattle.emitter_model.specs.commit_protocol.World.{In}
 use Rattle.emitter_model.specs.Emitting.{Emits, Shown, Since}
 use Rattle.unit_table.specs.Units.{OpenUnit}
 use Rattle.records_model.specs.Records.{Change}
-use Rattle.transcript_model.specs.Lines.{Line}
+use Rattle.emitter_model.specs.transcript_model.Lines.{Line}
 use Rattle.vms_model.specs.Keys.{Key as RecordKey}
-use Rattle.script_model.specs.Statements.{Setting, RecoveryUnits, NoRecoveryUnits, Images, NoImages}
-use Rattle.run_model.specs.Answers.{Row, creates, sets, shown_line, shown_record, to_file}
-use Rattle.run_model.specs.Steps.{node_after, node_after_rows}
-use Rattle.run_model.specs.World as world
-use Rattle.run_model.specs.World.{Node, Volatile, tm_of}
-use Rattle.row_laws.specs.May.{IsTold}
-use Rattle.recovery_units.specs.State.{AreOfBranches, IsInOrder, IsKept, UnitsState}
-use Rattle.recovery_units.specs.Uses.{DiskAdvances, ImagesGrow}
+use Rattle.script_lang.specs.script_model.Statements.{Setting, RecoveryUnits, NoRecoveryUnits, Images, NoImages}
+use Rattle.world_laws.specs.run_model.Answers.{Row, creates, sets, shown_line, shown_record, to_file}
+use Rattle.world_laws.specs.run_model.Steps.{node_after, node_after_rows}
+use Rattle.world_laws.specs.run_model.World as world
+use Rattle.world_laws.specs.run_model.World.{Node, Volatile, tm_of}
+use Rattle.node_table.specs.row_laws.May.{IsTold}
+use Rattle.node_table.specs.recovery_units.State.{AreOfBranches, IsInOrder, IsKept, UnitsState}
+use Rattle.node_table.specs.recovery_units.Uses.{DiskAdvances, ImagesGrow}
 use Rattle.world_laws.specs.Running.{IsDrawn}
 use Rattle.file_requests.specs.Serving.{KeepsStored, SameStored}
 use Rattle.file_requests.proofs.Reading.{kept_still}

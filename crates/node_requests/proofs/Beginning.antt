@@ -6,19 +6,19 @@ use Rattle.std.specs.Option.{option_map}
 use Rattle.std.specs.List.{list_any}
 use Rattle.std.proofs.lemmas.Bool.{leb-false, lt-ltb}
 use Rattle.vms_model.specs.Limits.{branch_limit}
-use Rattle.commit_protocol.specs.Allowed.{has_room}
-use Rattle.commit_protocol.specs.Effects.{effects_of}
-use Rattle.commit_protocol.specs.Messages.{LogRecord}
-use Rattle.commit_protocol.specs.Rows as rows
-use Rattle.commit_protocol.specs.Rows.{authorise_row, authorise_state, row}
-use Rattle.commit_protocol.specs.Table.{Active, Branch, Ending, Joining, Prepared, State, Tm, Voting, branch_serials, find_serial, record_serials}
-use Rattle.commit_protocol.specs.World.{In}
-use Rattle.commit_protocol.proofs.Lists.{in_left, in_parts, in_right, told_id}
+use Rattle.emitter_model.specs.commit_protocol.Allowed.{has_room}
+use Rattle.emitter_model.specs.commit_protocol.Effects.{effects_of}
+use Rattle.emitter_model.specs.commit_protocol.Messages.{LogRecord}
+use Rattle.emitter_model.specs.commit_protocol.Rows as rows
+use Rattle.emitter_model.specs.commit_protocol.Rows.{authorise_row, authorise_state, row}
+use Rattle.emitter_model.specs.commit_protocol.Table.{Active, Branch, Ending, Joining, Prepared, State, Tm, Voting, branch_serials, find_serial, record_serials}
+use Rattle.emitter_model.specs.commit_protocol.World.{In}
+use Rattle.emitter_model.proofs.commit_protocol.Lists.{in_left, in_parts, in_right, told_id}
 use Rattle.vms_model.specs.Ids.{Id}
-use Rattle.transcript_model.specs.Lines as line
-use Rattle.log_laws.specs.Slots.{branches_added}
-use Rattle.run_model.specs.Operations.{first_of, refused_if}
-use Rattle.tm_table.specs.Restarts.{record_of}
+use Rattle.emitter_model.specs.transcript_model.Lines as line
+use Rattle.world_laws.specs.log_laws.Slots.{branches_added}
+use Rattle.world_laws.specs.run_model.Operations.{first_of, refused_if}
+use Rattle.participants.specs.tm_table.Restarts.{record_of}
 use Rattle.node_table.specs.Running.{IsFreshOf}
 use Rattle.node_table.specs.Standing.{IsUp, Up}
 use Rattle.node_table.specs.Telling.{uses_disk}

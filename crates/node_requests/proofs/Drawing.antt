@@ -2,16 +2,16 @@
 use Rattle.std.proofs.Common.{◌≡◌, inl, inr, ℕ, ◌+◌, List, [], ◌∷◌, ◌++◌, Bool, true, false, Option, Some, None, map, refl, ◌∙◌, ap, sym, subst, arith}
 use Rattle.std.specs.Prelude.{not}
 use Rattle.std.specs.Option.{option_and_then, option_map}
-use Rattle.commit_protocol.specs.Rows as rows
-use Rattle.commit_protocol.specs.Rows.{row}
-use Rattle.commit_protocol.specs.Table.{Branch, Key, Tm, branch_serials, record_serials}
-use Rattle.commit_protocol.specs.World.{In}
+use Rattle.emitter_model.specs.commit_protocol.Rows as rows
+use Rattle.emitter_model.specs.commit_protocol.Rows.{row}
+use Rattle.emitter_model.specs.commit_protocol.Table.{Branch, Key, Tm, branch_serials, record_serials}
+use Rattle.emitter_model.specs.commit_protocol.World.{In}
 use Rattle.vms_model.specs.Ids.{Id}
-use Rattle.transcript_model.specs.Lines as line
-use Rattle.script_model.specs.Statements.{AddBranch, StartBranch, StartTrans}
-use Rattle.run_model.specs.Operations.{first_of, refused_if}
-use Rattle.run_model.specs.World.{Act, Draws, Label, Labels, Node, Numbers, Shared, acted, labelled, next_id, tm_of, with_serial}
-use Rattle.run_model.specs.Answers.{Telling, adds, all_acted, all_shared, authorised, begins, branch_labelled, in_state, is_first_active, more_bids, more_branches, new_label, seconds_refused, silent, table_rows, told_if, told_rows, unsettled}
+use Rattle.emitter_model.specs.transcript_model.Lines as line
+use Rattle.script_lang.specs.script_model.Statements.{AddBranch, StartBranch, StartTrans}
+use Rattle.world_laws.specs.run_model.Operations.{first_of, refused_if}
+use Rattle.world_laws.specs.run_model.World.{Act, Draws, Label, Labels, Node, Numbers, Shared, acted, labelled, next_id, tm_of, with_serial}
+use Rattle.world_laws.specs.run_model.Answers.{Telling, adds, all_acted, all_shared, authorised, begins, branch_labelled, in_state, is_first_active, more_bids, more_branches, new_label, seconds_refused, silent, table_rows, told_if, told_rows, unsettled}
 use Rattle.world_laws.specs.Nodes.{IsKeptNode}
 use Rattle.world_laws.specs.Running.{IsDrawn}
 use Rattle.run_shared.specs.Sharing.{IsShared, SharedState}

@@ -1,9 +1,9 @@
 -- A node that drew one id more.
 use Rattle.std.proofs.Common.{inl, inr, ℕ, ◌+◌, List, refl, ap, arith}
-use Rattle.run_model.specs.World.{Draws, Node, acted}
+use Rattle.world_laws.specs.run_model.World.{Draws, Node, acted}
 use Rattle.world_laws.specs.Running.{IsDrawn}
 use Rattle.vms_model.specs.Ids.{Id}
-use Rattle.recovery_units.specs.Laws.{KeepsNodes}
+use Rattle.node_table.specs.recovery_units.Laws.{KeepsNodes}
 use Rattle.node_table.specs.Standing.{IsUp, Up, UpRepresents}
 use Rattle.node_requests.proofs.Drawing.{with_drawn}
 

@@ -6,16 +6,16 @@ use Rattle.std.proofs.lemmas.Bool.{and_parts}
 use Rattle.std.proofs.lemmas.List.{map-append, map_push, take-append-drop}
 use Rattle.vms_model.specs.Ids.{Id}
 use Rattle.vms_model.specs.Transactions.{SyncFail}
-use Rattle.commit_protocol.specs.Allowed.{is_active}
-use Rattle.commit_protocol.specs.Effects.{Effect, PrepareEffect, SettleEffect, KeepEffect, ForgetEffect, SendEffect, TellEffect, JoinedEffect, StartedEffect, ReadOnlyEffect, EndedEffect, effects_of}
-use Rattle.commit_protocol.specs.Messages.{LogRecord, Message, Name, Prepare, RmEvent, same_id}
-use Rattle.commit_protocol.specs.Rows as rows
-use Rattle.commit_protocol.specs.Rows.{all_replied, all_taken, all_voted, begins_ending, commits_if_all, ending, end_trans_row, end_trans_state, joined, row, sends_all, serials, tells, to_each, which_event}
-use Rattle.commit_protocol.specs.Table.{Act, Active, Branch, Ending, Joining, Key, Prepared, State, Tm, Voting, after, find, find_serial, first, is_first, put}
-use Rattle.commit_protocol.proofs.Lists.{same_id-refl, told_id, told_key}
-use Rattle.transcript_model.specs.Lines as line
-use Rattle.transcript_model.specs.Lines.{Line}
-use Rattle.run_model.specs.Answers.{end_answer, is_first_active, missing, unreplied}
+use Rattle.emitter_model.specs.commit_protocol.Allowed.{is_active}
+use Rattle.emitter_model.specs.commit_protocol.Effects.{Effect, PrepareEffect, SettleEffect, KeepEffect, ForgetEffect, SendEffect, TellEffect, JoinedEffect, StartedEffect, ReadOnlyEffect, EndedEffect, effects_of}
+use Rattle.emitter_model.specs.commit_protocol.Messages.{LogRecord, Message, Name, Prepare, RmEvent, same_id}
+use Rattle.emitter_model.specs.commit_protocol.Rows as rows
+use Rattle.emitter_model.specs.commit_protocol.Rows.{all_replied, all_taken, all_voted, begins_ending, commits_if_all, ending, end_trans_row, end_trans_state, joined, row, sends_all, serials, tells, to_each, which_event}
+use Rattle.emitter_model.specs.commit_protocol.Table.{Act, Active, Branch, Ending, Joining, Key, Prepared, State, Tm, Voting, after, find, find_serial, first, is_first, put}
+use Rattle.emitter_model.proofs.commit_protocol.Lists.{same_id-refl, told_id, told_key}
+use Rattle.emitter_model.specs.transcript_model.Lines as line
+use Rattle.emitter_model.specs.transcript_model.Lines.{Line}
+use Rattle.world_laws.specs.run_model.Answers.{end_answer, is_first_active, missing, unreplied}
 use Rattle.node_requests.specs.Transacting.{ended_in, ending_in, ending_line}
 
 -- Messages and events of managers settle nothing.

@@ -8,7 +8,7 @@ use Rattle.vms_base.specs.declared.ids.Serial.{Serial}
 use Rattle.vms_base.specs.declared.protocol.LogRec.{LogRec}
 use Rattle.vms_base.specs.declared.outcomes.Outcome.{Outcome}
 use Rattle.vms_base.specs.declared.outcomes.Reason.{Reason}
-use Rattle.commit_protocol.specs.Messages.{same_id}
+use Rattle.emitter_model.specs.commit_protocol.Messages.{same_id}
 use Rattle.tm_types.specs.Effects.{effect_of}
 use Rattle.tm_types.specs.declared.effects.Effect.{Effect}
 use Rattle.tm_types.specs.declared.effects.Effect.TheVariants as effect

@@ -4,20 +4,20 @@ use Rattle.std.specs.Prelude.{if◌then◌else◌}
 use Rattle.std.proofs.lemmas.Bool.{and_parts}
 use Rattle.vms_model.specs.Ids.{Id}
 use Rattle.vms_model.specs.Transactions.{Abort, Commit, Outcome, Reason}
-use Rattle.commit_protocol.specs.Allowed.{is_active, there_is}
-use Rattle.commit_protocol.specs.Effects.{Effect, PrepareEffect, SettleEffect, KeepEffect, ForgetEffect, SendEffect, TellEffect, JoinedEffect, StartedEffect, ReadOnlyEffect, EndedEffect, effects_of}
-use Rattle.commit_protocol.specs.Messages.{same_id}
-use Rattle.commit_protocol.specs.Rows as rows
-use Rattle.commit_protocol.specs.Rows.{row}
-use Rattle.commit_protocol.specs.Table.{Branch, Key, Tm, after, find, find_serial, first, is_first}
-use Rattle.commit_protocol.proofs.Lists.{find_serial-key, same_key-true}
-use Rattle.transcript_model.specs.Lines as line
-use Rattle.transcript_model.specs.Lines.{Line}
-use Rattle.script_model.specs.Statements.{ByLabel, EndTrans}
-use Rattle.run_said.specs.Said.{Said, line_said}
-use Rattle.said_steps.specs.Answers.{is_served}
-use Rattle.run_model.specs.World.{Node, Shared, tm_of}
-use Rattle.run_model.specs.Answers.{end_answer, is_first_active, missing, service, unreplied}
+use Rattle.emitter_model.specs.commit_protocol.Allowed.{is_active, there_is}
+use Rattle.emitter_model.specs.commit_protocol.Effects.{Effect, PrepareEffect, SettleEffect, KeepEffect, ForgetEffect, SendEffect, TellEffect, JoinedEffect, StartedEffect, ReadOnlyEffect, EndedEffect, effects_of}
+use Rattle.emitter_model.specs.commit_protocol.Messages.{same_id}
+use Rattle.emitter_model.specs.commit_protocol.Rows as rows
+use Rattle.emitter_model.specs.commit_protocol.Rows.{row}
+use Rattle.emitter_model.specs.commit_protocol.Table.{Branch, Key, Tm, after, find, find_serial, first, is_first}
+use Rattle.emitter_model.proofs.commit_protocol.Lists.{find_serial-key, same_key-true}
+use Rattle.emitter_model.specs.transcript_model.Lines as line
+use Rattle.emitter_model.specs.transcript_model.Lines.{Line}
+use Rattle.script_lang.specs.script_model.Statements.{ByLabel, EndTrans}
+use Rattle.file_requests.specs.run_said.Said.{Said, line_said}
+use Rattle.file_requests.specs.said_steps.Answers.{is_served}
+use Rattle.world_laws.specs.run_model.World.{Node, Shared, tm_of}
+use Rattle.world_laws.specs.run_model.Answers.{end_answer, is_first_active, missing, service, unreplied}
 use Rattle.run_shared.specs.Sharing.{IsShared, SharedState}
 use Rattle.node_table.specs.Standing.{Up, UpRepresents}
 use Rattle.node_requests.specs.Labelled.{branch_in}

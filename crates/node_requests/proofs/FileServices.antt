@@ -3,16 +3,16 @@ use Rattle.std.proofs.Common.{◌≡◌, ◌≤◌, ◌+◌, ℕ, List, [], ◌�
 use Rattle.std.specs.Prelude.{OnErr}
 use Rattle.careful_write.specs.declared.down.Down.{Down}
 use Rattle.emitter_model.specs.Emitting.{Shown}
-use Rattle.transcript_model.specs.Lines.{Line}
-use Rattle.script_model.specs.Statements as said
-use Rattle.script_model.specs.Statements.{Request}
-use Rattle.run_said.specs.Said.{refused_by_lines}
-use Rattle.run_model.specs.Answers.{service, touches}
-use Rattle.run_model.specs.Steps.{node_after_rows}
-use Rattle.run_model.specs.World as world
-use Rattle.run_model.specs.World.{Node}
+use Rattle.emitter_model.specs.transcript_model.Lines.{Line}
+use Rattle.script_lang.specs.script_model.Statements as said
+use Rattle.script_lang.specs.script_model.Statements.{Request}
+use Rattle.file_requests.specs.run_said.Said.{refused_by_lines}
+use Rattle.world_laws.specs.run_model.Answers.{service, touches}
+use Rattle.world_laws.specs.run_model.Steps.{node_after_rows}
+use Rattle.world_laws.specs.run_model.World as world
+use Rattle.world_laws.specs.run_model.World.{Node}
 use Rattle.run_shared.specs.Sharing.{IsShared, SharedState}
-use Rattle.recovery_units.specs.State.{IsEarly, IsKept}
+use Rattle.node_table.specs.recovery_units.State.{IsEarly, IsKept}
 use Rattle.world_laws.specs.Nodes as laws
 use Rattle.world_laws.specs.Nodes.{IsKeptNode}
 use Rattle.file_requests.specs.Serving.{DoesThere, IsReady, SameStored, ServesFile}
@@ -20,8 +20,8 @@ use Rattle.node_table.specs.Growing.{end_to_come, moment_to_come}
 use Rattle.node_table.specs.Serving.{DoesService, service_at}
 use Rattle.node_table.specs.Standing.{IsUp, Stored, Up, UpRepresents}
 use Rattle.node_requests.specs.Requests.{DoesRequest, KeepsRequest, MayServe, SaysRequest, ServesUp, node_up}
-use Rattle.node_standing.specs.Standing.{disk_of}
-use Rattle.node_standing.specs.Telling.{said_shared}
+use Rattle.file_requests.specs.node_standing.Standing.{disk_of}
+use Rattle.file_requests.specs.node_standing.Telling.{said_shared}
 use Rattle.node_requests.proofs.Asides.{AreAside, IsAside, aside_create, aside_lines, aside_records, aside_rows, keeps_beside, service_as, stands_aside, stands_still}
 use Rattle.node_requests.proofs.Saying.{IsStillRequest, says_replies}
 

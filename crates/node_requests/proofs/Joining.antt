@@ -3,22 +3,22 @@ use Rattle.std.proofs.Common.{◌≡◌, ℕ, ◌+◌, List, [], ◌∷◌, ◌+
 use Rattle.std.specs.Prelude.{IfErr, IfOk, if◌then◌else◌, is_ok, not}
 use Rattle.std.specs.Borrow.{Bor}
 use Rattle.std.specs.Str.{bytes_eq}
-use Rattle.commit_protocol.specs.Rows as rows
-use Rattle.commit_protocol.specs.Table.{Branch, branch_serials, record_serials}
-use Rattle.commit_protocol.specs.World.{In}
+use Rattle.emitter_model.specs.commit_protocol.Rows as rows
+use Rattle.emitter_model.specs.commit_protocol.Table.{Branch, branch_serials, record_serials}
+use Rattle.emitter_model.specs.commit_protocol.World.{In}
 use Rattle.tm_types.specs.Branches.{branch_of}
 use Rattle.tm_types.specs.declared.branch.BranchState.{BranchState}
 use Rattle.transcript.specs.Forms.{line_of}
 use Rattle.transcript.specs.declared.form.Form.{Form}
 use Rattle.vms_model.specs.Ids.{Id}
 use Rattle.emitter_model.specs.Emitting.{Emits, Shown, Since}
-use Rattle.transcript_model.specs.Lines as line
-use Rattle.transcript_model.specs.Lines.{Line}
-use Rattle.script_model.specs.Statements.{StartBranch}
-use Rattle.run_said.specs.Said.{SaidLabel, refused_by_lines}
-use Rattle.run_model.specs.Operations.{first_of}
-use Rattle.run_model.specs.World.{Draws, Label, Node, Shared, acted, labelled, with_serial}
-use Rattle.run_model.specs.Answers.{authorised, branch_labelled, in_state, more_branches, service, unsettled}
+use Rattle.emitter_model.specs.transcript_model.Lines as line
+use Rattle.emitter_model.specs.transcript_model.Lines.{Line}
+use Rattle.script_lang.specs.script_model.Statements.{StartBranch}
+use Rattle.file_requests.specs.run_said.Said.{SaidLabel, refused_by_lines}
+use Rattle.world_laws.specs.run_model.Operations.{first_of}
+use Rattle.world_laws.specs.run_model.World.{Draws, Label, Node, Shared, acted, labelled, with_serial}
+use Rattle.world_laws.specs.run_model.Answers.{authorised, branch_labelled, in_state, more_branches, service, unsettled}
 use Rattle.world_laws.specs.Nodes.{RowsKeepUp}
 use Rattle.run_shared.specs.Sharing.{IsShared, SharedState}
 use Rattle.node_table.specs.Running.{KeepsUp, TellsRows}
@@ -26,7 +26,7 @@ use Rattle.node_table.specs.Standing.{IsUp, Up, UpRepresents}
 use Rattle.node_requests.specs.Labelled.{branch_in, made_in, unsettled_in}
 use Rattle.node_requests.specs.Requests.{DoesRequest, node_up}
 use Rattle.node_requests.specs.Running.{name_of}
-use Rattle.node_standing.specs.Telling.{said_label, said_shared}
+use Rattle.file_requests.specs.node_standing.Telling.{said_label, said_shared}
 use Rattle.node_requests.specs.Transacting.{IsQuota, more_in}
 use Rattle.node_requests.proofs.Drawing.{begin_acts, begin_told, id_next, more_is, next_free, next_is, with_drawn}
 use Rattle.node_requests.proofs.Labels.{made_says}

@@ -3,19 +3,19 @@ use Rattle.std.proofs.Common.{◌≡◌, inl, inr, ℕ, Bool, true, false, List,
 use Rattle.std.specs.Prelude.{if◌then◌else◌}
 use Rattle.std.specs.Option.{option_and_then, option_map}
 use Rattle.std.specs.Str.{bytes_eq}
-use Rattle.commit_protocol.specs.Table.{Branch, find_serial}
-use Rattle.commit_protocol.proofs.Lists.{told_id}
-use Rattle.transcript_model.specs.Lines as line
-use Rattle.transcript_model.specs.Lines.{Line}
+use Rattle.emitter_model.specs.commit_protocol.Table.{Branch, find_serial}
+use Rattle.emitter_model.proofs.commit_protocol.Lists.{told_id}
+use Rattle.emitter_model.specs.transcript_model.Lines as line
+use Rattle.emitter_model.specs.transcript_model.Lines.{Line}
 use Rattle.records_model.specs.History.{same_id}
 use Rattle.vms_model.specs.Ids.{Id}
-use Rattle.run_said.specs.Said.{SaidLabel, find_said, made_said}
-use Rattle.run_model.specs.Answers.{branch_labelled}
-use Rattle.run_model.specs.World as world
-use Rattle.run_model.specs.World.{Label, Node, find_branch, find_label, serial_labelled}
+use Rattle.file_requests.specs.run_said.Said.{SaidLabel, find_said, made_said}
+use Rattle.world_laws.specs.run_model.Answers.{branch_labelled}
+use Rattle.world_laws.specs.run_model.World as world
+use Rattle.world_laws.specs.run_model.World.{Label, Node, find_branch, find_label, serial_labelled}
 use Rattle.node_table.proofs.Branching.{told_serial}
 use Rattle.node_requests.specs.Labelled.{branch_at, branch_in, made_in}
-use Rattle.node_standing.specs.Telling.{said_label}
+use Rattle.file_requests.specs.node_standing.Telling.{said_label}
 
 -- a label is found among those that were said as among those that were made
 pub said_found : (name : List ℕ) (ls : List Label) → find_said name (map said_label ls) ≡ option_map said_label (find_label name ls)

@@ -23,3 +23,4 @@ pub mod SlotLoops
 pub mod Starting
 pub mod Statements
 pub mod Transacting
+pub mod node_table

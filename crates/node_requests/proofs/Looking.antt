@@ -1,25 +1,25 @@
 -- Statements that change nothing but which resource managers are declared, and use no disk: what they show, and that their node is the world's still.
 use Rattle.std.proofs.Common.{◌≡◌, ◌⊎◌, inl, inr, ℕ, ◌≤◌, List, [], ◌∷◌, ◌++◌, Bool, true, false, Option, Some, None, Ok, map, refl, ◌∙◌, ap, sym, subst, arith}
 use Rattle.std.specs.List.{AllByRecursion}
-use Rattle.commit_protocol.specs.Messages.{LogRecord, Name}
+use Rattle.emitter_model.specs.commit_protocol.Messages.{LogRecord, Name}
 use Rattle.emitter_model.specs.Emitting.{Emits, Shown, Since}
-use Rattle.transcript_model.specs.Lines as line
-use Rattle.transcript_model.specs.Lines.{Line}
-use Rattle.script_model.specs.Statements.{Request}
-use Rattle.run_said.specs.Said.{Said, line_said, lines_said, refused_by_lines, request_said}
-use Rattle.said_steps.specs.Answers.{is_served}
-use Rattle.run_model.specs.Operations.{first_of}
-use Rattle.run_model.specs.World.{Declares, Node, Shared, acted}
-use Rattle.run_model.specs.Answers.{log_line, owed_line, service, shown_line}
-use Rattle.run_model.specs.Steps.{lines_of_rows, node_after_rows, shared_after_rows}
+use Rattle.emitter_model.specs.transcript_model.Lines as line
+use Rattle.emitter_model.specs.transcript_model.Lines.{Line}
+use Rattle.script_lang.specs.script_model.Statements.{Request}
+use Rattle.file_requests.specs.run_said.Said.{Said, line_said, lines_said, refused_by_lines, request_said}
+use Rattle.file_requests.specs.said_steps.Answers.{is_served}
+use Rattle.world_laws.specs.run_model.Operations.{first_of}
+use Rattle.world_laws.specs.run_model.World.{Declares, Node, Shared, acted}
+use Rattle.world_laws.specs.run_model.Answers.{log_line, owed_line, service, shown_line}
+use Rattle.world_laws.specs.run_model.Steps.{lines_of_rows, node_after_rows, shared_after_rows}
 use Rattle.world_laws.specs.Nodes.{IsKeptNode}
-use Rattle.recovery_units.specs.Laws.{KeepsNodes}
+use Rattle.node_table.specs.recovery_units.Laws.{KeepsNodes}
 use Rattle.run_shared.specs.Sharing.{IsShared, SharedState}
 use Rattle.node_table.specs.Standing.{IsUp, Up, UpRepresents}
 use Rattle.node_table.specs.Telling.{IsOfWork}
 use Rattle.node_requests.specs.Requests.{DoesRequest, node_up, said_up}
 use Rattle.node_requests.specs.Running.{name_of}
-use Rattle.node_standing.specs.Telling.{said_shared}
+use Rattle.file_requests.specs.node_standing.Telling.{said_shared}
 
 -- What such a statement is at a node of the world: nothing refuses it, it shows these lines and this answer, shares nothing new, and leaves the node so that these
 -- managers are declared.

@@ -1,26 +1,26 @@
 -- DECLARE_RM, FORGET_RM, GETDTI and LMCP at a node that is up.
 use Rattle.std.proofs.Common.{◌≡◌, ◌⊎◌, inl, inr, ℕ, List, [], ◌∷◌, ◌++◌, Bool, true, false, Option, Some, None, Ok, map, length, refl, ◌∙◌, ap, sym, subst}
-use Rattle.commit_protocol.specs.Messages.{Name}
-use Rattle.commit_protocol.specs.Table.{without_rm}
-use Rattle.log_laws.specs.Slots.{committed_of, free_slots, prepared_of, records_in, slot_records, waiting_for}
+use Rattle.emitter_model.specs.commit_protocol.Messages.{Name}
+use Rattle.emitter_model.specs.commit_protocol.Table.{without_rm}
+use Rattle.world_laws.specs.log_laws.Slots.{committed_of, free_slots, prepared_of, records_in, slot_records, waiting_for}
 use Rattle.emitter_model.specs.Emitting.{Emits, Shown, Since}
-use Rattle.transcript_model.specs.Lines as line
-use Rattle.transcript_model.specs.Lines.{Line}
-use Rattle.script_model.specs.Statements.{ByLabel, BySerial, DeclareRm, ForgetRm, GetDti, LmcpDump, LmcpShow, Named}
-use Rattle.run_said.specs.Said.{Said, line_said, refused_by_lines}
-use Rattle.said_steps.specs.Answers.{is_served}
-use Rattle.run_model.specs.Operations.{first_of}
-use Rattle.run_model.specs.World.{Declares, Node, Shared, acted}
-use Rattle.run_model.specs.Answers.{log_line, made_name, owed_line, service, shown_line, standing}
+use Rattle.emitter_model.specs.transcript_model.Lines as line
+use Rattle.emitter_model.specs.transcript_model.Lines.{Line}
+use Rattle.script_lang.specs.script_model.Statements.{ByLabel, BySerial, DeclareRm, ForgetRm, GetDti, LmcpDump, LmcpShow, Named}
+use Rattle.file_requests.specs.run_said.Said.{Said, line_said, refused_by_lines}
+use Rattle.file_requests.specs.said_steps.Answers.{is_served}
+use Rattle.world_laws.specs.run_model.Operations.{first_of}
+use Rattle.world_laws.specs.run_model.World.{Declares, Node, Shared, acted}
+use Rattle.world_laws.specs.run_model.Answers.{log_line, made_name, owed_line, service, shown_line, standing}
 use Rattle.world_laws.specs.Nodes.{IsKeptNode}
-use Rattle.recovery_units.specs.Laws.{KeepsNodes}
+use Rattle.node_table.specs.recovery_units.Laws.{KeepsNodes}
 use Rattle.run_shared.specs.Sharing.{IsShared, SharedState}
 use Rattle.participants.specs.Refusing.{refused_declaration, refused_forgetting}
 use Rattle.node_table.specs.Standing.{IsUp, Up, UpRepresents}
 use Rattle.node_requests.specs.Managers.{known_at, made_of, serial_in}
 use Rattle.node_requests.specs.Requests.{DoesRequest, node_up}
 use Rattle.node_requests.specs.Running.{name_of}
-use Rattle.node_standing.specs.Telling.{said_shared}
+use Rattle.file_requests.specs.node_standing.Telling.{said_shared}
 use Rattle.node_requests.proofs.Looking.{Looks, log_still, log_work, looks, owed_still, owed_work, shown_lines, shown_node, shown_shared, stands_declared, with_declared}
 use Rattle.node_requests.proofs.ManagerStatements.{by_lines, known_is, unrefused}
 use Rattle.node_requests.proofs.Statements.{branches_are, made_name_is}

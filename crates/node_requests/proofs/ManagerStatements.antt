@@ -4,31 +4,31 @@ use Rattle.std.specs.Prelude.{not}
 use Rattle.std.specs.Option.{option_and_then, option_map}
 use Rattle.std.specs.List.{list_any}
 use Rattle.careful_write.specs.declared.down.Down.{Down}
-use Rattle.commit_protocol.specs.Effects.{effects_of}
-use Rattle.commit_protocol.specs.Messages.{LogRecord, Name, Reply}
+use Rattle.emitter_model.specs.commit_protocol.Effects.{effects_of}
+use Rattle.emitter_model.specs.commit_protocol.Messages.{LogRecord, Name, Reply}
 use Rattle.records_model.specs.History.{same_id}
-use Rattle.commit_protocol.specs.Rows as rows
-use Rattle.commit_protocol.specs.Rows.{Event, note_row, with_manager}
-use Rattle.commit_protocol.specs.Table.{Active, Branch, Ending, Joining, Prepared, State, Tm, Voting, find_serial}
-use Rattle.commit_protocol.proofs.Lists.{find_serial-serial, told_id}
-use Rattle.log_laws.specs.Slots.{branches_added}
+use Rattle.emitter_model.specs.commit_protocol.Rows as rows
+use Rattle.emitter_model.specs.commit_protocol.Rows.{Event, note_row, with_manager}
+use Rattle.emitter_model.specs.commit_protocol.Table.{Active, Branch, Ending, Joining, Prepared, State, Tm, Voting, find_serial}
+use Rattle.emitter_model.proofs.commit_protocol.Lists.{find_serial-serial, told_id}
+use Rattle.world_laws.specs.log_laws.Slots.{branches_added}
 use Rattle.vms_model.specs.Ids.{Id}
 use Rattle.emitter_model.specs.Emitting.{Emits, Shown, Since}
-use Rattle.transcript_model.specs.Lines as line
-use Rattle.transcript_model.specs.Lines.{Line, Quota}
-use Rattle.script_model.specs.Statements.{AckEvent, ByLabel, BySerial, JoinRm, Named, Request}
-use Rattle.run_said.specs.Said.{Said, line_said, named_said, refused_by_lines, request_said}
-use Rattle.said_steps.specs.Answers.{is_served}
-use Rattle.run_model.specs.Operations.{first_of, refused_if}
-use Rattle.run_model.specs.World.{Label, Node, Shared, find_branch, find_record, serial_labelled, tm_of}
-use Rattle.run_model.specs.Answers.{Known, Recorded, Unheard, Unsettled, awaited_reply, branch_labelled, declared_manager, in_state, is_joinable, just, known, known_branch, known_manager, known_serial, made_name, more_managers, serial_named, service, told_if, told_rows, unsettled}
-use Rattle.run_model.specs.Steps.{node_after_rows}
+use Rattle.emitter_model.specs.transcript_model.Lines as line
+use Rattle.emitter_model.specs.transcript_model.Lines.{Line, Quota}
+use Rattle.script_lang.specs.script_model.Statements.{AckEvent, ByLabel, BySerial, JoinRm, Named, Request}
+use Rattle.file_requests.specs.run_said.Said.{Said, line_said, named_said, refused_by_lines, request_said}
+use Rattle.file_requests.specs.said_steps.Answers.{is_served}
+use Rattle.world_laws.specs.run_model.Operations.{first_of, refused_if}
+use Rattle.world_laws.specs.run_model.World.{Label, Node, Shared, find_branch, find_record, serial_labelled, tm_of}
+use Rattle.world_laws.specs.run_model.Answers.{Known, Recorded, Unheard, Unsettled, awaited_reply, branch_labelled, declared_manager, in_state, is_joinable, just, known, known_branch, known_manager, known_serial, made_name, more_managers, serial_named, service, told_if, told_rows, unsettled}
+use Rattle.world_laws.specs.run_model.Steps.{node_after_rows}
 use Rattle.world_laws.specs.Nodes.{IsKeptNode, RowsKeepUp}
 use Rattle.run_shared.specs.Sharing.{IsShared, SharedState}
 use Rattle.participants.specs.Refusing.{known_in, refusal_line, refused_joining, refused_reply, undeclared}
 use Rattle.participants.specs.declared.refusals.RmErr.{RmErr}
 use Rattle.participants.specs.declared.refusals.RmErr.TheVariants as error
-use Rattle.tm_table.specs.Restarts.{record_of}
+use Rattle.participants.specs.tm_table.Restarts.{record_of}
 use Rattle.node_table.specs.Running.{KeepsUp, TellsRows}
 use Rattle.node_table.specs.Standing.{IsUp, Up, UpRepresents}
 use Rattle.node_table.specs.Telling.{uses_disk}
@@ -36,7 +36,7 @@ use Rattle.node_requests.specs.Labelled.{made_in}
 use Rattle.node_requests.specs.Managers.{known_at, made_of, serial_in, unheard_in, without_serial}
 use Rattle.node_requests.specs.Requests.{DoesRequest, node_up}
 use Rattle.node_requests.specs.Running.{name_of}
-use Rattle.node_standing.specs.Telling.{said_label, said_shared}
+use Rattle.file_requests.specs.node_standing.Telling.{said_label, said_shared}
 use Rattle.node_table.proofs.Branching.{told_serial}
 use Rattle.node_requests.proofs.Labels.{branch_found}
 use Rattle.node_requests.proofs.Statements.{branches_are, made_name_either, made_name_is, made_name_says, name_is, row_of}

@@ -3,19 +3,19 @@ use Rattle.std.proofs.Common.{◌≡◌, ◌≤◌, ◌+◌, ◌*◌, ◌^◌, �
 use Rattle.std.specs.Prelude.{if◌then◌else◌, is_some}
 use Rattle.vms_model.specs.Ids.{Id}
 use Rattle.records_model.specs.History.{same_id}
-use Rattle.commit_protocol.specs.Agreement.{Distinct}
-use Rattle.commit_protocol.specs.Allowed.{allowed, is_prepared}
-use Rattle.commit_protocol.specs.Limits.{TmWithin}
-use Rattle.commit_protocol.specs.Messages.{LogRecord, PreparedRecord}
-use Rattle.commit_protocol.specs.Rows.{Changed}
-use Rattle.commit_protocol.specs.Table.{Branch, Key, State, Joining, Active, Ending, Voting, Prepared, Tm, branch_serials, find, holding, prepared_record, prepared_records, prepared_state, record_serials, same_key}
-use Rattle.commit_protocol.specs.World.{In}
-use Rattle.commit_protocol.proofs.WithinRows.{keeps_limits}
-use Rattle.log_laws.specs.Slots.{LogTells, Slots}
-use Rattle.row_laws.specs.May.{IsTold}
-use Rattle.run_model.specs.World.{find_branch, with_changed}
+use Rattle.emitter_model.specs.commit_protocol.Agreement.{Distinct}
+use Rattle.emitter_model.specs.commit_protocol.Allowed.{allowed, is_prepared}
+use Rattle.emitter_model.specs.commit_protocol.Limits.{TmWithin}
+use Rattle.emitter_model.specs.commit_protocol.Messages.{LogRecord, PreparedRecord}
+use Rattle.emitter_model.specs.commit_protocol.Rows.{Changed}
+use Rattle.emitter_model.specs.commit_protocol.Table.{Branch, Key, State, Joining, Active, Ending, Voting, Prepared, Tm, branch_serials, find, holding, prepared_record, prepared_records, prepared_state, record_serials, same_key}
+use Rattle.emitter_model.specs.commit_protocol.World.{In}
+use Rattle.emitter_model.proofs.commit_protocol.WithinRows.{keeps_limits}
+use Rattle.world_laws.specs.log_laws.Slots.{LogTells, Slots}
+use Rattle.node_table.specs.row_laws.May.{IsTold}
+use Rattle.world_laws.specs.run_model.World.{find_branch, with_changed}
 use Rattle.unit_table.specs.Units.{OpenUnit}
-use Rattle.recovery_units.specs.State.{AreLater, AreOfBranches, IsLater, IsOfBranch, are_there, has_changed_by, unit_of}
+use Rattle.node_table.specs.recovery_units.State.{AreLater, AreOfBranches, IsLater, IsOfBranch, are_there, has_changed_by, unit_of}
 use Rattle.node_table.specs.Growing.{groups_left}
 use Rattle.node_table.specs.Standing.{AreInDoubt, NamesPrepared, unsettled_serials}
 use Rattle.node_table.proofs.Branching.{told_serial}

@@ -1,27 +1,27 @@
 -- An operation of a branch, or one that no branch is asked for, at a node that is up.
 use Rattle.std.proofs.Common.{◌≡◌, ◌≤◌, ◌+◌, ◌*◌, ◌^◌, ℕ, Bool, true, false, List, [], ◌∷◌, ◌++◌, Option, Some, None, Result, Ok, Err, inl, inr, refl, ap, sym, subst, ◌∙◌, length, max, arith}
 use Rattle.careful_write.specs.declared.down.Down.{Down}
-use Rattle.commit_protocol.specs.Agreement.{Distinct}
+use Rattle.emitter_model.specs.commit_protocol.Agreement.{Distinct}
 use Rattle.std.specs.Prelude.{IfSome, ◌&&◌, not}
 use Rattle.std.specs.List.{list_any}
-use Rattle.commit_protocol.specs.Allowed.{allowed, is_active, is_prepared, is_working, there_is}
-use Rattle.commit_protocol.specs.Rows.{Changed}
-use Rattle.commit_protocol.specs.Table.{Branch, State, Joining, Active, Ending, Voting, Prepared, Tm, branch_serials, find_serial, record_serials}
-use Rattle.commit_protocol.proofs.Lists.{told_id}
-use Rattle.commit_protocol.proofs.Serials.{parts_apart}
-use Rattle.log_laws.specs.Slots.{Slots}
+use Rattle.emitter_model.specs.commit_protocol.Allowed.{allowed, is_active, is_prepared, is_working, there_is}
+use Rattle.emitter_model.specs.commit_protocol.Rows.{Changed}
+use Rattle.emitter_model.specs.commit_protocol.Table.{Branch, State, Joining, Active, Ending, Voting, Prepared, Tm, branch_serials, find_serial, record_serials}
+use Rattle.emitter_model.proofs.commit_protocol.Lists.{told_id}
+use Rattle.emitter_model.proofs.commit_protocol.Serials.{parts_apart}
+use Rattle.world_laws.specs.log_laws.Slots.{Slots}
 use Rattle.records_model.specs.Records.{Change}
-use Rattle.row_laws.specs.May.{IsTold}
-use Rattle.run_model.specs.Answers.{commit_settlement, directed, operation_act}
-use Rattle.run_model.specs.Operations.{changes_of, first_of, is_change, keys_held}
-use Rattle.run_model.specs.Steps.{node_after_rows}
-use Rattle.run_model.specs.World as world
-use Rattle.run_model.specs.World.{File, Node, next_id, tm_of, with_changed}
-use Rattle.script_model.specs.Statements.{Operation}
+use Rattle.node_table.specs.row_laws.May.{IsTold}
+use Rattle.world_laws.specs.run_model.Answers.{commit_settlement, directed, operation_act}
+use Rattle.world_laws.specs.run_model.Operations.{changes_of, first_of, is_change, keys_held}
+use Rattle.world_laws.specs.run_model.Steps.{node_after_rows}
+use Rattle.world_laws.specs.run_model.World as world
+use Rattle.world_laws.specs.run_model.World.{File, Node, next_id, tm_of, with_changed}
+use Rattle.script_lang.specs.script_model.Statements.{Operation}
 use Rattle.emitter_model.specs.Emitting.{Shown}
 use Rattle.vms_model.specs.Ids.{Id}
 use Rattle.vms_model.specs.Keys as keys
-use Rattle.volume.specs.State.{VolumeState}
+use Rattle.node_table.specs.volume.State.{VolumeState}
 use Rattle.world_laws.proofs.FindLemmas.{found_serial}
 use Rattle.record_operations.specs.declared.ops.ReadOp.{ReadOp}
 use Rattle.record_operations.specs.declared.ops.ReadOp.TheVariants as read
@@ -29,8 +29,8 @@ use Rattle.record_operations.specs.declared.ops.RecordOp.{RecordOp}
 use Rattle.record_operations.specs.declared.ops.RecordOp.TheVariants as change
 use Rattle.records_model.specs.History.{same_id}
 use Rattle.unit_table.specs.Units.{OpenUnit}
-use Rattle.recovery_units.specs.Calls.{IsAsked, IsAskedAlone, alone_refused_after_reading, alone_refused_before_reading, change_said, direct_act, read_said}
-use Rattle.recovery_units.specs.State.{AreOfBranches, IsInOrder, IsKept, unit_of}
+use Rattle.node_table.specs.recovery_units.Calls.{IsAsked, IsAskedAlone, alone_refused_after_reading, alone_refused_before_reading, change_said, direct_act, read_said}
+use Rattle.node_table.specs.recovery_units.State.{AreOfBranches, IsInOrder, IsKept, unit_of}
 use Rattle.file_requests.specs.Acting.{ActsAlone, ActsFor, LooksAlone, StaysUp, alone_service, branch_service}
 use Rattle.file_requests.specs.Serving.{KeepsStored, SameStored}
 use Rattle.file_requests.proofs.Operating.{alone_row, looks_row}
@@ -38,7 +38,7 @@ use Rattle.node_table.specs.Growing.{end_to_come, groups_left, moment_to_come}
 use Rattle.node_table.specs.Standing.{AreInDoubt, Follows, IsUp, NamesPrepared, Stored, Up, UpRepresents, unsettled_serials}
 use Rattle.node_requests.specs.Operating.{DoesUp, OperatesAlone, OperatesFor}
 use Rattle.node_requests.specs.Requests.{HasMoved, KeepsRequest, MayServe, noted, with_noted}
-use Rattle.node_standing.specs.Standing.{disk_of}
+use Rattle.file_requests.specs.node_standing.Standing.{disk_of}
 use Rattle.node_requests.proofs.Asides.{IsAside, aside_directs, keeps_beside, service_as, stands_aside, stands_still}
 use Rattle.node_table.proofs.Branching.{told_serial}
 use Rattle.node_requests.proofs.Noted.{alike_noted, doubt_alike, later_branches, later_groups, names_alike, noted_changed, noted_same, standing_alike, told_alike, within_noted}

@@ -4,25 +4,25 @@ use Rattle.std.specs.Prelude.{OnErr, ◌||◌, nat_lt, not}
 use Rattle.std.specs.Option.{option_and_then}
 use Rattle.vms_model.specs.Limits.{change_limit}
 use Rattle.careful_write.specs.declared.down.Down.{Down}
-use Rattle.commit_protocol.specs.Allowed.{is_working}
-use Rattle.commit_protocol.specs.Table.{Branch, Tm, find_serial}
+use Rattle.emitter_model.specs.commit_protocol.Allowed.{is_working}
+use Rattle.emitter_model.specs.commit_protocol.Table.{Branch, Tm, find_serial}
 use Rattle.emitter_model.specs.Emitting.{Emits, Shown, Since}
-use Rattle.transcript_model.specs.Lines as line
-use Rattle.transcript_model.specs.Lines.{Line}
-use Rattle.script_model.specs.Statements as said
-use Rattle.script_model.specs.Statements.{Operation, Request}
+use Rattle.emitter_model.specs.transcript_model.Lines as line
+use Rattle.emitter_model.specs.transcript_model.Lines.{Line}
+use Rattle.script_lang.specs.script_model.Statements as said
+use Rattle.script_lang.specs.script_model.Statements.{Operation, Request}
 use Rattle.vms_model.specs.Ids.{Id}
 use Rattle.records_model.specs.Records.{Change}
-use Rattle.run_said.specs.Said.{refused_by_lines}
-use Rattle.said_steps.specs.Answers.{is_served}
-use Rattle.run_model.specs.Answers.{Serves, branch_labelled, directed, found_refused, images_full, in_state, is_marked, journal_full, keys_refused, more_changes, more_locks, needs_unit, operation_act, service, silent, touches, unsettled}
-use Rattle.run_model.specs.Operations.{changes_of, file_full, first_of, form_refused, keys_asked, keys_held, operation_answer, refused_if}
-use Rattle.run_model.specs.World as world
-use Rattle.run_model.specs.World.{File, Label, Node, find_branch, find_file, labelled, next_id, serial_labelled}
+use Rattle.file_requests.specs.run_said.Said.{refused_by_lines}
+use Rattle.file_requests.specs.said_steps.Answers.{is_served}
+use Rattle.world_laws.specs.run_model.Answers.{Serves, branch_labelled, directed, found_refused, images_full, in_state, is_marked, journal_full, keys_refused, more_changes, more_locks, needs_unit, operation_act, service, silent, touches, unsettled}
+use Rattle.world_laws.specs.run_model.Operations.{changes_of, file_full, first_of, form_refused, keys_asked, keys_held, operation_answer, refused_if}
+use Rattle.world_laws.specs.run_model.World as world
+use Rattle.world_laws.specs.run_model.World.{File, Label, Node, find_branch, find_file, labelled, next_id, serial_labelled}
 use Rattle.run_shared.specs.Sharing.{IsShared, SharedState}
 use Rattle.world_laws.specs.Nodes.{IsKeptNode, RowsKeepUp}
 use Rattle.world_laws.proofs.FindLemmas.{found_serial}
-use Rattle.recovery_units.specs.Calls.{IsAsked, IsAskedAlone}
+use Rattle.node_table.specs.recovery_units.Calls.{IsAsked, IsAskedAlone}
 use Rattle.directory_model.specs.Files.{IsHeadOf, IsNamed, NoneNamed}
 use Rattle.directory_model.specs.Laws.{FindsFiles}
 use Rattle.file_base.specs.declared.head.FileHead.{FileHead}
@@ -34,8 +34,8 @@ use Rattle.node_table.specs.Standing.{IsUp, Up, UpRepresents}
 use Rattle.node_requests.specs.Labelled.{branch_at, made_in}
 use Rattle.node_requests.specs.Operating.{DoesUp, OperatesAlone, OperatesFor}
 use Rattle.node_requests.specs.Requests.{DoesRequest, node_up}
-use Rattle.node_standing.specs.Standing.{disk_of}
-use Rattle.node_standing.specs.Telling.{said_shared}
+use Rattle.file_requests.specs.node_standing.Standing.{disk_of}
+use Rattle.file_requests.specs.node_standing.Telling.{said_shared}
 use Rattle.node_requests.proofs.Asides.{keeps_same, service_as}
 use Rattle.node_requests.proofs.Operated.{active_only}
 use Rattle.node_requests.proofs.Labels.{branch_found, labelled_branch, made_says}

@@ -4,9 +4,9 @@ use Rattle.careful_write.specs.Reads.{as_read_by}
 use Rattle.careful_write.specs.declared.down.Down.{Down}
 use Rattle.emitter_model.specs.Emitting.{Shown, Since}
 use Rattle.emitter_model.proofs.EmittingLemmas.{since_same}
-use Rattle.script_model.specs.Statements as said
-use Rattle.script_model.specs.Statements.{Recovery}
-use Rattle.run_model.specs.Answers.{recovers, service}
+use Rattle.script_lang.specs.script_model.Statements as said
+use Rattle.script_lang.specs.script_model.Statements.{Recovery}
+use Rattle.world_laws.specs.run_model.Answers.{recovers, service}
 use Rattle.file_requests.specs.Recovering as files
 use Rattle.file_requests.specs.Recovering.{Recovers}
 use Rattle.file_requests.specs.Serving.{ServesFile}
@@ -17,7 +17,7 @@ use Rattle.node_table.proofs.Rows.{goes_same}
 use Rattle.node_table.specs.Standing.{Stored, Up}
 use Rattle.run_shared.specs.Sharing.{SharedState}
 use Rattle.node_requests.specs.Requests.{AnswersRequest, KeepsRequest, LacksMemory, MayServe}
-use Rattle.node_standing.specs.Standing.{disk_of}
+use Rattle.file_requests.specs.node_standing.Standing.{disk_of}
 use Rattle.node_requests.proofs.Asides.{aside_file, stands_still}
 use Rattle.node_requests.proofs.FileServices.{ready_of, serves_files}
 

@@ -6,7 +6,7 @@ use Rattle.vms_base.specs.declared.names.NodeName.{NodeName}
 use Rattle.vms_base.specs.declared.names.RmName.{RmName}
 use Rattle.vms_base.specs.declared.protocol.Reply.{Reply}
 use Rattle.script_lang.specs.Statements.{request_of}
-use Rattle.script_model.specs.Statements as said
+use Rattle.script_lang.specs.script_model.Statements as said
 use Rattle.script_lang.specs.declared.statement.Form.{Form}
 use Rattle.script_lang.specs.declared.literals.Literals.{Literals}
 use Rattle.script_lang.specs.declared.statement.Named.{Named}

@@ -3,16 +3,16 @@ use Rattle.std.proofs.Common.{◌≡◌, ℕ, List, [], ◌∷◌, ◌++◌, tru
 use Rattle.std.specs.List.{AllByRecursion}
 use Rattle.careful_write.specs.declared.down.Down.{Down}
 use Rattle.emitter_model.specs.Emitting.{Emits, Shown}
-use Rattle.transcript_model.specs.Lines as line
-use Rattle.transcript_model.specs.Lines.{Line}
-use Rattle.script_model.specs.Statements.{Request}
-use Rattle.run_said.specs.Said.{Said, line_said, lines_said, refused_by_lines, request_said}
-use Rattle.said_steps.specs.Answers.{is_served}
+use Rattle.emitter_model.specs.transcript_model.Lines as line
+use Rattle.emitter_model.specs.transcript_model.Lines.{Line}
+use Rattle.script_lang.specs.script_model.Statements.{Request}
+use Rattle.file_requests.specs.run_said.Said.{Said, line_said, lines_said, refused_by_lines, request_said}
+use Rattle.file_requests.specs.said_steps.Answers.{is_served}
 use Rattle.run_shared.specs.Sharing.{SharedState}
 use Rattle.file_requests.specs.Replying.{IsQuiet, Replies, RepliesIf, ShowsQuietly}
 use Rattle.node_table.specs.Telling.{IsOfWork}
 use Rattle.node_requests.specs.Requests.{SaysRequest, node_up, said_up}
-use Rattle.node_standing.specs.Telling.{said_shared}
+use Rattle.file_requests.specs.node_standing.Telling.{said_shared}
 
 pub quiet_work : (l : Line) → IsQuiet l → IsOfWork l
 quiet_work (line.Sent number m) h = let no : ⊥ = cc in absurd no

@@ -3,13 +3,13 @@ use Rattle.std.proofs.Common.{◌≡◌, inl, inr, ℕ, List, [], ◌∷◌, ◌
 use Rattle.std.specs.List.{AllByRecursion}
 use Rattle.std.specs.Str.{bytes_eq}
 use Rattle.std.proofs.lemmas.Slice.Eq.{bytes_eq-Decides}
-use Rattle.commit_protocol.specs.Messages.{Message}
-use Rattle.commit_protocol.specs.World.{In}
-use Rattle.transcript_model.specs.Lines as line
-use Rattle.transcript_model.specs.Lines.{Cause, Line}
-use Rattle.run_said.specs.Said.{Said, SaidNode, SaidShared, line_said, lines_said, with_said, with_up}
-use Rattle.said_steps.specs.Calls.{shows_boot}
-use Rattle.said_steps.specs.Own.{IsOwn, alone}
+use Rattle.emitter_model.specs.commit_protocol.Messages.{Message}
+use Rattle.emitter_model.specs.commit_protocol.World.{In}
+use Rattle.emitter_model.specs.transcript_model.Lines as line
+use Rattle.emitter_model.specs.transcript_model.Lines.{Cause, Line}
+use Rattle.file_requests.specs.run_said.Said.{Said, SaidNode, SaidShared, line_said, lines_said, with_said, with_up}
+use Rattle.file_requests.specs.said_steps.Calls.{shows_boot}
+use Rattle.file_requests.specs.said_steps.Own.{IsOwn, alone}
 use Rattle.node_table.specs.Telling.{IsOfWork, wire_after, wire_behind}
 
 -- what was said, with this wire

@@ -4,10 +4,10 @@ use Rattle.std.proofs.lemmas.List.{get_or_default, length-append, length-take-le
 use Rattle.std.proofs.lemmas.Grind.{flat_map-append}
 use Rattle.std.specs.Prelude.{is_some}
 use Rattle.std.specs.List.{list_any}
-use Rattle.commit_protocol.specs.Messages.{LogRecord, Name, same_name}
-use Rattle.log_laws.specs.Slots.{Slots, committed_of, free_slots, is_prepared_record, prepared_of, records_in, slot_records, waiting_for}
-use Rattle.lmcp_log.specs.Log.{slot_at}
-use Rattle.run_model.specs.Answers.{log_line, owed_line}
+use Rattle.emitter_model.specs.commit_protocol.Messages.{LogRecord, Name, same_name}
+use Rattle.world_laws.specs.log_laws.Slots.{Slots, committed_of, free_slots, is_prepared_record, prepared_of, records_in, slot_records, waiting_for}
+use Rattle.node_table.specs.lmcp_log.Log.{slot_at}
+use Rattle.world_laws.specs.run_model.Answers.{log_line, owed_line}
 use Rattle.node_requests.specs.Managers.{entry_lines_at, owed_lines_at}
 
 -- one slot more

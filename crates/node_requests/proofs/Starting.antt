@@ -4,26 +4,26 @@ use Rattle.std.proofs.lemmas.Bool.{lt-leb}
 use Rattle.std.proofs.lemmas.List.{length-map}
 use Rattle.std.specs.Option.{option_map}
 use Rattle.vms_model.specs.Limits.{label_limit}
-use Rattle.commit_protocol.specs.Rows as rows
-use Rattle.commit_protocol.specs.Table.{branch_serials, record_serials}
-use Rattle.commit_protocol.specs.World.{In}
+use Rattle.emitter_model.specs.commit_protocol.Rows as rows
+use Rattle.emitter_model.specs.commit_protocol.Table.{branch_serials, record_serials}
+use Rattle.emitter_model.specs.commit_protocol.World.{In}
 use Rattle.vms_model.specs.Ids.{Id}
 use Rattle.emitter_model.specs.Emitting.{Emits, Shown, Since}
-use Rattle.transcript_model.specs.Lines as line
-use Rattle.transcript_model.specs.Lines.{Line}
-use Rattle.script_model.specs.Statements.{StartTrans}
-use Rattle.run_said.specs.Said.{Said, line_said, new_said, refused_by_lines, request_said}
-use Rattle.said_steps.specs.Answers.{is_served}
-use Rattle.run_model.specs.Operations.{first_of, refused_if}
-use Rattle.run_model.specs.World.{Draws, Label, Node, Shared, acted, find_label}
-use Rattle.run_model.specs.Answers.{more_branches, new_label, seconds_refused}
+use Rattle.emitter_model.specs.transcript_model.Lines as line
+use Rattle.emitter_model.specs.transcript_model.Lines.{Line}
+use Rattle.script_lang.specs.script_model.Statements.{StartTrans}
+use Rattle.file_requests.specs.run_said.Said.{Said, line_said, new_said, refused_by_lines, request_said}
+use Rattle.file_requests.specs.said_steps.Answers.{is_served}
+use Rattle.world_laws.specs.run_model.Operations.{first_of, refused_if}
+use Rattle.world_laws.specs.run_model.World.{Draws, Label, Node, Shared, acted, find_label}
+use Rattle.world_laws.specs.run_model.Answers.{more_branches, new_label, seconds_refused}
 use Rattle.world_laws.specs.Nodes.{RowsKeepUp}
 use Rattle.run_shared.specs.Sharing.{IsShared, SharedState}
 use Rattle.node_table.specs.Running.{KeepsUp, TellsRows}
 use Rattle.node_table.specs.Standing.{IsUp, Up, UpRepresents}
 use Rattle.node_requests.specs.Requests.{DoesRequest, node_up}
 use Rattle.node_requests.specs.Running.{name_of}
-use Rattle.node_standing.specs.Telling.{said_label, said_shared}
+use Rattle.file_requests.specs.node_standing.Telling.{said_label, said_shared}
 use Rattle.node_requests.specs.Transacting.{IsQuota, due_in, more_in, new_in}
 use Rattle.node_requests.proofs.Drawing.{id_next, more_is, new_is, next_free, next_is, start_acts, start_told, with_drawn}
 use Rattle.node_requests.proofs.Labels.{said_found}

@@ -4,26 +4,26 @@ use Rattle.std.specs.Prelude.{not, ◌&&◌}
 use Rattle.std.specs.Option.{option_map}
 use Rattle.std.specs.List.{list_any}
 use Rattle.careful_write.specs.declared.down.Down.{Down}
-use Rattle.commit_protocol.specs.Allowed.{may_end, there_is}
-use Rattle.commit_protocol.proofs.Lists.{find_serial-serial, told_id}
+use Rattle.emitter_model.specs.commit_protocol.Allowed.{may_end, there_is}
+use Rattle.emitter_model.proofs.commit_protocol.Lists.{find_serial-serial, told_id}
 use Rattle.vms_model.specs.Ids.{Id}
-use Rattle.commit_protocol.specs.Messages.{LogRecord, same_id}
-use Rattle.commit_protocol.specs.Rows as rows
-use Rattle.commit_protocol.specs.Effects.{effects_of}
-use Rattle.commit_protocol.specs.Rows.{Event, asks_row, asks_state}
-use Rattle.commit_protocol.specs.Table.{Active, Branch, Ending, Joining, Key, Prepared, State, Tm, Voting, find_serial, first, same_key}
+use Rattle.emitter_model.specs.commit_protocol.Messages.{LogRecord, same_id}
+use Rattle.emitter_model.specs.commit_protocol.Rows as rows
+use Rattle.emitter_model.specs.commit_protocol.Effects.{effects_of}
+use Rattle.emitter_model.specs.commit_protocol.Rows.{Event, asks_row, asks_state}
+use Rattle.emitter_model.specs.commit_protocol.Table.{Active, Branch, Ending, Joining, Key, Prepared, State, Tm, Voting, find_serial, first, same_key}
 use Rattle.emitter_model.specs.Emitting.{Emits, Shown, Since}
-use Rattle.transcript_model.specs.Lines as line
-use Rattle.transcript_model.specs.Lines.{Line}
-use Rattle.script_model.specs.Statements.{AbortTrans, ByLabel, BySerial, EndBranch, EndTrans, Inquire, Named, Request}
-use Rattle.log_laws.specs.Slots.{branches_added}
+use Rattle.emitter_model.specs.transcript_model.Lines as line
+use Rattle.emitter_model.specs.transcript_model.Lines.{Line}
+use Rattle.script_lang.specs.script_model.Statements.{AbortTrans, ByLabel, BySerial, EndBranch, EndTrans, Inquire, Named, Request}
+use Rattle.world_laws.specs.log_laws.Slots.{branches_added}
 use Rattle.vms_model.specs.Transactions.{Aborted}
-use Rattle.run_said.specs.Said.{Said, line_said, named_said, refused_by_lines, request_said}
-use Rattle.said_steps.specs.Answers.{is_served}
-use Rattle.run_model.specs.Operations.{first_of, refused_if}
-use Rattle.run_model.specs.World.{Label, Node, Shared, labelled, serial_labelled}
-use Rattle.run_model.specs.Answers.{Row, branch_labelled, branch_named, in_state, is_first_active, is_in_doubt, is_open, just, made_label, made_name, service, told_if, told_rows, touches, unsettled, unsettled_label}
-use Rattle.run_model.specs.Steps.{node_after_rows}
+use Rattle.file_requests.specs.run_said.Said.{Said, line_said, named_said, refused_by_lines, request_said}
+use Rattle.file_requests.specs.said_steps.Answers.{is_served}
+use Rattle.world_laws.specs.run_model.Operations.{first_of, refused_if}
+use Rattle.world_laws.specs.run_model.World.{Label, Node, Shared, labelled, serial_labelled}
+use Rattle.world_laws.specs.run_model.Answers.{Row, branch_labelled, branch_named, in_state, is_first_active, is_in_doubt, is_open, just, made_label, made_name, service, told_if, told_rows, touches, unsettled, unsettled_label}
+use Rattle.world_laws.specs.run_model.Steps.{node_after_rows}
 use Rattle.world_laws.specs.Nodes.{IsKeptNode, RowsKeepUp}
 use Rattle.run_shared.specs.Sharing.{IsShared, SharedState}
 use Rattle.node_table.specs.Running.{IsNewFor, KeepsUp, TellsRows}
@@ -33,7 +33,7 @@ use Rattle.node_requests.specs.Labelled.{branch_at, branch_in, made_in, unsettle
 use Rattle.node_requests.specs.Managers.{made_of}
 use Rattle.node_requests.specs.Requests.{DoesRequest, node_up}
 use Rattle.node_requests.specs.Running.{name_of}
-use Rattle.node_standing.specs.Telling.{said_label, said_shared}
+use Rattle.file_requests.specs.node_standing.Telling.{said_label, said_shared}
 use Rattle.node_requests.specs.Transacting.{named_in, unnamed_in}
 use Rattle.node_requests.proofs.Labels.{branch_found, labelled_branch, made_says}
 use Rattle.node_requests.proofs.Transacting.{IsToldBy, first_more, first_none, refuses, told_fails, told_serves}

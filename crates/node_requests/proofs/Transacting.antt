@@ -3,25 +3,25 @@ use Rattle.std.proofs.Common.{◌≡◌, inl, inr, ℕ, ◌≤◌, ◌+◌, List
 use Rattle.std.specs.Prelude.{OnOk, ◌||◌, not}
 use Rattle.std.specs.List.{AllByRecursion}
 use Rattle.careful_write.specs.declared.down.Down.{Down}
-use Rattle.commit_protocol.specs.Messages.{Message}
-use Rattle.commit_protocol.specs.Rows.{Event}
+use Rattle.emitter_model.specs.commit_protocol.Messages.{Message}
+use Rattle.emitter_model.specs.commit_protocol.Rows.{Event}
 use Rattle.emitter_model.specs.Emitting.{Emits, Shown, Since}
-use Rattle.transcript_model.specs.Lines as line
-use Rattle.transcript_model.specs.Lines.{Line}
+use Rattle.emitter_model.specs.transcript_model.Lines as line
+use Rattle.emitter_model.specs.transcript_model.Lines.{Line}
 use Rattle.emitter_model.proofs.EmittingLemmas.{emits_nothing, emits_on, since_on}
-use Rattle.script_model.specs.Statements.{Request}
-use Rattle.log_laws.specs.Slots.{branches_added}
-use Rattle.run_said.specs.Said.{Said, line_said, lines_said, refused_by_lines, request_said}
-use Rattle.said_steps.specs.Answers.{is_served}
-use Rattle.run_model.specs.Operations.{first_of, refused_if}
-use Rattle.run_model.specs.World.{Act, Node, Shared, acted, shared_after}
-use Rattle.run_model.specs.Answers.{Row, Serves, all_acted, all_shared, just, refused_before_reading, service, silent, told_rows, touches}
-use Rattle.run_model.specs.Steps.{lines_of_rows, node_after_rows}
-use Rattle.volume_model.specs.Volumes.{HasDisk}
+use Rattle.script_lang.specs.script_model.Statements.{Request}
+use Rattle.world_laws.specs.log_laws.Slots.{branches_added}
+use Rattle.file_requests.specs.run_said.Said.{Said, line_said, lines_said, refused_by_lines, request_said}
+use Rattle.file_requests.specs.said_steps.Answers.{is_served}
+use Rattle.world_laws.specs.run_model.Operations.{first_of, refused_if}
+use Rattle.world_laws.specs.run_model.World.{Act, Node, Shared, acted, shared_after}
+use Rattle.world_laws.specs.run_model.Answers.{Row, Serves, all_acted, all_shared, just, refused_before_reading, service, silent, told_rows, touches}
+use Rattle.world_laws.specs.run_model.Steps.{lines_of_rows, node_after_rows}
+use Rattle.node_table.specs.volume_model.Volumes.{HasDisk}
 use Rattle.world_laws.specs.Nodes.{AreUp, IsKeptNode, RowsKeepUp}
-use Rattle.row_laws.specs.Doing.{DoesRows, WentDown}
-use Rattle.row_laws.proofs.Composing.{does_more}
-use Rattle.recovery_units.specs.Uses.{Caused, DiskAdvances, down_of}
+use Rattle.node_table.specs.row_laws.Doing.{DoesRows, WentDown}
+use Rattle.node_table.proofs.row_laws.Composing.{does_more}
+use Rattle.node_table.specs.recovery_units.Uses.{Caused, DiskAdvances, down_of}
 use Rattle.run_shared.specs.Sharing.{IsShared, SharedState}
 use Rattle.node_table.specs.Growing.{end_to_come, moment_to_come}
 use Rattle.node_table.specs.Running.{Grown, IsNewFor, KeepsUp, TellsRows}
@@ -30,8 +30,8 @@ use Rattle.node_table.specs.Standing.{IsUp, Stored, Up, UpRepresents}
 use Rattle.node_table.specs.Telling.{IsOfWork, wire_after}
 use Rattle.node_requests.specs.Requests.{DoesRequest, HasMoved, KeepsRequest, node_up, said_up}
 use Rattle.node_requests.specs.Running.{name_of}
-use Rattle.node_standing.specs.Standing.{disk_of}
-use Rattle.node_standing.specs.Telling.{said_shared}
+use Rattle.file_requests.specs.node_standing.Standing.{disk_of}
+use Rattle.file_requests.specs.node_standing.Telling.{said_shared}
 use Rattle.node_requests.proofs.SaysLemmas.{lines_calm}
 
 -- The first of several causes.

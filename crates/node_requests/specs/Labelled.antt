@@ -1,13 +1,13 @@
 -- What a label names at a node.
 use Rattle.std.specs.Prelude.{◌≡◌, ℕ, List, Option, Some, None}
 use Rattle.std.specs.Option.{option_and_then}
-use Rattle.commit_protocol.specs.Table.{Branch, find_serial}
-use Rattle.transcript_model.specs.Lines as line
-use Rattle.transcript_model.specs.Lines.{Line}
+use Rattle.emitter_model.specs.commit_protocol.Table.{Branch, find_serial}
+use Rattle.emitter_model.specs.transcript_model.Lines as line
+use Rattle.emitter_model.specs.transcript_model.Lines.{Line}
 use Rattle.vms_model.specs.Ids.{Id}
-use Rattle.run_model.specs.Answers.{unsettled}
-use Rattle.run_model.specs.Operations.{first_of}
-use Rattle.run_model.specs.World.{Label, labelled, serial_labelled}
+use Rattle.world_laws.specs.run_model.Answers.{unsettled}
+use Rattle.world_laws.specs.run_model.Operations.{first_of}
+use Rattle.world_laws.specs.run_model.World.{Label, labelled, serial_labelled}
 
 -- the branch of a serial, where there is one
 abbrev pub branch_at : Option Id → List Branch → Option Branch

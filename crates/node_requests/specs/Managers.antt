@@ -1,16 +1,16 @@
 -- Statements of resource managers, and on the log, by the labels, the table and the log of their node.
 use Rattle.std.specs.Prelude.{ℕ, List, [], ◌∷◌, Bool, false, Option, Some, None, if◌then◌else◌}
 use Rattle.std.specs.List.{list_any}
-use Rattle.commit_protocol.specs.Messages.{LogRecord, Name, same_name}
-use Rattle.commit_protocol.specs.Table.{Tm}
-use Rattle.log_laws.specs.Slots.{is_prepared_record}
+use Rattle.emitter_model.specs.commit_protocol.Messages.{LogRecord, Name, same_name}
+use Rattle.emitter_model.specs.commit_protocol.Table.{Tm}
+use Rattle.world_laws.specs.log_laws.Slots.{is_prepared_record}
 use Rattle.vms_model.specs.Ids.{Id}
-use Rattle.transcript_model.specs.Lines as line
-use Rattle.transcript_model.specs.Lines.{Line}
-use Rattle.script_model.specs.Statements.{ByLabel, BySerial, Named}
-use Rattle.run_model.specs.Answers.{Known, Unheard, log_line, owed_line}
-use Rattle.run_model.specs.Operations.{first_of}
-use Rattle.run_model.specs.World.{Label, serial_labelled}
+use Rattle.emitter_model.specs.transcript_model.Lines as line
+use Rattle.emitter_model.specs.transcript_model.Lines.{Line}
+use Rattle.script_lang.specs.script_model.Statements.{ByLabel, BySerial, Named}
+use Rattle.world_laws.specs.run_model.Answers.{Known, Unheard, log_line, owed_line}
+use Rattle.world_laws.specs.run_model.Operations.{first_of}
+use Rattle.world_laws.specs.run_model.World.{Label, serial_labelled}
 use Rattle.node_table.specs.Standing.{Up}
 use Rattle.participants.specs.Refusing.{known_in}
 use Rattle.node_requests.specs.Labelled.{made_in}

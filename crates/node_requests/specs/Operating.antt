@@ -1,19 +1,19 @@
 -- What operations on records come to at a node that is up.
 use Rattle.std.specs.Prelude.{◌≡◌, ℕ, List, true, Option, Some, Result}
 use Rattle.careful_write.specs.declared.down.Down.{Down}
-use Rattle.commit_protocol.specs.Allowed.{is_working}
-use Rattle.commit_protocol.specs.Table.{Branch, find_serial}
+use Rattle.emitter_model.specs.commit_protocol.Allowed.{is_working}
+use Rattle.emitter_model.specs.commit_protocol.Table.{Branch, find_serial}
 use Rattle.emitter_model.specs.Emitting.{Shown}
-use Rattle.script_model.specs.Statements.{Operation}
+use Rattle.script_lang.specs.script_model.Statements.{Operation}
 use Rattle.vms_model.specs.Ids.{Id}
-use Rattle.run_model.specs.World.{File, Node, Shared}
-use Rattle.recovery_units.specs.Calls.{IsAsked, IsAskedAlone}
+use Rattle.world_laws.specs.run_model.World.{File, Node, Shared}
+use Rattle.node_table.specs.recovery_units.Calls.{IsAsked, IsAskedAlone}
 use Rattle.file_requests.specs.Acting.{StaysUp, alone_service, branch_service}
 use Rattle.file_requests.specs.Replying.{RepliesIf}
 use Rattle.node_table.specs.Serving.{DoesService, ServiceAt}
 use Rattle.node_table.specs.Standing.{Up, UpRepresents}
 use Rattle.node_requests.specs.Requests.{KeepsRequest}
-use Rattle.node_standing.specs.Standing.{disk_of}
+use Rattle.file_requests.specs.node_standing.Standing.{disk_of}
 
 -- this is the serial that is told, and its branch may change records
 abbrev pub IsWorkingAt : Option Id → (serial : Id) → List Branch → Type 0

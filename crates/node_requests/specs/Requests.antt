@@ -3,30 +3,30 @@ use Rattle.std.specs.Prelude.{◌≡◌, ◌≤◌, ◌<◌, ◌+◌, ◌^◌, �
 use Rattle.std.specs.List.{AllByRecursion}
 use Rattle.vms_model.specs.Limits.{branch_limit, moment_ceiling}
 use Rattle.careful_write.specs.declared.down.Down.{Down}
-use Rattle.commit_protocol.specs.Table.{Branch, Tm}
+use Rattle.emitter_model.specs.commit_protocol.Table.{Branch, Tm}
 use Rattle.emitter_model.specs.Emitting.{Emits, Shown, Since}
-use Rattle.transcript_model.specs.Lines as line
-use Rattle.transcript_model.specs.Lines.{Line}
-use Rattle.script_model.specs.Statements.{AbortTrans, AckEvent, AddBranch, Boot, Clock, Crash, DeclareRm, EndBranch, EndTrans, ForgetRm, Fuse, GetDti, Init, Inquire, JoinRm, LmcpDump, LmcpShow, Recover, Request, StartBranch, StartTrans}
+use Rattle.emitter_model.specs.transcript_model.Lines as line
+use Rattle.emitter_model.specs.transcript_model.Lines.{Line}
+use Rattle.script_lang.specs.script_model.Statements.{AbortTrans, AckEvent, AddBranch, Boot, Clock, Crash, DeclareRm, EndBranch, EndTrans, ForgetRm, Fuse, GetDti, Init, Inquire, JoinRm, LmcpDump, LmcpShow, Recover, Request, StartBranch, StartTrans}
 use Rattle.vms_model.specs.Ids.{Id}
 use Rattle.unit_table.specs.Units.{OpenUnit}
-use Rattle.said_steps.specs.Answers.{is_served, may_answer}
-use Rattle.run_said.specs.Said.{Said, SaidNode, line_said, lines_said, refused_by_lines, request_said}
-use Rattle.run_model.specs.Answers.{Service, service, touches}
-use Rattle.run_model.specs.World.{Node, Shared, with_changed}
+use Rattle.file_requests.specs.said_steps.Answers.{is_served, may_answer}
+use Rattle.file_requests.specs.run_said.Said.{Said, SaidNode, line_said, lines_said, refused_by_lines, request_said}
+use Rattle.world_laws.specs.run_model.Answers.{Service, service, touches}
+use Rattle.world_laws.specs.run_model.World.{Node, Shared, with_changed}
 use Rattle.run_shared.specs.Sharing.{IsShared, SharedState}
 use Rattle.world_laws.specs.Nodes.{IsKeptNode}
-use Rattle.recovery_units.specs.State.{has_changed_by}
-use Rattle.recovery_units.specs.Uses.{Caused, DiskAdvances, down_of}
-use Rattle.node_standing.specs.Moments.{CanTell}
+use Rattle.node_table.specs.recovery_units.State.{has_changed_by}
+use Rattle.node_table.specs.recovery_units.Uses.{Caused, DiskAdvances, down_of}
+use Rattle.file_requests.specs.node_standing.Moments.{CanTell}
 use Rattle.file_requests.specs.declared.recovery.Reply.{Reply}
 use Rattle.file_requests.specs.declared.recovery.Reply.TheVariants.{Told, NoMemory}
 use Rattle.node_table.specs.Growing.{end_to_come, moment_to_come}
 use Rattle.node_table.specs.Serving.{DoesService, service_at}
 use Rattle.node_table.specs.Standing.{IsUp, Up, UpRepresents}
 use Rattle.node_table.specs.Telling.{IsOfWork}
-use Rattle.node_standing.specs.Standing.{disk_of}
-use Rattle.node_standing.specs.Telling.{said_shared}
+use Rattle.file_requests.specs.node_standing.Standing.{disk_of}
+use Rattle.file_requests.specs.node_standing.Telling.{said_shared}
 
 -- what is asked of a node that is up before a request: numbers that only grow are far from their ends
 pub record MayServe (clock : ℕ) (r : Up) : Type 0 where

@@ -1,17 +1,17 @@
 -- A node that is up, and what comes to it.
 use Rattle.std.specs.Prelude.{◌≡◌, ◌≤◌, ◌+◌, ◌*◌, ◌^◌, ℕ, List, [], ◌∷◌, Bool, true, Option, Some, None}
 use Rattle.vms_model.specs.Limits.{branch_limit, moment_limit}
-use Rattle.commit_protocol.specs.Rows as rows
-use Rattle.commit_protocol.specs.Rows.{Event}
+use Rattle.emitter_model.specs.commit_protocol.Rows as rows
+use Rattle.emitter_model.specs.commit_protocol.Rows.{Event}
 use Rattle.emitter_model.specs.Emitting.{Emits, Shown}
-use Rattle.transcript_model.specs.Lines.{Asked, Line}
-use Rattle.run_model.specs.Answers.{Hears, LosesLink, Restarts, RunsDown, Serves, Takes, Task, Ticks, outcome_told, task_service}
+use Rattle.emitter_model.specs.transcript_model.Lines.{Asked, Line}
+use Rattle.world_laws.specs.run_model.Answers.{Hears, LosesLink, Restarts, RunsDown, Serves, Takes, Task, Ticks, outcome_told, task_service}
 use Rattle.run_shared.specs.Sharing.{SharedState}
 use Rattle.node_table.specs.Growing.{end_to_come, moment_to_come}
 use Rattle.node_table.specs.Standing.{Up}
-use Rattle.node_standing.specs.Keeping.{PerformsTask}
-use Rattle.node_standing.specs.Standing.{NodeState, is_up}
-use Rattle.node_standing.specs.Telling.{TellsTask}
+use Rattle.file_requests.specs.node_standing.Keeping.{PerformsTask}
+use Rattle.file_requests.specs.node_standing.Standing.{NodeState, is_up}
+use Rattle.file_requests.specs.node_standing.Telling.{TellsTask}
 
 -- the name of a node that is up
 abbrev pub name_of : Up → List ℕ

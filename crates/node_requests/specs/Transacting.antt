@@ -2,17 +2,17 @@
 use Rattle.std.specs.Prelude.{◌*◌, ◌+◌, ℕ, List, [], ◌∷◌, Option, Some, None, if◌then◌else◌, length, nat_le}
 use Rattle.std.specs.Option.{option_map}
 use Rattle.vms_model.specs.Limits.{branch_limit, label_limit}
-use Rattle.commit_protocol.specs.Effects.{Effect, SettleEffect}
-use Rattle.commit_protocol.specs.Messages.{same_id}
-use Rattle.commit_protocol.specs.Table.{Branch, find_serial}
+use Rattle.emitter_model.specs.commit_protocol.Effects.{Effect, SettleEffect}
+use Rattle.emitter_model.specs.commit_protocol.Messages.{same_id}
+use Rattle.emitter_model.specs.commit_protocol.Table.{Branch, find_serial}
 use Rattle.vms_model.specs.Ids.{Id}
 use Rattle.vms_model.specs.Transactions.{Abort, Commit, Outcome, Reason}
-use Rattle.transcript_model.specs.Lines as line
-use Rattle.transcript_model.specs.Lines.{Line}
-use Rattle.script_model.specs.Statements.{ByLabel, BySerial, Named}
-use Rattle.run_model.specs.Answers.{missing, unreplied, unsettled}
-use Rattle.run_model.specs.Operations.{first_of, refused_if}
-use Rattle.run_model.specs.World.{Label, find_label}
+use Rattle.emitter_model.specs.transcript_model.Lines as line
+use Rattle.emitter_model.specs.transcript_model.Lines.{Line}
+use Rattle.script_lang.specs.script_model.Statements.{ByLabel, BySerial, Named}
+use Rattle.world_laws.specs.run_model.Answers.{missing, unreplied, unsettled}
+use Rattle.world_laws.specs.run_model.Operations.{first_of, refused_if}
+use Rattle.world_laws.specs.run_model.World.{Label, find_label}
 use Rattle.node_table.specs.Standing.{Up}
 use Rattle.node_requests.specs.Labelled.{branch_in, unsettled_in}
 use Rattle.node_requests.specs.Running.{name_of}

@@ -1,15 +1,14 @@
 //! What a label names at a node.
 ghost use Rattle.std.specs.Prelude.{◌≡◌, None, Some, IfErr, IfOk};
 ghost use Rattle.std.specs.Option.{option_map};
-ghost use Rattle.run_model.specs.World.{labelled as labelled_at};
+ghost use Rattle.world_laws.specs.run_model.World.{labelled as labelled_at};
 ghost use Rattle.run_shared.specs.LabelTable.{label_of};
 ghost use Rattle.tm_types.specs.Branches.{branch_of};
 ghost use Rattle.transcript.specs.Forms.{HasTime, line_of};
 ghost use Rattle.node_requests.specs.Labelled.{branch_in, made_in, unsettled_in};
 
 use block_disk::Disk;
-use node_table::Running;
-use recovery_units::RecoveryUnits;
+use node_table::{RecoveryUnits, Running};
 use run_shared::{LabelEntry, Shared};
 use tm_types::BranchState;
 use transcript::Form;

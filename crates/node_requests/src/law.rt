@@ -1,7 +1,7 @@
 //! The laws that a node's tasks rest on, together.
 ghost use Rattle.node_requests.specs.TheLaws.{TheLaws};
 
-use unit_world::nodes_are_kept;
+use file_requests::nodes_are_kept;
 use world_laws::nodes_stay_kept;
 
 /// Cites each law of kept nodes once, so that the proofs of a crate have them in one value.

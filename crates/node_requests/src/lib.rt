@@ -10,4 +10,5 @@ mod transactions;
 
 pub use file_requests::Reply;
 pub use law::the_laws;
+pub use node_table::{Room, Running, Stored};
 pub use requests::serve_up;

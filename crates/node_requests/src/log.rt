@@ -1,9 +1,9 @@
 //! The transaction log of a node that is up, as it is shown.
 ghost use Rattle.std.specs.Prelude.{◌≡◌, ◌≤◌, ◌<◌, ◌+◌, ◌∷◌, [], ℕ, is_some, length, map, option_copied};
 ghost use Rattle.vms_model.specs.Limits.{slot_limit};
-ghost use Rattle.log_laws.specs.Slots.{committed_of, free_slots, prepared_of, records_in, slot_records, waiting_for};
-ghost use Rattle.run_model.specs.Answers.{log_line, owed_line};
-ghost use Rattle.script_model.specs.Statements as said;
+ghost use Rattle.world_laws.specs.log_laws.Slots.{committed_of, free_slots, prepared_of, records_in, slot_records, waiting_for};
+ghost use Rattle.world_laws.specs.run_model.Answers.{log_line, owed_line};
+ghost use Rattle.script_lang.specs.script_model.Statements as said;
 ghost use Rattle.emitter_model.specs.Emitting.{Emits, Since};
 ghost use Rattle.run_shared.specs.Sharing.{SharedState as SharedSaid};
 ghost use Rattle.node_table.specs.Code.{up_of};
@@ -11,12 +11,11 @@ ghost use Rattle.node_table.specs.Telling.{done};
 ghost use Rattle.tm_types.specs.Parts.{log_record_of};
 ghost use Rattle.node_requests.specs.Managers.{entry_lines_at, owed_lines_at, waits_for};
 ghost use Rattle.node_requests.specs.Requests.{DoesRequest, MayServe};
-ghost use Rattle.lmcp_log.specs.Log.{slot_at, slot_of};
+ghost use Rattle.node_table.specs.lmcp_log.Log.{slot_at, slot_of};
 
 use crate::law::the_laws;
 use block_disk::Disk;
-use node_table::Running;
-use recovery_units::RecoveryUnits;
+use node_table::{RecoveryUnits, Running};
 use tm_types::has_rm;
 use transcript::{Emit, Form};
 use vms_base::{LogKind, LogRec, RmEvent, RmName};

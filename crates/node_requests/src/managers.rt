@@ -1,13 +1,13 @@
 //! Resource managers: what is asked of a node that is up, and what it knows of a branch.
 ghost use Rattle.std.specs.Prelude.{◌≡◌, ℕ, IfErr, IfNone, IfOk, IfSome, None, Some};
 ghost use Rattle.std.specs.Option.{option_map};
-ghost use Rattle.run_model.specs.Answers.{branch_standing as branch_standing_said, standing};
+ghost use Rattle.world_laws.specs.run_model.Answers.{branch_standing as branch_standing_said, standing};
 ghost use Rattle.script_lang.specs.Statements.{named_of};
-ghost use Rattle.script_model.specs.Statements as said;
+ghost use Rattle.script_lang.specs.script_model.Statements as said;
 ghost use Rattle.tm_types.specs.Branches.{branch_of};
 ghost use Rattle.tm_types.specs.Parts.{reply_of};
 ghost use Rattle.transcript.specs.Forms.{HasTime, line_of, quota_of, standing_of};
-ghost use Rattle.transcript_model.specs.Lines as line;
+ghost use Rattle.emitter_model.specs.transcript_model.Lines as line;
 ghost use Rattle.vms_base.specs.Ids.{serial_of};
 ghost use Rattle.participants.specs.Refusing.{refusal_line};
 ghost use Rattle.run_shared.specs.Sharing.{SharedState as SharedSaid};
@@ -22,9 +22,8 @@ use crate::law::the_laws;
 use crate::log::show_owed;
 use block_disk::Disk;
 use careful_write::Down;
-use node_table::Running;
+use node_table::{RecoveryUnits, Running};
 use participants::RmErr;
-use recovery_units::RecoveryUnits;
 use run_shared::Shared;
 use script_lang::Named;
 use tm_types::{BranchState, State};

@@ -1,12 +1,12 @@
 //! What is asked of a node that is up.
 ghost use Rattle.std.specs.Prelude.{◌≡◌, Some, true, IfErr, IfOk};
 ghost use Rattle.std.specs.Option.{option_map};
-ghost use Rattle.commit_protocol.specs.Allowed.{allowed, is_working};
-ghost use Rattle.commit_protocol.specs.Rows.{Changed};
-ghost use Rattle.run_model.specs.Answers.{in_state, unsettled};
-ghost use Rattle.run_model.specs.Operations.{first_of};
+ghost use Rattle.emitter_model.specs.commit_protocol.Allowed.{allowed, is_working};
+ghost use Rattle.emitter_model.specs.commit_protocol.Rows.{Changed};
+ghost use Rattle.world_laws.specs.run_model.Answers.{in_state, unsettled};
+ghost use Rattle.world_laws.specs.run_model.Operations.{first_of};
 ghost use Rattle.script_lang.specs.Statements.{operation_of, request_of};
-ghost use Rattle.script_model.specs.Statements as said;
+ghost use Rattle.script_lang.specs.script_model.Statements as said;
 ghost use Rattle.transcript.specs.Forms.{HasTime, line_of};
 ghost use Rattle.vms_base.specs.Ids.{serial_of};
 ghost use Rattle.file_requests.specs.Asking.{IsNumberedIn, number_in, said_of};
@@ -16,7 +16,7 @@ ghost use Rattle.node_table.specs.Code.{stored_of, up_of};
 ghost use Rattle.node_requests.specs.Labelled.{branch_at};
 ghost use Rattle.node_requests.specs.Operating.{IsWorkingAt, OperatesAlone, OperatesFor};
 ghost use Rattle.node_requests.specs.Requests.{AnswersRequest, DoesRequest, IsForUp, IsOfManager, IsOfTransaction, IsReserved, MayServe, noted};
-ghost use Rattle.node_standing.specs.Moments.{CanBeTold};
+ghost use Rattle.file_requests.specs.node_standing.Moments.{CanBeTold};
 
 use crate::labelled::labelled;
 use crate::law::the_laws;
@@ -30,8 +30,7 @@ use file_requests::{
     Asked, Reply, asked_of, backup, change_alone, create, dump, dump_images, dump_journal,
     find_file, operate_for, read_alone, recover, refused_form, set_file,
 };
-use node_table::Running;
-use recovery_units::RecoveryUnits;
+use node_table::{RecoveryUnits, Running};
 use run_shared::Shared;
 use script_lang::{Literals, Operation, Request};
 use std::alloc::Global;

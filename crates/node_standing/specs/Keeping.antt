@@ -2,14 +2,14 @@
 use Rattle.std.specs.Prelude.{◌≡◌, ℕ, List, [], ◌∷◌, ◌++◌, Bool, true, false, if◌then◌else◌}
 use Rattle.block_disk.specs.Disk.{CallLog}
 use Rattle.emitter_model.specs.Emitting.{Emits, Shown}
-use Rattle.transcript_model.specs.Lines.{Line}
-use Rattle.script_model.specs.Statements as said
-use Rattle.world_laws.specs.Nodes.{IsKeptNode}
-use Rattle.run_model.specs.World as world
-use Rattle.run_model.specs.World.{DiskCounts, Node, Unknown}
-use Rattle.run_model.specs.Answers.{Restarts, Serves, Task}
-use Rattle.run_model.specs.Steps.{NodeStep}
-use Rattle.run_shared.specs.Sharing.{IsShared, SharedState}
+use Rattle.emitter_model.specs.transcript_model.Lines.{Line}
+use Rattle.said_steps.specs.script_model.Statements as said
+use Rattle.node_table.specs.world_laws.Nodes.{IsKeptNode}
+use Rattle.said_steps.specs.run_model.World as world
+use Rattle.said_steps.specs.run_model.World.{DiskCounts, Node, Unknown}
+use Rattle.said_steps.specs.run_model.Answers.{Restarts, Serves, Task}
+use Rattle.said_steps.specs.run_model.Steps.{NodeStep}
+use Rattle.node_table.specs.run_shared.Sharing.{IsShared, SharedState}
 use Rattle.node_standing.specs.Standing.{NodeState, RepresentsNode, counts_of, disk_in}
 
 -- What a node does for a task is promised, but for a boot over a disk of which nothing is known, unless the last INIT failed: then it is refused.

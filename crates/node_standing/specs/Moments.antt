@@ -1,7 +1,7 @@
 -- Moments that a request names.
 use Rattle.std.specs.Prelude.{Some, None}
 use Rattle.vms_model.specs.Times.{CanBeWritten}
-use Rattle.script_model.specs.Statements.{Backward, Forward, Recover, Recovery, Request}
+use Rattle.said_steps.specs.script_model.Statements.{Backward, Forward, Recover, Recovery, Request}
 
 -- the moment of a recovery can be shown
 abbrev pub CanTell : Recovery → Type 0

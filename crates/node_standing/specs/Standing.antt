@@ -2,9 +2,9 @@
 use Rattle.std.specs.Prelude.{◌≡◌, ℕ, List, [], ◌∷◌, Bool, true, false, None, is_some}
 use Rattle.block_disk.specs.Disk.{CallLog, DiskState, noted}
 use Rattle.block_disk.specs.declared.disk.DiskCall.TheVariants as disk_call
-use Rattle.run_model.specs.World.{Arm, Call, DiskCounts, Node, Power}
-use Rattle.volume_model.specs.Volumes.{HasDisk}
-use Rattle.recovery_units.specs.Uses.{IsCounted}
+use Rattle.said_steps.specs.run_model.World.{Arm, Call, DiskCounts, Node, Power}
+use Rattle.node_table.specs.volume_model.Volumes.{HasDisk}
+use Rattle.node_table.specs.recovery_units.Uses.{IsCounted}
 use Rattle.node_table.specs.Standing.{Up, UpRepresents}
 
 -- how often a disk failed and was stopped

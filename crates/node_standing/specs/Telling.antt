@@ -3,21 +3,21 @@ use Rattle.std.specs.Prelude.{◌≡◌, ◌≤◌, ℕ, List, [], ◌∷◌, �
 use Rattle.std.specs.List.{AllByRecursion}
 use Rattle.block_disk.specs.Disk.{CallLog, DiskState, noted}
 use Rattle.block_disk.specs.declared.disk.DiskCall.TheVariants as disk_call
-use Rattle.commit_protocol.specs.World.{In}
+use Rattle.emitter_model.specs.commit_protocol.World.{In}
 use Rattle.emitter_model.specs.Emitting.{Emits, Shown}
-use Rattle.transcript_model.specs.Lines as line
-use Rattle.transcript_model.specs.Lines.{Cause, Line}
-use Rattle.transcript_model.specs.Outside.{Rose}
-use Rattle.script_model.specs.Statements.{Crash, Fuse, Request}
-use Rattle.run_said.specs.Said.{Said, SaidLabel, SaidNode, SaidShared, down_said, is_of_lines, line_said, lines_said, refused_by_lines, request_said}
+use Rattle.emitter_model.specs.transcript_model.Lines as line
+use Rattle.emitter_model.specs.transcript_model.Lines.{Cause, Line}
+use Rattle.emitter_model.specs.transcript_model.Outside.{Rose}
+use Rattle.said_steps.specs.script_model.Statements.{Crash, Fuse, Request}
+use Rattle.said_steps.specs.run_said.Said.{Said, SaidLabel, SaidNode, SaidShared, down_said, is_of_lines, line_said, lines_said, refused_by_lines, request_said}
 use Rattle.said_steps.specs.Answers.{FallsTold, ends_boot, is_broken, is_normal, may_answer}
 use Rattle.said_steps.specs.Calls.{has_powered, is_boot_refusal, shows_boot}
 use Rattle.said_steps.specs.Own.{IsOwn}
-use Rattle.run_model.specs.Answers.{Hears, LosesLink, Restarts, RunsDown, Serves, Takes, Task, Ticks, task_service}
-use Rattle.run_model.specs.Steps.{count_of}
-use Rattle.run_model.specs.World.{Label}
-use Rattle.recovery_units.specs.Uses.{IsCounted}
-use Rattle.run_shared.specs.Sharing.{SharedState}
+use Rattle.said_steps.specs.run_model.Answers.{Hears, LosesLink, Restarts, RunsDown, Serves, Takes, Task, Ticks, task_service}
+use Rattle.said_steps.specs.run_model.Steps.{count_of}
+use Rattle.said_steps.specs.run_model.World.{Label}
+use Rattle.node_table.specs.recovery_units.Uses.{IsCounted}
+use Rattle.node_table.specs.run_shared.Sharing.{SharedState}
 use Rattle.node_standing.specs.Holding.{HoldsAs}
 use Rattle.node_standing.specs.Keeping.{all_shown}
 use Rattle.node_standing.specs.Standing.{NodeState, counts_of, disk_in, is_up}

@@ -2,17 +2,17 @@
 use Rattle.std.proofs.Common.{◌≡◌, ◌≤◌, ℕ, suc, true, false, List, [], ◌∷◌, ◌++◌, Option, Some, inl, inr, refl, ap, sym, subst, ◌∙◌, length, arith}
 use Rattle.vms_model.specs.Ids.{Id}
 use Rattle.vms_model.specs.Transactions.{Outcome, Reason}
-use Rattle.commit_protocol.specs.Agreement.{Distinct}
-use Rattle.commit_protocol.specs.Allowed.{is_prepared}
-use Rattle.commit_protocol.specs.Messages.{LogRecord}
-use Rattle.commit_protocol.specs.Standing.{Stands}
-use Rattle.commit_protocol.specs.Table.{Act, Accepts, Acknowledges, Branch, Key, Leaves, Notes, Prepared, Prepares, Prints, Releases, Sends, Settles, Tm, Undoes, after_act, branch_serials, cut, find, put, record_serials, table_after, without}
-use Rattle.commit_protocol.specs.World.{In}
-use Rattle.commit_protocol.proofs.Serials.{parts_apart}
-use Rattle.commit_protocol.proofs.Lists.{find-key as found_key, in_left, in_parts, in_right}
-use Rattle.commit_protocol.proofs.Within.{find_in}
-use Rattle.log_laws.specs.Slots.{Slots, slots_after}
-use Rattle.run_model.specs.World.{Node, Tables, acted, preparation_after}
+use Rattle.net_wire.specs.commit_protocol.Agreement.{Distinct}
+use Rattle.net_wire.specs.commit_protocol.Allowed.{is_prepared}
+use Rattle.net_wire.specs.commit_protocol.Messages.{LogRecord}
+use Rattle.net_wire.specs.commit_protocol.Standing.{Stands}
+use Rattle.net_wire.specs.commit_protocol.Table.{Act, Accepts, Acknowledges, Branch, Key, Leaves, Notes, Prepared, Prepares, Prints, Releases, Sends, Settles, Tm, Undoes, after_act, branch_serials, cut, find, put, record_serials, table_after, without}
+use Rattle.net_wire.specs.commit_protocol.World.{In}
+use Rattle.emitter_model.proofs.commit_protocol.Serials.{parts_apart}
+use Rattle.emitter_model.proofs.commit_protocol.Lists.{find-key as found_key, in_left, in_parts, in_right}
+use Rattle.emitter_model.proofs.commit_protocol.Within.{find_in}
+use Rattle.row_laws.specs.log_laws.Slots.{Slots, slots_after}
+use Rattle.row_laws.specs.run_model.World.{Node, Tables, acted, preparation_after}
 use Rattle.row_laws.specs.May.{IsTold, MayDo}
 use Rattle.row_laws.proofs.MayLemmas.{told_after}
 use Rattle.recovery_units.specs.State.{AreOfBranches, IsInOrder, IsKept, with_prepared, without_unit}

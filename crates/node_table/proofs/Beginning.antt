@@ -2,27 +2,27 @@
 use Rattle.std.proofs.Common.{◌≡◌, ◌≤◌, ◌<◌, ◌+◌, ◌-◌, ℕ, zero, suc, Bool, true, false, if◌then◌else◌, List, [], ◌∷◌, ◌++◌, Option, Some, None, inl, inr, refl, ap, sym, subst, ◌∙◌, length, map, replicate, slice_index_or, arith}
 use Rattle.std.specs.List.{AllByRecursion}
 use Rattle.std.proofs.lemmas.List.{length-append}
-use Rattle.commit_protocol.specs.Agreement.{Distinct}
-use Rattle.commit_protocol.specs.Allowed.{is_prepared}
-use Rattle.commit_protocol.specs.Standing.{IsNew}
-use Rattle.commit_protocol.specs.Table.{Branch, Key, Notes, Tm, after_act, branch_serials, find, record_serials}
-use Rattle.commit_protocol.specs.World.{In}
-use Rattle.commit_protocol.proofs.Lists.{in_left, in_parts, in_right}
-use Rattle.commit_protocol.proofs.Serials.{apart_distinct, distinct_more, parts_apart, serials_new, there_serial}
-use Rattle.commit_protocol.proofs.Within.{length_put}
-use Rattle.log_laws.specs.Slots.{size}
-use Rattle.log_laws.proofs.Slotting.{same_tells}
-use Rattle.commit_protocol.proofs.Lasting.{new_lasts}
-use Rattle.run_model.specs.World.{Node, Tables, acted, next_moment, tm_of}
+use Rattle.net_wire.specs.commit_protocol.Agreement.{Distinct}
+use Rattle.net_wire.specs.commit_protocol.Allowed.{is_prepared}
+use Rattle.net_wire.specs.commit_protocol.Standing.{IsNew}
+use Rattle.net_wire.specs.commit_protocol.Table.{Branch, Key, Notes, Tm, after_act, branch_serials, find, record_serials}
+use Rattle.net_wire.specs.commit_protocol.World.{In}
+use Rattle.emitter_model.proofs.commit_protocol.Lists.{in_left, in_parts, in_right}
+use Rattle.emitter_model.proofs.commit_protocol.Serials.{apart_distinct, distinct_more, parts_apart, serials_new, there_serial}
+use Rattle.emitter_model.proofs.commit_protocol.Within.{length_put}
+use Rattle.row_laws.specs.log_laws.Slots.{size}
+use Rattle.row_laws.proofs.log_laws.Slotting.{same_tells}
+use Rattle.emitter_model.proofs.commit_protocol.Lasting.{new_lasts}
+use Rattle.row_laws.specs.run_model.World.{Node, Tables, acted, next_moment, tm_of}
 use Rattle.row_laws.specs.May.{IsTold}
 use Rattle.records_model.specs.History.{same_id}
 use Rattle.unit_table.specs.Units.{Ascend, OpenUnit, changers, new_unit, one_changer, owed_for}
-use Rattle.image_appends.specs.declared.side.Side.TheVariants.{After, Before}
-use Rattle.image_room.proofs.Keeping.{fits_less}
+use Rattle.recovery_units.specs.image_appends.declared.side.Side.TheVariants.{After, Before}
+use Rattle.recovery_units.proofs.image_room.Keeping.{fits_less}
 use Rattle.journal_model.specs.Ring.{ring_size}
 use Rattle.recovery_units.specs.Laws.{KeepsNodes}
 use Rattle.recovery_units.specs.State.{IsInOrder, is_begun, owed, unit_of, with_begun}
-use Rattle.world_laws.specs.Nodes as laws
+use Rattle.recovery_units.specs.world_laws.Nodes as laws
 use Rattle.node_table.specs.Standing.{Follows, Stored, StoredRepresents}
 use Rattle.node_table.proofs.Acting.{serials_apart}
 use Rattle.node_table.proofs.Branching.{begun_units, length_units, none_begun}

@@ -3,21 +3,21 @@ use Rattle.std.proofs.Common.{◌≡◌, ◌≤◌, ℕ, suc, true, false, List,
 use Rattle.std.specs.Prelude.{is_some}
 use Rattle.std.specs.List.{list_all, list_any}
 use Rattle.std.proofs.lemmas.List.{length-append}
-use Rattle.commit_protocol.specs.Agreement.{Distinct}
-use Rattle.commit_protocol.specs.Allowed as allowed
-use Rattle.commit_protocol.specs.Limits.{LogWithin, PreparedWithin, RecordWithin}
-use Rattle.commit_protocol.specs.Messages.{LogRecord, Name, same_id}
-use Rattle.commit_protocol.specs.Table.{Branch, Key, Tm, branch_of, branch_serials, branches_of, find, prepared_records, record_key, record_serials, restarted}
-use Rattle.commit_protocol.specs.World.{In}
-use Rattle.commit_protocol.proofs.Lists.{in_left, in_parts, told_id}
-use Rattle.commit_protocol.proofs.Serials.{in_serial, parts_apart, serial_in}
-use Rattle.commit_protocol.proofs.WithinRows.{restarted_within}
-use Rattle.log_laws.specs.Slots.{LogTells, Slots, records_in}
-use Rattle.log_laws.proofs.Reading.{all_again}
-use Rattle.log_laws.proofs.RowSlots.{among}
+use Rattle.net_wire.specs.commit_protocol.Agreement.{Distinct}
+use Rattle.net_wire.specs.commit_protocol.Allowed as allowed
+use Rattle.net_wire.specs.commit_protocol.Limits.{LogWithin, PreparedWithin, RecordWithin}
+use Rattle.net_wire.specs.commit_protocol.Messages.{LogRecord, Name, same_id}
+use Rattle.net_wire.specs.commit_protocol.Table.{Branch, Key, Tm, branch_of, branch_serials, branches_of, find, prepared_records, record_key, record_serials, restarted}
+use Rattle.net_wire.specs.commit_protocol.World.{In}
+use Rattle.emitter_model.proofs.commit_protocol.Lists.{in_left, in_parts, told_id}
+use Rattle.emitter_model.proofs.commit_protocol.Serials.{in_serial, parts_apart, serial_in}
+use Rattle.emitter_model.proofs.commit_protocol.WithinRows.{restarted_within}
+use Rattle.row_laws.specs.log_laws.Slots.{LogTells, Slots, records_in}
+use Rattle.row_laws.proofs.log_laws.Reading.{all_again}
+use Rattle.row_laws.proofs.log_laws.RowSlots.{among}
 use Rattle.tm_table.specs.Restarts as restarts
 use Rattle.tm_table.specs.Restarts.{MayRestart, is_committed, is_prepared}
-use Rattle.run_model.specs.World.{Node}
+use Rattle.row_laws.specs.run_model.World.{Node}
 use Rattle.row_laws.specs.May.{IsTold}
 use Rattle.tm_types.specs.Parts.{log_record_of}
 use Rattle.vms_base.specs.declared.protocol.LogRec.{LogRec}
@@ -26,7 +26,7 @@ use Rattle.volume.specs.State.{VolumeState}
 use Rattle.recovery_units.specs.Calls.{MayBegin}
 use Rattle.recovery_units.specs.Told.{ReopenedTold}
 use Rattle.recovery_units.specs.State.{AreOfBranches, IsInOrder, IsKept}
-use Rattle.world_laws.specs.Nodes as laws
+use Rattle.recovery_units.specs.world_laws.Nodes as laws
 use Rattle.node_table.specs.Running.{IsBooted}
 use Rattle.node_table.specs.Standing.{AreInDoubt, IsUp, NamesPrepared, Stored, UpRepresents, unsettled_serials}
 use Rattle.node_table.proofs.Doubting.{stands}

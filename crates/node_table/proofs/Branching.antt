@@ -4,13 +4,13 @@ use Rattle.std.specs.Prelude.{if◌then◌else◌}
 use Rattle.vms_model.specs.Ids.{Id}
 use Rattle.records_model.specs.History.{same_id}
 use Rattle.unit_laws.proofs.LiveLemmas.{id_is, id_itself}
-use Rattle.commit_protocol.specs.Agreement.{Distinct}
-use Rattle.commit_protocol.specs.Allowed.{is_prepared}
-use Rattle.commit_protocol.specs.Table.{Branch, Key, Prepared, branch_serials, cut, find, put}
-use Rattle.commit_protocol.specs.World.{In}
-use Rattle.commit_protocol.proofs.Lasting.{lasts_absent}
-use Rattle.commit_protocol.proofs.Lists.{find-key, told_key}
-use Rattle.commit_protocol.proofs.Serials.{there_serial}
+use Rattle.net_wire.specs.commit_protocol.Agreement.{Distinct}
+use Rattle.net_wire.specs.commit_protocol.Allowed.{is_prepared}
+use Rattle.net_wire.specs.commit_protocol.Table.{Branch, Key, Prepared, branch_serials, cut, find, put}
+use Rattle.net_wire.specs.commit_protocol.World.{In}
+use Rattle.emitter_model.proofs.commit_protocol.Lasting.{lasts_absent}
+use Rattle.emitter_model.proofs.commit_protocol.Lists.{find-key, told_key}
+use Rattle.emitter_model.proofs.commit_protocol.Serials.{there_serial}
 use Rattle.unit_table.specs.Units.{OpenUnit, new_unit, prepared_unit}
 use Rattle.recovery_units.specs.State.{AreOfBranches, IsOfBranch, unit_of, with_prepared, without_unit}
 use Rattle.node_table.specs.Growing.{groups_left}

@@ -2,15 +2,15 @@
 use Rattle.std.proofs.Common.{◌≡◌, ◌≤◌, suc, Bool, true, false, List, [], ◌∷◌, ◌++◌, Option, Some, None, ◌⊎◌, inl, inr, refl, ap, sym, subst, ◌∙◌, length}
 use Rattle.std.specs.Prelude.{if◌then◌else◌, is_some}
 use Rattle.vms_model.specs.Ids.{Id}
-use Rattle.commit_protocol.specs.Messages.{same_id}
-use Rattle.commit_protocol.specs.Agreement.{Distinct}
-use Rattle.commit_protocol.specs.Allowed.{is_prepared}
-use Rattle.commit_protocol.specs.Table.{Branch, Key, Prepared, branch_serials, cut, find, put, without}
-use Rattle.commit_protocol.specs.World.{In}
-use Rattle.commit_protocol.proofs.Lists.{find-cut, find-cut_other, find-put, find-put_other, in_parts, told_id, told_key}
-use Rattle.commit_protocol.proofs.Serials.{distinct_more, there_serial}
-use Rattle.commit_protocol.proofs.Within.{find_in}
-use Rattle.log_laws.proofs.RowSlots.{among}
+use Rattle.net_wire.specs.commit_protocol.Messages.{same_id}
+use Rattle.net_wire.specs.commit_protocol.Agreement.{Distinct}
+use Rattle.net_wire.specs.commit_protocol.Allowed.{is_prepared}
+use Rattle.net_wire.specs.commit_protocol.Table.{Branch, Key, Prepared, branch_serials, cut, find, put, without}
+use Rattle.net_wire.specs.commit_protocol.World.{In}
+use Rattle.emitter_model.proofs.commit_protocol.Lists.{find-cut, find-cut_other, find-put, find-put_other, in_parts, told_id, told_key}
+use Rattle.emitter_model.proofs.commit_protocol.Serials.{distinct_more, there_serial}
+use Rattle.emitter_model.proofs.commit_protocol.Within.{find_in}
+use Rattle.row_laws.proofs.log_laws.RowSlots.{among}
 use Rattle.node_table.specs.Standing.{AreInDoubt, unsettled_serials}
 
 -- A branch is found by its key; and no two keys have one serial.

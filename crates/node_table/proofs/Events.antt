@@ -4,21 +4,21 @@ use Rattle.std.specs.Prelude.{OnErr, OnOk, ◌&&◌, nat_lt}
 use Rattle.std.specs.List.{list_any}
 use Rattle.std.proofs.lemmas.Bool.{and_parts, ltb-true}
 use Rattle.careful_write.specs.declared.down.Down.{Down}
-use Rattle.commit_protocol.specs.Allowed.{allowed, has_room, is_prepared}
-use Rattle.commit_protocol.specs.Effects.{Effect, effects_of}
-use Rattle.commit_protocol.specs.Limits.{TmWithin}
-use Rattle.commit_protocol.specs.Messages.{Join, Message}
-use Rattle.commit_protocol.specs.Rows as rows
-use Rattle.commit_protocol.specs.Rows.{Event, blank, row}
-use Rattle.commit_protocol.specs.Standing.{BeginsNothing}
-use Rattle.commit_protocol.specs.Table.{Act, Active, Branch, Joining, Key, Notes, Sends, Tm, after, after_act, child, coordinator_of, home_of}
-use Rattle.commit_protocol.specs.World.{In}
-use Rattle.commit_protocol.proofs.WithinRows.{keeps_limits}
-use Rattle.log_laws.specs.Slots.{Slots, branches_added}
-use Rattle.run_model.specs.Answers.{just, table_rows, told_rows}
-use Rattle.run_model.specs.Steps.{node_after_rows}
-use Rattle.run_model.specs.World as world
-use Rattle.run_model.specs.World.{Node, Tables, acted, next_moment, shared_after, tm_of}
+use Rattle.net_wire.specs.commit_protocol.Allowed.{allowed, has_room, is_prepared}
+use Rattle.net_wire.specs.commit_protocol.Effects.{Effect, effects_of}
+use Rattle.net_wire.specs.commit_protocol.Limits.{TmWithin}
+use Rattle.net_wire.specs.commit_protocol.Messages.{Join, Message}
+use Rattle.net_wire.specs.commit_protocol.Rows as rows
+use Rattle.net_wire.specs.commit_protocol.Rows.{Event, blank, row}
+use Rattle.net_wire.specs.commit_protocol.Standing.{BeginsNothing}
+use Rattle.net_wire.specs.commit_protocol.Table.{Act, Active, Branch, Joining, Key, Notes, Sends, Tm, after, after_act, child, coordinator_of, home_of}
+use Rattle.net_wire.specs.commit_protocol.World.{In}
+use Rattle.emitter_model.proofs.commit_protocol.WithinRows.{keeps_limits}
+use Rattle.row_laws.specs.log_laws.Slots.{Slots, branches_added}
+use Rattle.row_laws.specs.run_model.Answers.{just, table_rows, told_rows}
+use Rattle.row_laws.specs.run_model.Steps.{node_after_rows}
+use Rattle.row_laws.specs.run_model.World as world
+use Rattle.row_laws.specs.run_model.World.{Node, Tables, acted, next_moment, shared_after, tm_of}
 use Rattle.run_shared.specs.Sharing.{IsShared, SharedState}
 use Rattle.row_laws.specs.Doing.{DoesRows}
 use Rattle.row_laws.specs.May.{IsOfMessage, MayDoAll}
@@ -28,10 +28,10 @@ use Rattle.emitter_model.specs.Emitting.{Shown}
 use Rattle.emitter_model.proofs.EmittingLemmas.{emits_nothing}
 use Rattle.unit_table.specs.Units.{OpenUnit, new_unit}
 use Rattle.vms_model.specs.Ids.{Id}
-use Rattle.volume_model.specs.Volumes.{HasDisk}
-use Rattle.world_laws.specs.Nodes as laws
-use Rattle.world_laws.specs.Nodes.{AreUp}
-use Rattle.world_laws.specs.Running.{IsDrawn}
+use Rattle.recovery_units.specs.volume_model.Volumes.{HasDisk}
+use Rattle.recovery_units.specs.world_laws.Nodes as laws
+use Rattle.recovery_units.specs.world_laws.Nodes.{AreUp}
+use Rattle.recovery_units.specs.world_laws.Running.{IsDrawn}
 use Rattle.recovery_units.specs.Laws.{KeepsNodes}
 use Rattle.recovery_units.specs.State.{UnitsState, is_begun, with_begun}
 use Rattle.recovery_units.specs.Uses.{Caused, DiskAdvances, down_of}

@@ -7,7 +7,7 @@ use Rattle.vms_model.specs.Ids.{Id}
 use Rattle.unit_table.specs.Units.{OpenUnit}
 use Rattle.volume.specs.State.{VolumeState}
 use Rattle.recovery_units.specs.State.{IsEarly, unit_of, with_prepared, without_unit}
-use Rattle.image_room.specs.Room.{images_end}
+use Rattle.recovery_units.specs.image_room.Room.{images_end}
 use Rattle.recovery_units.specs.Uses.{Caused, Grows, ImagesGrow, down_of}
 use Rattle.node_table.specs.Growing.{Grown, IsEarlyFor, Stays, furthest, groups_left}
 use Rattle.node_table.specs.Standing.{Stored}

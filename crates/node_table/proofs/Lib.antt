@@ -13,3 +13,4 @@ pub mod Events
 pub mod Noting
 pub mod Booting
 pub mod Recalling
+pub mod row_laws

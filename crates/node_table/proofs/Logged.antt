@@ -1,17 +1,17 @@
 -- What the log has of branches and committed records.
 use Rattle.std.proofs.Common.{◌≡◌, Bool, true, false, List, [], ◌∷◌, Some, None, inl, inr, refl, ap, sym, subst, ◌∙◌}
-use Rattle.commit_protocol.specs.Allowed.{is_prepared}
-use Rattle.commit_protocol.specs.Limits.{RecordWithin}
-use Rattle.commit_protocol.specs.Messages.{LogRecord, RecordKind}
-use Rattle.commit_protocol.specs.Table.{Branch, Key, Tm, branch_serials, find, prepared_records, record_serials}
-use Rattle.commit_protocol.specs.World.{In}
-use Rattle.commit_protocol.proofs.Lists.{told_id}
-use Rattle.commit_protocol.proofs.Serials.{in_serial, parts_apart, there_serial}
-use Rattle.lmcp_log.specs.Log.{record_with}
-use Rattle.lmcp_log.specs.Slot.{HasForm}
-use Rattle.lmcp_log.proofs.SlotLemmas.{none_forgotten}
-use Rattle.log_laws.specs.Slots.{Slots, forgotten, has_slot, records_in}
-use Rattle.log_laws.proofs.Slotting.{in_state, slot_of}
+use Rattle.net_wire.specs.commit_protocol.Allowed.{is_prepared}
+use Rattle.net_wire.specs.commit_protocol.Limits.{RecordWithin}
+use Rattle.net_wire.specs.commit_protocol.Messages.{LogRecord, RecordKind}
+use Rattle.net_wire.specs.commit_protocol.Table.{Branch, Key, Tm, branch_serials, find, prepared_records, record_serials}
+use Rattle.net_wire.specs.commit_protocol.World.{In}
+use Rattle.emitter_model.proofs.commit_protocol.Lists.{told_id}
+use Rattle.emitter_model.proofs.commit_protocol.Serials.{in_serial, parts_apart, there_serial}
+use Rattle.recovery_units.specs.lmcp_log.Log.{record_with}
+use Rattle.recovery_units.specs.lmcp_log.Slot.{HasForm}
+use Rattle.recovery_units.proofs.lmcp_log.SlotLemmas.{none_forgotten}
+use Rattle.row_laws.specs.log_laws.Slots.{Slots, forgotten, has_slot, records_in}
+use Rattle.row_laws.proofs.log_laws.Slotting.{in_state, slot_of}
 use Rattle.row_laws.specs.May.{IsTold}
 use Rattle.vms_model.specs.Ids.{Id}
 use Rattle.node_table.proofs.Doubting.{one_key, stands}

@@ -3,16 +3,16 @@ use Rattle.std.proofs.Common.{◌≡◌, Bool, true, false, List, [], ◌∷◌,
 use Rattle.std.specs.Prelude.{if◌then◌else◌, not}
 use Rattle.std.specs.List.{list_any}
 use Rattle.std.proofs.lemmas.Bool.{and_parts}
-use Rattle.commit_protocol.specs.Allowed.{allowed, is_active, is_working, there_is}
-use Rattle.commit_protocol.specs.Effects.{SendEffect, effects_of}
-use Rattle.commit_protocol.specs.Messages.{Commit, Inquire, LogRecord, Message, same_id}
-use Rattle.commit_protocol.specs.Rows as rows
-use Rattle.commit_protocol.specs.Rows.{Changed, Got, has_changed, row, up}
-use Rattle.commit_protocol.specs.Table.{Act, Active, Branch, Ending, Joining, Key, Prepared, Sends, State, Tm, Voting, after, find, find_serial, first, key_of, put}
-use Rattle.commit_protocol.proofs.Lists.{find_serial-serial, told_id, told_key}
+use Rattle.net_wire.specs.commit_protocol.Allowed.{allowed, is_active, is_working, there_is}
+use Rattle.net_wire.specs.commit_protocol.Effects.{SendEffect, effects_of}
+use Rattle.net_wire.specs.commit_protocol.Messages.{Commit, Inquire, LogRecord, Message, same_id}
+use Rattle.net_wire.specs.commit_protocol.Rows as rows
+use Rattle.net_wire.specs.commit_protocol.Rows.{Changed, Got, has_changed, row, up}
+use Rattle.net_wire.specs.commit_protocol.Table.{Act, Active, Branch, Ending, Joining, Key, Prepared, Sends, State, Tm, Voting, after, find, find_serial, first, key_of, put}
+use Rattle.emitter_model.proofs.commit_protocol.Lists.{find_serial-serial, told_id, told_key}
 use Rattle.records_model.specs.History as history
-use Rattle.run_model.specs.Statements.{answer_in}
-use Rattle.run_model.specs.World.{with_changed}
+use Rattle.row_laws.specs.run_model.Statements.{answer_in}
+use Rattle.row_laws.specs.run_model.World.{with_changed}
 use Rattle.vms_model.specs.Ids.{Id}
 use Rattle.node_table.proofs.Branching.{told_serial}
 

@@ -10,28 +10,28 @@ use Rattle.std.specs.List.{AllByRecursion}
 use Rattle.block_disk.specs.Disk.{DiskState}
 use Rattle.careful_write.specs.declared.down.Down.{Down}
 use Rattle.careful_write.specs.declared.down.Down.TheVariants as down
-use Rattle.commit_protocol.specs.Effects.{Effect, act_effects, effects_of}
-use Rattle.commit_protocol.specs.Messages.{LogRecord, Message, Name}
-use Rattle.commit_protocol.specs.Table.{Act, Accepts, Acknowledges, Branch, Leaves, Notes, Prepares, Prints, Releases, Sends, Settles, Tm, Undoes, after, after_act, acknowledge, records_after, release}
-use Rattle.commit_protocol.specs.Table as table
-use Rattle.log_laws.specs.Handing.{HandsOn, records_after_all}
-use Rattle.log_laws.specs.Slots.{record_effects_in}
-use Rattle.log_laws.proofs.HandingOn.{effects_are_acts}
-use Rattle.run_model.specs.Answers.{Row, shown_by, table_rows}
-use Rattle.run_model.specs.World as world
-use Rattle.run_model.specs.World.{Node, Tables, acted, next_moment, shared_after, tm_of}
+use Rattle.net_wire.specs.commit_protocol.Effects.{Effect, act_effects, effects_of}
+use Rattle.net_wire.specs.commit_protocol.Messages.{LogRecord, Message, Name}
+use Rattle.net_wire.specs.commit_protocol.Table.{Act, Accepts, Acknowledges, Branch, Leaves, Notes, Prepares, Prints, Releases, Sends, Settles, Tm, Undoes, after, after_act, acknowledge, records_after, release}
+use Rattle.net_wire.specs.commit_protocol.Table as table
+use Rattle.row_laws.specs.log_laws.Handing.{HandsOn, records_after_all}
+use Rattle.row_laws.specs.log_laws.Slots.{record_effects_in}
+use Rattle.row_laws.proofs.log_laws.HandingOn.{effects_are_acts}
+use Rattle.row_laws.specs.run_model.Answers.{Row, shown_by, table_rows}
+use Rattle.row_laws.specs.run_model.World as world
+use Rattle.row_laws.specs.run_model.World.{Node, Tables, acted, next_moment, shared_after, tm_of}
 use Rattle.run_shared.specs.Sharing.{IsShared, SharedState}
 use Rattle.row_laws.specs.Doing.{DoesRows}
 use Rattle.row_laws.specs.May.{MayDo, MayDoAll}
 use Rattle.row_laws.proofs.Composing.{did_none, does_more, down_first}
 use Rattle.emitter_model.specs.Emitting.{Emits, Shown}
-use Rattle.transcript_model.specs.Lines.{Line}
+use Rattle.emitter_model.specs.transcript_model.Lines.{Line}
 use Rattle.emitter_model.proofs.EmittingLemmas.{emits_nothing, emits_on, since_on, since_same}
-use Rattle.transcript_model.proofs.OutsideLemmas.{rose_earlier}
+use Rattle.emitter_model.proofs.transcript_model.OutsideLemmas.{rose_earlier}
 use Rattle.vms_model.specs.Ids.{Id}
-use Rattle.volume_model.specs.Volumes.{HasDisk}
-use Rattle.world_laws.specs.Nodes as laws
-use Rattle.world_laws.specs.Nodes.{AreUp}
+use Rattle.recovery_units.specs.volume_model.Volumes.{HasDisk}
+use Rattle.recovery_units.specs.world_laws.Nodes as laws
+use Rattle.recovery_units.specs.world_laws.Nodes.{AreUp}
 use Rattle.recovery_units.specs.Laws.{KeepsNodes}
 use Rattle.recovery_units.specs.Uses.{Caused, DiskAdvances, down_of}
 use Rattle.node_table.specs.Growing.{Grown, IsEarlyFor, Stays}

@@ -3,26 +3,26 @@ use Rattle.std.proofs.Common.{◌≡◌, ◌≤◌, ℕ, Bool, true, false, List
 use Rattle.std.specs.Prelude.{IfSome, IsSome, is_some, OnErr, OnOk, ◌||◌, not, if◌then◌else◌}
 use Rattle.emitter_model.proofs.EmittingLemmas.{emits_nothing, since_same}
 use Rattle.careful_write.specs.declared.down.Down.{Down}
-use Rattle.commit_protocol.specs.Allowed.{is_prepared}
-use Rattle.commit_protocol.specs.Effects.{Effect, PrepareEffect, SettleEffect, KeepEffect, ForgetEffect, ReadOnlyEffect, act_effects}
-use Rattle.commit_protocol.specs.Limits.{AllLawful, IsLawful}
-use Rattle.commit_protocol.specs.Messages.{LogRecord, Message, Name, PreparedRecord}
-use Rattle.commit_protocol.specs.Standing.{writes}
-use Rattle.commit_protocol.specs.Rows.{is_empty}
-use Rattle.commit_protocol.specs.Table.{Act, Accepts, Acknowledges, Branch, Key, Leaves, Notes, Prepares, Prints, Releases, Sends, Settles, Tm, Undoes, child, find, holding, prepared_record, without}
-use Rattle.commit_protocol.specs.World.{In}
-use Rattle.commit_protocol.proofs.Lists.{find-key as found_key}
-use Rattle.lmcp_log.specs.Log.{record_with}
-use Rattle.lmcp_log.specs.Slot.{HasForm}
-use Rattle.log_laws.specs.Slots.{forgotten, has_free, has_slot, put_in, record_effect_in, record_effects_in, settled_in}
-use Rattle.run_model.specs.Answers.{settled_line, shown_by}
-use Rattle.run_model.specs.World as world
-use Rattle.run_model.specs.World.{Node, Settlement, Tables, acted, next_moment, settlement, settlement_of, tm_of}
+use Rattle.net_wire.specs.commit_protocol.Allowed.{is_prepared}
+use Rattle.net_wire.specs.commit_protocol.Effects.{Effect, PrepareEffect, SettleEffect, KeepEffect, ForgetEffect, ReadOnlyEffect, act_effects}
+use Rattle.net_wire.specs.commit_protocol.Limits.{AllLawful, IsLawful}
+use Rattle.net_wire.specs.commit_protocol.Messages.{LogRecord, Message, Name, PreparedRecord}
+use Rattle.net_wire.specs.commit_protocol.Standing.{writes}
+use Rattle.net_wire.specs.commit_protocol.Rows.{is_empty}
+use Rattle.net_wire.specs.commit_protocol.Table.{Act, Accepts, Acknowledges, Branch, Key, Leaves, Notes, Prepares, Prints, Releases, Sends, Settles, Tm, Undoes, child, find, holding, prepared_record, without}
+use Rattle.net_wire.specs.commit_protocol.World.{In}
+use Rattle.emitter_model.proofs.commit_protocol.Lists.{find-key as found_key}
+use Rattle.recovery_units.specs.lmcp_log.Log.{record_with}
+use Rattle.recovery_units.specs.lmcp_log.Slot.{HasForm}
+use Rattle.row_laws.specs.log_laws.Slots.{forgotten, has_free, has_slot, put_in, record_effect_in, record_effects_in, settled_in}
+use Rattle.row_laws.specs.run_model.Answers.{settled_line, shown_by}
+use Rattle.row_laws.specs.run_model.World as world
+use Rattle.row_laws.specs.run_model.World.{Node, Settlement, Tables, acted, next_moment, settlement, settlement_of, tm_of}
 use Rattle.run_shared.specs.Sharing.{IsShared, SharedState}
 use Rattle.row_laws.specs.May.{MayDo}
 use Rattle.emitter_model.specs.Emitting.{Emits, Shown, Since}
-use Rattle.transcript_model.specs.Lines as line
-use Rattle.transcript_model.specs.Lines.{Line}
+use Rattle.emitter_model.specs.transcript_model.Lines as line
+use Rattle.emitter_model.specs.transcript_model.Lines.{Line}
 use Rattle.vms_model.specs.Ids.{Id}
 use Rattle.vms_model.specs.Transactions.{Outcome, Commit, Abort, Reason}
 use Rattle.vms_base.specs.Ids.{serial_of, tid_of}

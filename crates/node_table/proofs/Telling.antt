@@ -3,24 +3,24 @@ use Rattle.std.proofs.Common.{◌≡◌, ◌+◌, ℕ, Bool, true, false, List, 
 use Rattle.std.specs.Prelude.{IfSome, ◌==◌, nat_lt, if◌then◌else◌}
 use Rattle.std.proofs.lemmas.Bool.{eq-eqb}
 use Rattle.vms_model.specs.Limits.{message_limit}
-use Rattle.commit_protocol.specs.Agreement.{Distinct}
-use Rattle.commit_protocol.specs.Effects.{Effect, SendEffect, TellEffect, JoinedEffect, StartedEffect, EndedEffect}
-use Rattle.commit_protocol.specs.Messages.{Message, Name, RmEvent}
-use Rattle.commit_protocol.specs.Standing.{writes}
-use Rattle.commit_protocol.specs.Table.{Act, Accepts, Acknowledges, Key, Leaves, Notes, Prepares, Prints, Releases, Sends, Settles, Started, Tm, Undoes, after_act, branch_serials}
-use Rattle.run_model.specs.Answers.{sent_line, shown_by}
-use Rattle.run_model.specs.World as world
-use Rattle.run_model.specs.World.{Node, Tables, acted, fallen, next_moment, posted, settlement, settlement_of, shared_after, tm_of}
+use Rattle.net_wire.specs.commit_protocol.Agreement.{Distinct}
+use Rattle.net_wire.specs.commit_protocol.Effects.{Effect, SendEffect, TellEffect, JoinedEffect, StartedEffect, EndedEffect}
+use Rattle.net_wire.specs.commit_protocol.Messages.{Message, Name, RmEvent}
+use Rattle.net_wire.specs.commit_protocol.Standing.{writes}
+use Rattle.net_wire.specs.commit_protocol.Table.{Act, Accepts, Acknowledges, Key, Leaves, Notes, Prepares, Prints, Releases, Sends, Settles, Started, Tm, Undoes, after_act, branch_serials}
+use Rattle.row_laws.specs.run_model.Answers.{sent_line, shown_by}
+use Rattle.row_laws.specs.run_model.World as world
+use Rattle.row_laws.specs.run_model.World.{Node, Tables, acted, fallen, next_moment, posted, settlement, settlement_of, shared_after, tm_of}
 use Rattle.run_shared.specs.Sharing.{IsShared, SharedState}
 use Rattle.row_laws.specs.May.{MayDo}
 use Rattle.emitter_model.specs.Emitting.{Emits, Shown, Since}
-use Rattle.transcript_model.specs.Lines as line
-use Rattle.transcript_model.specs.Lines.{Line}
+use Rattle.emitter_model.specs.transcript_model.Lines as line
+use Rattle.emitter_model.specs.transcript_model.Lines.{Line}
 use Rattle.vms_model.specs.Ids.{Id}
 use Rattle.vms_model.specs.Transactions.{Reason}
 use Rattle.volume.specs.State.{VolumeState}
-use Rattle.volume_model.specs.Volumes.{HasDisk}
-use Rattle.world_laws.specs.Nodes as laws
+use Rattle.recovery_units.specs.volume_model.Volumes.{HasDisk}
+use Rattle.recovery_units.specs.world_laws.Nodes as laws
 use Rattle.recovery_units.specs.Calls as calls
 use Rattle.recovery_units.specs.Calls.{ForActs, Done, Broken}
 use Rattle.recovery_units.specs.Laws.{KeepsNodes}

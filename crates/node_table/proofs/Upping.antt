@@ -1,15 +1,15 @@
 -- What is kept of a node that is up, behind a row of its table.
 use Rattle.std.proofs.Common.{◌≡◌, ℕ, true, List, [], ◌∷◌, ◌++◌, Option, Some, None, Result, Ok, Err, inl, inr, refl, sym, subst, ◌∙◌}
-use Rattle.commit_protocol.specs.Table.{Act, Accepts, Acknowledges, Key, Leaves, Notes, Prepares, Prints, Releases, Sends, Settles, Tm, Undoes, after_act, branch_serials, record_serials, records_after, table_after}
-use Rattle.commit_protocol.specs.World as protocol
-use Rattle.commit_protocol.specs.World.{In}
-use Rattle.commit_protocol.proofs.Lists.{in_left, in_parts, in_right}
-use Rattle.commit_protocol.proofs.Serials.{act_apart, keyed, parts_apart, there_serial}
-use Rattle.log_laws.specs.Slots.{Slots, slots_after}
-use Rattle.run_model.specs.Answers.{Row, table_rows}
-use Rattle.run_model.specs.Steps.{node_after_rows}
-use Rattle.run_model.specs.World as world
-use Rattle.run_model.specs.World.{Node, Settlement, Tables, acted, next_moment, preparation_after, settlement_of, shared_after, tm_of, with_prepared, with_settlement}
+use Rattle.net_wire.specs.commit_protocol.Table.{Act, Accepts, Acknowledges, Key, Leaves, Notes, Prepares, Prints, Releases, Sends, Settles, Tm, Undoes, after_act, branch_serials, record_serials, records_after, table_after}
+use Rattle.net_wire.specs.commit_protocol.World as protocol
+use Rattle.net_wire.specs.commit_protocol.World.{In}
+use Rattle.emitter_model.proofs.commit_protocol.Lists.{in_left, in_parts, in_right}
+use Rattle.emitter_model.proofs.commit_protocol.Serials.{act_apart, keyed, parts_apart, there_serial}
+use Rattle.row_laws.specs.log_laws.Slots.{Slots, slots_after}
+use Rattle.row_laws.specs.run_model.Answers.{Row, table_rows}
+use Rattle.row_laws.specs.run_model.Steps.{node_after_rows}
+use Rattle.row_laws.specs.run_model.World as world
+use Rattle.row_laws.specs.run_model.World.{Node, Settlement, Tables, acted, next_moment, preparation_after, settlement_of, shared_after, tm_of, with_prepared, with_settlement}
 use Rattle.row_laws.specs.Doing.{DoesRows}
 use Rattle.row_laws.specs.May.{IsTold, MayDo, MayDoAll}
 use Rattle.row_laws.proofs.MayLemmas.{told_after}

@@ -1,18 +1,18 @@
 -- Which act has an effect; and what acts on committed records show.
 use Rattle.std.proofs.Common.{◌≡◌, Bool, true, false, List, [], ◌∷◌, Some, None, inl, inr, refl, ap, sym, subst}
 use Rattle.std.specs.Prelude.{if◌then◌else◌}
-use Rattle.transcript_model.specs.Lines as line
-use Rattle.transcript_model.specs.Lines.{Line}
-use Rattle.commit_protocol.specs.Agreement.{Distinct}
-use Rattle.commit_protocol.specs.Effects.{Effect, PrepareEffect, SettleEffect, KeepEffect, ForgetEffect, SendEffect, TellEffect, JoinedEffect, StartedEffect, ReadOnlyEffect, EndedEffect, act_effects, acknowledge_effects, record_effects, release_effects}
-use Rattle.commit_protocol.specs.Messages.{LogRecord, Name}
-use Rattle.commit_protocol.specs.Table.{Act, Accepts, Acknowledges, Branch, Child, Ended, Key, Leaves, Notes, Prepares, Prints, Releases, Sends, Settles, Started, Told, Undoes, acknowledge, acknowledged, holding, holds, keep_record, nothing_left, record_serials, release, released, waits_for}
-use Rattle.commit_protocol.specs.World.{In}
-use Rattle.commit_protocol.proofs.Lists.{told_id}
-use Rattle.commit_protocol.proofs.Serials.{in_serial}
-use Rattle.lmcp_log.specs.Log.{record_with}
-use Rattle.log_laws.specs.Slots.{Slots, records_in}
-use Rattle.run_model.specs.Answers.{acknowledged_lines, forgot_lines, released_lines}
+use Rattle.emitter_model.specs.transcript_model.Lines as line
+use Rattle.emitter_model.specs.transcript_model.Lines.{Line}
+use Rattle.net_wire.specs.commit_protocol.Agreement.{Distinct}
+use Rattle.net_wire.specs.commit_protocol.Effects.{Effect, PrepareEffect, SettleEffect, KeepEffect, ForgetEffect, SendEffect, TellEffect, JoinedEffect, StartedEffect, ReadOnlyEffect, EndedEffect, act_effects, acknowledge_effects, record_effects, release_effects}
+use Rattle.net_wire.specs.commit_protocol.Messages.{LogRecord, Name}
+use Rattle.net_wire.specs.commit_protocol.Table.{Act, Accepts, Acknowledges, Branch, Child, Ended, Key, Leaves, Notes, Prepares, Prints, Releases, Sends, Settles, Started, Told, Undoes, acknowledge, acknowledged, holding, holds, keep_record, nothing_left, record_serials, release, released, waits_for}
+use Rattle.net_wire.specs.commit_protocol.World.{In}
+use Rattle.emitter_model.proofs.commit_protocol.Lists.{told_id}
+use Rattle.emitter_model.proofs.commit_protocol.Serials.{in_serial}
+use Rattle.recovery_units.specs.lmcp_log.Log.{record_with}
+use Rattle.row_laws.specs.log_laws.Slots.{Slots, records_in}
+use Rattle.row_laws.specs.run_model.Answers.{acknowledged_lines, forgot_lines, released_lines}
 use Rattle.vms_model.specs.Ids.{Id}
 
 -- an act on committed records

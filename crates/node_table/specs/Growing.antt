@@ -4,7 +4,7 @@ use Rattle.vms_model.specs.Limits.{branch_limit, moment_ceiling}
 use Rattle.careful_write.specs.declared.down.Down.{Down}
 use Rattle.recovery_units.specs.Uses.{Caused, DiskAdvances, down_of}
 use Rattle.unit_table.specs.Units.{OpenUnit}
-use Rattle.image_room.specs.Room.{images_end}
+use Rattle.recovery_units.specs.image_room.Room.{images_end}
 use Rattle.volume.specs.State.{VolumeState}
 use Rattle.node_table.specs.Standing.{Stored}
 

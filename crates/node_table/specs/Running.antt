@@ -3,28 +3,28 @@ use Rattle.std.specs.Prelude.{◌≡◌, [], map, true, ◌≤◌, ◌<◌, leng
 use Rattle.std.specs.List.{list_any}
 use Rattle.vms_model.specs.Limits.{branch_limit, moment_ceiling}
 use Rattle.careful_write.specs.declared.down.Down.{Down}
-use Rattle.commit_protocol.specs.Effects.{effects_of}
-use Rattle.commit_protocol.specs.Messages.{Inquire, Message}
-use Rattle.commit_protocol.specs.Rows as rows
-use Rattle.commit_protocol.specs.Rows.{Event, row, up}
-use Rattle.commit_protocol.specs.Table.{Key, Tm, branch_serials, branches_of, record_key, record_serials}
-use Rattle.commit_protocol.specs.World.{In}
-use Rattle.log_laws.specs.Slots.{branches_added, size}
+use Rattle.net_wire.specs.commit_protocol.Effects.{effects_of}
+use Rattle.net_wire.specs.commit_protocol.Messages.{Inquire, Message}
+use Rattle.net_wire.specs.commit_protocol.Rows as rows
+use Rattle.net_wire.specs.commit_protocol.Rows.{Event, row, up}
+use Rattle.net_wire.specs.commit_protocol.Table.{Key, Tm, branch_serials, branches_of, record_key, record_serials}
+use Rattle.net_wire.specs.commit_protocol.World.{In}
+use Rattle.row_laws.specs.log_laws.Slots.{branches_added, size}
 use Rattle.recovery_units.specs.State.{IsKept}
 use Rattle.recovery_units.specs.Told.{ReopenedTold}
 use Rattle.tm_types.specs.Parts.{log_record_of}
-use Rattle.world_laws.specs.Nodes as laws
+use Rattle.recovery_units.specs.world_laws.Nodes as laws
 use Rattle.recovery_units.specs.Uses.{Caused, DiskAdvances, down_of}
 use Rattle.row_laws.specs.Doing.{DoesRows}
-use Rattle.run_model.specs.Answers.{just, told_rows}
-use Rattle.run_model.specs.Statements.{answer_in}
-use Rattle.run_model.specs.World as world
-use Rattle.run_model.specs.World.{Node, tm_of}
+use Rattle.row_laws.specs.run_model.Answers.{just, told_rows}
+use Rattle.row_laws.specs.run_model.Statements.{answer_in}
+use Rattle.row_laws.specs.run_model.World as world
+use Rattle.row_laws.specs.run_model.World.{Node, tm_of}
 use Rattle.run_shared.specs.Sharing.{IsShared, SharedState}
 use Rattle.emitter_model.specs.Emitting.{Shown, Since}
 use Rattle.vms_model.specs.Ids.{Id}
-use Rattle.volume_model.specs.Volumes.{HasDisk}
-use Rattle.world_laws.specs.Nodes.{AreUp}
+use Rattle.recovery_units.specs.volume_model.Volumes.{HasDisk}
+use Rattle.recovery_units.specs.world_laws.Nodes.{AreUp}
 use Rattle.node_table.specs.Growing.{end_to_come, moment_to_come}
 use Rattle.node_table.specs.Standing.{IsUp, Stored, Up, UpRepresents}
 use Rattle.node_table.specs.Telling.{ShowsWork, uses_disk}

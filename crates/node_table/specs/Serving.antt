@@ -3,12 +3,12 @@ use Rattle.std.specs.Prelude.{◌≡◌, ◌⊎◌, ◌≤◌, ℕ, List, [], �
 use Rattle.block_disk.specs.Disk.{DiskState}
 use Rattle.careful_write.specs.declared.down.Down.{Down}
 use Rattle.emitter_model.specs.Emitting.{Shown, Emits}
-use Rattle.transcript_model.specs.Lines.{Line}
-use Rattle.run_model.specs.World.{Node, Shared, fallen}
-use Rattle.run_model.specs.Operations.{first_of}
-use Rattle.run_model.specs.Answers.{Row, Service}
-use Rattle.run_model.specs.Steps.{act_begun, lines_of_rows, node_after_rows, rows_if, shared_after_rows}
-use Rattle.volume_model.specs.Volumes.{HasDisk}
+use Rattle.emitter_model.specs.transcript_model.Lines.{Line}
+use Rattle.row_laws.specs.run_model.World.{Node, Shared, fallen}
+use Rattle.row_laws.specs.run_model.Operations.{first_of}
+use Rattle.row_laws.specs.run_model.Answers.{Row, Service}
+use Rattle.row_laws.specs.run_model.Steps.{act_begun, lines_of_rows, node_after_rows, rows_if, shared_after_rows}
+use Rattle.recovery_units.specs.volume_model.Volumes.{HasDisk}
 
 -- What a service is at a node, by what nodes share: what refuses it before the disk is read, and after that; and where nothing refuses it its rows and its answer.
 pub record ServiceAt : Type 0 where

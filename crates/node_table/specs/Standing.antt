@@ -1,17 +1,17 @@
 -- What the program keeps of a node that is up, and the node of the world that it stands for.
 use Rattle.std.specs.Prelude.{◌≡◌, ℕ, List, [], ◌∷◌, true, None, is_some, if◌then◌else◌}
-use Rattle.commit_protocol.specs.Agreement.{Distinct}
-use Rattle.commit_protocol.specs.Allowed.{is_prepared}
-use Rattle.commit_protocol.specs.Limits.{TmWithin}
-use Rattle.commit_protocol.specs.Messages.{Name}
-use Rattle.commit_protocol.specs.Table.{Branch, Key, Tm, find}
-use Rattle.commit_protocol.specs.World.{In}
+use Rattle.net_wire.specs.commit_protocol.Agreement.{Distinct}
+use Rattle.net_wire.specs.commit_protocol.Allowed.{is_prepared}
+use Rattle.net_wire.specs.commit_protocol.Limits.{TmWithin}
+use Rattle.net_wire.specs.commit_protocol.Messages.{Name}
+use Rattle.net_wire.specs.commit_protocol.Table.{Branch, Key, Tm, find}
+use Rattle.net_wire.specs.commit_protocol.World.{In}
 use Rattle.vms_model.specs.Ids.{Id}
-use Rattle.run_model.specs.World.{Node, tm_of}
+use Rattle.row_laws.specs.run_model.World.{Node, tm_of}
 use Rattle.volume.specs.State.{VolumeState}
 use Rattle.recovery_units.specs.State.{AreOfBranches, IsInOrder, IsKept, UnitsState}
 use Rattle.row_laws.specs.May.{IsTold}
-use Rattle.world_laws.specs.Running.{IsDrawn}
+use Rattle.recovery_units.specs.world_laws.Running.{IsDrawn}
 
 -- The volume and the units of a node, and the serials of its prepared branches in the order of their preparation.
 pub record Stored : Type 0 where

@@ -4,26 +4,26 @@ use Rattle.std.specs.List.{AllByRecursion, list_any}
 use Rattle.block_disk.specs.Disk.{DiskState}
 use Rattle.vms_model.specs.Limits.{branch_limit}
 use Rattle.careful_write.specs.declared.down.Down.{Down as DownSaid}
-use Rattle.commit_protocol.specs.Effects.{Effect, PrepareEffect, SettleEffect, KeepEffect, ForgetEffect, act_effects, effects_of}
-use Rattle.commit_protocol.specs.Messages.{Message, Name, RmEvent}
-use Rattle.commit_protocol.specs.Table.{Act, Tm, after, after_act}
-use Rattle.log_laws.specs.Slots.{slots_after}
-use Rattle.run_model.specs.Answers.{shown_by, table_rows}
-use Rattle.run_model.specs.Steps.{if_durable}
-use Rattle.run_model.specs.World as world
-use Rattle.run_model.specs.World.{Node, Tables, acted, fallen, next_moment, shared_after}
+use Rattle.net_wire.specs.commit_protocol.Effects.{Effect, PrepareEffect, SettleEffect, KeepEffect, ForgetEffect, act_effects, effects_of}
+use Rattle.net_wire.specs.commit_protocol.Messages.{Message, Name, RmEvent}
+use Rattle.net_wire.specs.commit_protocol.Table.{Act, Tm, after, after_act}
+use Rattle.row_laws.specs.log_laws.Slots.{slots_after}
+use Rattle.row_laws.specs.run_model.Answers.{shown_by, table_rows}
+use Rattle.row_laws.specs.run_model.Steps.{if_durable}
+use Rattle.row_laws.specs.run_model.World as world
+use Rattle.row_laws.specs.run_model.World.{Node, Tables, acted, fallen, next_moment, shared_after}
 use Rattle.run_shared.specs.Sharing.{IsShared, SharedState}
 use Rattle.row_laws.specs.Doing.{DoesRows}
 use Rattle.row_laws.specs.May.{MayDo, MayDoAll}
 use Rattle.emitter_model.specs.Emitting.{Emits, Shown, Since}
-use Rattle.transcript_model.specs.Lines.{Booted, Broken, Crashed, Down, Line, ManagerTold, Sent}
+use Rattle.emitter_model.specs.transcript_model.Lines.{Booted, Broken, Crashed, Down, Line, ManagerTold, Sent}
 use Rattle.participants.specs.Refusing.{is_among}
 use Rattle.vms_model.specs.Ids.{Id}
-use Rattle.volume_model.specs.Volumes.{HasDisk}
-use Rattle.world_laws.specs.Nodes as laws
-use Rattle.world_laws.specs.Nodes.{AreUp}
-use Rattle.commit_protocol.specs.Rows as rows
-use Rattle.commit_protocol.specs.Rows.{Event}
+use Rattle.recovery_units.specs.volume_model.Volumes.{HasDisk}
+use Rattle.recovery_units.specs.world_laws.Nodes as laws
+use Rattle.recovery_units.specs.world_laws.Nodes.{AreUp}
+use Rattle.net_wire.specs.commit_protocol.Rows as rows
+use Rattle.net_wire.specs.commit_protocol.Rows.{Event}
 use Rattle.recovery_units.specs.State.{IsNew, UnitsState, with_begun}
 use Rattle.node_table.specs.Growing.{Stays}
 use Rattle.node_table.specs.Standing.{Follows, HasDeclared, Stored, StoredRepresents}

@@ -1,9 +1,9 @@
 // One effect of a row after another.
 ghost use Rattle.std.specs.Prelude.{◌≡◌, ◌≤◌, ◌+◌, ℕ, List, [], ◌∷◌, None, map, option_copied, vec_capacity};
 ghost use Rattle.vms_model.specs.Limits.{branch_limit, moment_ceiling};
-ghost use Rattle.commit_protocol.specs.Effects.{PrepareEffect, SettleEffect, KeepEffect, ForgetEffect, ReadOnlyEffect};
-ghost use Rattle.commit_protocol.specs.Table.{Act as ActSaid, Tm as TmSaid, without};
-ghost use Rattle.lmcp_log.specs.Log.{slot_of};
+ghost use Rattle.net_wire.specs.commit_protocol.Effects.{PrepareEffect, SettleEffect, KeepEffect, ForgetEffect, ReadOnlyEffect};
+ghost use Rattle.net_wire.specs.commit_protocol.Table.{Act as ActSaid, Tm as TmSaid, without};
+ghost use Rattle.recovery_units.specs.lmcp_log.Log.{slot_of};
 ghost use Rattle.net_wire.specs.Messages.{message_of};
 ghost use Rattle.tm_types.specs.Effects.{effect_of};
 ghost use Rattle.tm_types.specs.Events.{event_of};
@@ -12,8 +12,8 @@ ghost use Rattle.vms_base.specs.Ids.{serial_of, tid_of};
 ghost use Rattle.vms_base.specs.Outcomes.{reason_of};
 ghost use Rattle.vms_model.specs.Ids.{Id as IdSaid};
 ghost use Rattle.vms_model.specs.Transactions.{Commit as ToCommit, Abort as ToAbort, Reason as ReasonSaid};
-ghost use Rattle.run_model.specs.Answers.{sent_line};
-ghost use Rattle.run_model.specs.World.{posted};
+ghost use Rattle.row_laws.specs.run_model.Answers.{sent_line};
+ghost use Rattle.row_laws.specs.run_model.World.{posted};
 ghost use Rattle.run_shared.specs.Sharing.{SharedState as SharedSaid};
 ghost use Rattle.emitter_model.specs.Emitting.{Emits, Since, Shown as ShownSaid};
 ghost use Rattle.recovery_units.specs.Laws.{KeepsNodes};

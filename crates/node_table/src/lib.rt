@@ -5,5 +5,6 @@ mod acts;
 mod running;
 mod stored;
 
+pub use recovery_units::RecoveryUnits;
 pub use running::Running;
 pub use stored::{Room, Stored};

@@ -2,12 +2,12 @@
 ghost use Rattle.std.specs.Prelude.{◌≡◌, ◌<◌, ◌≤◌, ◌+◌, ℕ, [], map, true};
 ghost use Rattle.std.specs.Option.{option_map};
 ghost use Rattle.vms_model.specs.Limits.{branch_limit, moment_ceiling};
-ghost use Rattle.commit_protocol.specs.Allowed.{allowed};
-ghost use Rattle.commit_protocol.specs.Effects.{effects_of};
-ghost use Rattle.commit_protocol.specs.Rows.{Changed, row};
-ghost use Rattle.commit_protocol.specs.Table.{after, branches_of, record_serials};
+ghost use Rattle.net_wire.specs.commit_protocol.Allowed.{allowed};
+ghost use Rattle.net_wire.specs.commit_protocol.Effects.{effects_of};
+ghost use Rattle.net_wire.specs.commit_protocol.Rows.{Changed, row};
+ghost use Rattle.net_wire.specs.commit_protocol.Table.{after, branches_of, record_serials};
 ghost use Rattle.net_wire.specs.Messages.{message_of};
-ghost use Rattle.run_model.specs.World.{Node as NodeSaid, with_changed};
+ghost use Rattle.row_laws.specs.run_model.World.{Node as NodeSaid, with_changed};
 ghost use Rattle.tm_types.specs.Branches.{key_at};
 ghost use Rattle.tm_types.specs.Effects.{effect_of};
 ghost use Rattle.tm_types.specs.Events.{event_of};

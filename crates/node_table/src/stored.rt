@@ -1,7 +1,7 @@
 //! What a node keeps on its disk and beside it while it is up.
 ghost use Rattle.std.specs.Prelude.{[], IfOk, length, map, vec_capacity, ◌≡◌, ◌≤◌};
 ghost use Rattle.vms_model.specs.Limits.{branch_limit};
-ghost use Rattle.commit_protocol.specs.Table.{record_serials};
+ghost use Rattle.net_wire.specs.commit_protocol.Table.{record_serials};
 ghost use Rattle.tm_types.specs.Parts.{log_record_of};
 ghost use Rattle.vms_base.specs.Ids.{serial_of};
 

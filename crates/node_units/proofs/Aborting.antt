@@ -16,15 +16,15 @@ use Rattle.volume_format.specs.declared.home.Ending.TheVariants as ending
 use Rattle.volume_format.specs.declared.home.Home.{Home}
 use Rattle.volume_format.specs.Head.{IsHead}
 use Rattle.file_base.specs.declared.head.FileHead.{FileHead}
-use Rattle.file_settlements.specs.Settling.{EntersSettled, content_settled}
-use Rattle.image_groups.specs.Groups.{HaveRoom}
+use Rattle.rms_units.specs.file_settlements.Settling.{EntersSettled, content_settled}
+use Rattle.undo_laws.specs.image_groups.Groups.{HaveRoom}
 use Rattle.unit_laws.specs.JournalLaws.{is_unit}
 use Rattle.unit_table.specs.Units.{OpenUnit}
-use Rattle.unit_aborts.specs.Aborting.{Abortion, Aborts, BreaksOff, MakesAbort, abort_entry, has_changes}
-use Rattle.unit_undo.specs.Undoing.{GoesOn, journals_at}
-use Rattle.unit_undo.specs.Way.{FailsOnTheWay, IsUndone, Undoes}
-use Rattle.unit_journal.specs.Entries.{settled_entry}
-use Rattle.unit_journal.specs.Settling.{MakesSettlement, entry_if, next_moment as moment_next}
+use Rattle.rms_units.specs.unit_aborts.Aborting.{Abortion, Aborts, BreaksOff, MakesAbort, abort_entry, has_changes}
+use Rattle.undo_laws.specs.unit_undo.Undoing.{GoesOn, journals_at}
+use Rattle.undo_laws.specs.unit_undo.Way.{FailsOnTheWay, IsUndone, Undoes}
+use Rattle.rms_units.specs.unit_journal.Entries.{settled_entry}
+use Rattle.rms_units.specs.unit_journal.Settling.{MakesSettlement, entry_if, next_moment as moment_next}
 use Rattle.commit_protocol.specs.Allowed.{is_prepared}
 use Rattle.commit_protocol.specs.Effects.{SettleEffect}
 use Rattle.commit_protocol.specs.Messages as message
@@ -37,12 +37,12 @@ use Rattle.commit_protocol.proofs.Serials.{parts_apart}
 use Rattle.log_laws.specs.Slots.{Slots, forgotten, has_slot, records_in}
 use Rattle.lmcp_log.proofs.Apart.{same_ids}
 use Rattle.lmcp_log.proofs.SlotLemmas.{none_forgotten}
-use Rattle.run_model.specs.World.{IsPreparedUnit, Node, Settlement, Tables, acted, next_moment, settlement}
-use Rattle.world_laws.proofs.LogLemmas.{prepared_branch, told_log}
-use Rattle.world_laws.proofs.TableLemmas.{found_in, in_serials, one_branch}
-use Rattle.world_laws.proofs.UpLemmas.{differ}
-use Rattle.directory_model.specs.Files.{head_at}
-use Rattle.settlement_laws.specs.Settled.{Makes}
+use Rattle.recovery_units.specs.run_model.World.{IsPreparedUnit, Node, Settlement, Tables, acted, next_moment, settlement}
+use Rattle.recovery_units.proofs.world_laws.LogLemmas.{prepared_branch, told_log}
+use Rattle.recovery_units.proofs.world_laws.TableLemmas.{found_in, in_serials, one_branch}
+use Rattle.recovery_units.proofs.world_laws.UpLemmas.{differ}
+use Rattle.unit_world.specs.directory_model.Files.{head_at}
+use Rattle.undo_laws.specs.settlement_laws.Settled.{Makes}
 use Rattle.undo_laws.specs.Aborted.{IsAborted, MayAbort, PutsOutcome}
 use Rattle.undo_laws.specs.Undoable.{entries_for, entered_at, positions_for}
 use Rattle.undo_laws.specs.Undone.{IsAbort, WaysKeepPrepared}
@@ -50,9 +50,9 @@ use Rattle.undo_laws.proofs.AbortLemmas.{aborts_fail, aborts_settle}
 use Rattle.undo_laws.proofs.SettledLemmas.{fell_of}
 use Rattle.undo_laws.proofs.UndoableLemmas.{units_are_undoable}
 use Rattle.undo_laws.proofs.WayLemmas.{names_kept, ways_keep_others}
-use Rattle.volume_model.specs.Homes as homes
-use Rattle.volume_model.specs.Laws.{KeepsNames}
-use Rattle.volume_model.specs.Volumes.{HasVolume, LeavesVolume}
+use Rattle.recovery_units.specs.volume_model.Homes as homes
+use Rattle.recovery_units.specs.volume_model.Laws.{KeepsNames}
+use Rattle.recovery_units.specs.volume_model.Volumes.{HasVolume, LeavesVolume}
 use Rattle.rms_units.specs.Aborting.{AbortsNot, AbortsUnit, abortion_of}
 use Rattle.rms_units.specs.Calls.{is_some_change}
 use Rattle.rms_units.specs.State as rms

@@ -6,14 +6,14 @@ use Rattle.vms_model.specs.Transactions.{Outcome, Reason}
 use Rattle.volume.specs.declared.catalog.Catalog.{Catalog}
 use Rattle.volume.specs.Catalogs.{IsSound, TellsCatalog}
 use Rattle.volume.specs.State.{Holds, VolumeState}
-use Rattle.unit_journal.specs.Groups.{Breaks}
+use Rattle.rms_units.specs.unit_journal.Groups.{Breaks}
 use Rattle.commit_protocol.specs.Effects.{Effect, PrepareEffect, SettleEffect, act_effects, line_effect}
 use Rattle.commit_protocol.specs.Messages.{LogRecord, Name}
 use Rattle.commit_protocol.specs.Table as table
 use Rattle.commit_protocol.specs.Table.{Accepts, Acknowledges, Branch, Ended, Key, Leaves, Line, Notes, Prepares, Prints, Releases, Sends, Settles, Started, Told, Undoes, holding}
-use Rattle.run_model.specs.World.{Node, Tables, acted, fallen}
-use Rattle.volume_laws.proofs.WholeLemmas.{volume_falls}
-use Rattle.volume_model.specs.Volumes.{HasDisk, HasVolume, IsLeftBy}
+use Rattle.recovery_units.specs.run_model.World.{Node, Tables, acted, fallen}
+use Rattle.unit_world.proofs.volume_laws.WholeLemmas.{volume_falls}
+use Rattle.recovery_units.specs.volume_model.Volumes.{HasDisk, HasVolume, IsLeftBy}
 use Rattle.recovery_units.specs.State.{IsKept, UnitsState}
 use Rattle.unit_world.proofs.Leaving.{down}
 use Rattle.node_units.proofs.Ending.{of_acknowledged, of_released}

@@ -7,14 +7,14 @@ use Rattle.file_base.specs.declared.head.FileHead.{FileHead}
 use Rattle.vms_model.specs.Ids.{Id}
 use Rattle.journal_model.specs.Entries.{Entry, IsEntry, spelling}
 use Rattle.volume_format.specs.declared.home.Home.{Home}
-use Rattle.unit_entries.specs.Reading.{changes_of, is_change_of, placed}
-use Rattle.unit_entries.specs.Reading as reading
+use Rattle.recovery_units.specs.unit_entries.Reading.{changes_of, is_change_of, placed}
+use Rattle.recovery_units.specs.unit_entries.Reading as reading
 use Rattle.unit_laws.specs.Journal.{ChangeEntry, JournalEntry, PreparedEntry, SettledEntry, entry_size}
-use Rattle.unit_journal.specs.Settling as journal
-use Rattle.run_model.specs.World.{Node, next_moment}
-use Rattle.volume_model.specs.Entries.{AreEntries, IsFileOf, entry_for}
-use Rattle.volume_model.specs.Homes.{HasHome}
-use Rattle.volume_model.proofs.EntryLemmas.{entries_follow}
+use Rattle.rms_units.specs.unit_journal.Settling as journal
+use Rattle.recovery_units.specs.run_model.World.{Node, next_moment}
+use Rattle.recovery_units.specs.volume_model.Entries.{AreEntries, IsFileOf, entry_for}
+use Rattle.recovery_units.specs.volume_model.Homes.{HasHome}
+use Rattle.recovery_units.proofs.volume_model.EntryLemmas.{entries_follow}
 use Rattle.recovery_units.specs.State.{is_change_by, positions_of}
 
 -- The changes of a branch begin on the disk where they begin in the world's journal.

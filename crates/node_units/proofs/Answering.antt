@@ -4,7 +4,7 @@ use Rattle.careful_write.specs.declared.down.Down.{Down}
 use Rattle.record_operations.specs.Causes.{Cause, IfRefused, down_in}
 use Rattle.record_operations.specs.declared.errors.RecErr.{RecErr}
 use Rattle.record_operations.specs.declared.errors.RecErr.TheVariants as err
-use Rattle.image_room.specs.Room.{images_end}
+use Rattle.recovery_units.specs.image_room.Room.{images_end}
 use Rattle.recovery_units.specs.Uses.{ImagesGrow}
 use Rattle.volume.specs.State.{SameVolume, VolumeState}
 use Rattle.volume.specs.declared.catalog.Catalog.{Catalog}

@@ -8,19 +8,19 @@ use Rattle.file_base.specs.declared.head.FileHead.{FileHead}
 use Rattle.file_base.specs.declared.head.Organization.TheVariants as kept
 use Rattle.vms_model.specs.Keys.{Key, Number, End}
 use Rattle.record_operations.specs.Causes.{RecordNotFound, cause_if}
-use Rattle.run_model.specs.Operations.{changes_of, count_of, data_refused, in_order, keys_asked, refused_if, removed}
+use Rattle.recovery_units.specs.run_model.Operations.{changes_of, count_of, data_refused, in_order, keys_asked, refused_if, removed}
 use Rattle.transcript_model.specs.Lines as line
-use Rattle.run_model.specs.World.{File}
+use Rattle.recovery_units.specs.run_model.World.{File}
 use Rattle.script_model.specs.Statements.{Truncate}
-use Rattle.seq_file.specs.Layout.{records_in}
-use Rattle.directory_model.specs.Files.{IsFile}
-use Rattle.directory_model.proofs.Reading.{reads_files}
-use Rattle.directory_model.proofs.ReadingFiles.{order_is}
-use Rattle.directory_model.proofs.ReadingLists.{drop_numbered, length-numbered, numbered}
+use Rattle.volume_files.specs.seq_file.Layout.{records_in}
+use Rattle.unit_world.specs.directory_model.Files.{IsFile}
+use Rattle.unit_world.proofs.directory_model.Reading.{reads_files}
+use Rattle.unit_world.proofs.directory_model.ReadingFiles.{order_is}
+use Rattle.unit_world.proofs.directory_model.ReadingLists.{drop_numbered, length-numbered, numbered}
 use Rattle.recovery_units.specs.Calls.{cause_line}
 use Rattle.recovery_units.proofs.FormLemmas.{line_if}
 use Rattle.rms_units.specs.Truncating.{cut_asked}
-use Rattle.unit_cuts.specs.Truncating.{keys_down, removed_from}
+use Rattle.rms_units.specs.unit_cuts.Truncating.{keys_down, removed_from}
 
 abbrev Entries : Type 0
 Entries = List (Key × List ℕ)

@@ -13,28 +13,28 @@ use Rattle.vms_base.specs.Keys.{key_of}
 use Rattle.vms_base.specs.declared.keys.Key.{Key as VmsKey}
 use Rattle.records_model.specs.Records.{Records}
 use Rattle.records_model.specs.History.{current}
-use Rattle.record_files.specs.Any.{LaidOutBy, asks, map_by, map_of}
+use Rattle.volume_files.specs.record_files.Any.{LaidOutBy, asks, map_by, map_of}
 use Rattle.record_operations.specs.Asking.{is_of_key, written}
 use Rattle.record_operations.specs.Causes.{Cause, FileFull}
 use Rattle.record_operations.specs.Forms as form
 use Rattle.record_operations.specs.declared.ops.RecordOp.{RecordOp}
 use Rattle.record_operations.specs.declared.ops.RecordOp.TheVariants as op
-use Rattle.run_model.specs.Operations as said
-use Rattle.run_model.specs.Operations.{changes_of, count_of, data_refused, file_full, free_buckets, keys_asked, keys_found, keys_held, need_of, operation_answer, refused_if, set_in}
-use Rattle.run_model.specs.World as world
-use Rattle.run_model.specs.World.{File}
+use Rattle.recovery_units.specs.run_model.Operations as said
+use Rattle.recovery_units.specs.run_model.Operations.{changes_of, count_of, data_refused, file_full, free_buckets, keys_asked, keys_found, keys_held, need_of, operation_answer, refused_if, set_in}
+use Rattle.recovery_units.specs.run_model.World as world
+use Rattle.recovery_units.specs.run_model.World.{File}
 use Rattle.script_model.specs.Statements.{Delete, Operation, Put, Update}
-use Rattle.seq_file.specs.Layout.{records_in}
-use Rattle.seq_file.proofs.RecordLaws.{record_at_past}
-use Rattle.directory_model.specs.Files.{IsFile, organized_by}
-use Rattle.directory_model.proofs.Reading.{reads_files}
+use Rattle.volume_files.specs.seq_file.Layout.{records_in}
+use Rattle.rms_units.proofs.seq_file.RecordLaws.{record_at_past}
+use Rattle.unit_world.specs.directory_model.Files.{IsFile, organized_by}
+use Rattle.unit_world.proofs.directory_model.Reading.{reads_files}
 use Rattle.recovery_units.specs.Calls.{IsNumber, IsNumbered, cause_line, change_said, number_of, position_line}
 use Rattle.recovery_units.proofs.FormLemmas.{line_if}
-use Rattle.key_changes.specs.declared.asked.KeyChange.{KeyChange}
-use Rattle.key_changes.specs.declared.asked.KeyChange.TheVariants as how
-use Rattle.key_changes.specs.Changing as rms
-use Rattle.key_changes.specs.Changing.{after_change, found_refused}
-use Rattle.key_changes.specs.Keys.{change_in, key_in, key_put, position_by}
+use Rattle.rms_units.specs.key_changes.declared.asked.KeyChange.{KeyChange}
+use Rattle.rms_units.specs.key_changes.declared.asked.KeyChange.TheVariants as how
+use Rattle.rms_units.specs.key_changes.Changing as rms
+use Rattle.rms_units.specs.key_changes.Changing.{after_change, found_refused}
+use Rattle.rms_units.specs.key_changes.Keys.{change_in, key_in, key_put, position_by}
 use Rattle.node_units.proofs.ReadLemmas.{first_none}
 
 abbrev pub Content : Type 0

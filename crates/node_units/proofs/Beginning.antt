@@ -15,11 +15,11 @@ use Rattle.log_laws.proofs.Reading.{all_again, committed_distinct, committed_is,
 use Rattle.lmcp_log.specs.Log.{with_few_prepared}
 use Rattle.lmcp_log.specs.Slot.{HasForm, IsRecord}
 use Rattle.lmcp_log.proofs.Few.{few_distinct, few_in, few_long}
-use Rattle.run_model.specs.World.{find_record, records_by, without_record}
-use Rattle.world_laws.proofs.BootLemmas.{IsReordered, reordered}
-use Rattle.world_laws.proofs.LogLemmas.{differ_append, prepared_differ}
-use Rattle.tm_types.specs.Parts.{log_record_of}
-use Rattle.unit_returns.specs.Returning.{AreOfRecords}
+use Rattle.recovery_units.specs.run_model.World.{find_record, records_by, without_record}
+use Rattle.recovery_units.proofs.world_laws.BootLemmas.{IsReordered, reordered}
+use Rattle.recovery_units.proofs.world_laws.LogLemmas.{differ_append, prepared_differ}
+use Rattle.lmcp_log.specs.tm_types.Parts.{log_record_of}
+use Rattle.rms_units.specs.unit_returns.Returning.{AreOfRecords}
 use Rattle.unit_table.specs.Units.{OpenUnit}
 use Rattle.recovery_units.specs.Calls.{MayBegin}
 use Rattle.recovery_units.specs.State.{AreOfBranches}

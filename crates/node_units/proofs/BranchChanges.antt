@@ -11,29 +11,29 @@ use Rattle.unit_laws.specs.Units.{SerialsDiffer, has_changes, is_free, moves_end
 use Rattle.unit_laws.specs.Journal.{RecoveryUnit, find_unit, is_settled_in, units_in}
 use Rattle.unit_laws.specs.JournalLaws.{is_unit}
 use Rattle.commit_protocol.specs.Allowed.{is_prepared}
-use Rattle.run_model.specs.Answers.{held_against}
-use Rattle.run_model.specs.Locks.{Lock, holder, is_lock_of, is_locked}
-use Rattle.world_laws.specs.Ordered.{IsJournalInOrder, IsNoteOf}
+use Rattle.recovery_units.specs.run_model.Answers.{held_against}
+use Rattle.recovery_units.specs.run_model.Locks.{Lock, holder, is_lock_of, is_locked}
+use Rattle.recovery_units.specs.world_laws.Ordered.{IsJournalInOrder, IsNoteOf}
 use Rattle.commit_protocol.specs.World.{In}
-use Rattle.world_laws.specs.Restarts.{AreHeld, HasNoName, NamesDiffer}
-use Rattle.world_laws.specs.Room.{HasRoom}
-use Rattle.world_laws.specs.Nodes.{IsUp}
-use Rattle.run_model.specs.World as world
-use Rattle.run_model.specs.World.{AreUnitsOf, Changes, File, IsReached, Node, Organization, acted, find_file, serials_of}
-use Rattle.world_laws.proofs.FindLemmas.{some_is}
-use Rattle.world_laws.proofs.HeldLemmas.{IsFreeFor}
-use Rattle.world_laws.proofs.IdLemmas.{in_map}
-use Rattle.world_laws.proofs.OperationLemmas.{held_of}
-use Rattle.world_laws.proofs.RunningLemmas.{end_is_free_for}
-use Rattle.world_laws.proofs.TableLemmas.{in_serials}
-use Rattle.world_laws.proofs.UpLemmas.{branch_drawn}
-use Rattle.world_laws.proofs.LockLemmas.{unlocked_is_free}
-use Rattle.world_laws.proofs.OrderedLemmas.{changes_keep_order}
-use Rattle.world_laws.proofs.RoomLemmas.{units_have_room}
-use Rattle.directory_model.specs.Files.{file_at}
-use Rattle.restart_laws.specs.Units.{EndIsFree, MayChange}
-use Rattle.restart_laws.proofs.ListLemmas.{all_as}
-use Rattle.restart_laws.proofs.UnitLemmas.{keeps_units}
+use Rattle.recovery_units.specs.world_laws.Restarts.{AreHeld, HasNoName, NamesDiffer}
+use Rattle.recovery_units.specs.world_laws.Room.{HasRoom}
+use Rattle.recovery_units.specs.world_laws.Nodes.{IsUp}
+use Rattle.recovery_units.specs.run_model.World as world
+use Rattle.recovery_units.specs.run_model.World.{AreUnitsOf, Changes, File, IsReached, Node, Organization, acted, find_file, serials_of}
+use Rattle.recovery_units.proofs.world_laws.FindLemmas.{some_is}
+use Rattle.recovery_units.proofs.world_laws.HeldLemmas.{IsFreeFor}
+use Rattle.recovery_units.proofs.world_laws.IdLemmas.{in_map}
+use Rattle.recovery_units.proofs.world_laws.OperationLemmas.{held_of}
+use Rattle.recovery_units.proofs.world_laws.RunningLemmas.{end_is_free_for}
+use Rattle.recovery_units.proofs.world_laws.TableLemmas.{in_serials}
+use Rattle.recovery_units.proofs.world_laws.UpLemmas.{branch_drawn}
+use Rattle.recovery_units.proofs.world_laws.LockLemmas.{unlocked_is_free}
+use Rattle.recovery_units.proofs.world_laws.OrderedLemmas.{changes_keep_order}
+use Rattle.recovery_units.proofs.world_laws.RoomLemmas.{units_have_room}
+use Rattle.unit_world.specs.directory_model.Files.{file_at}
+use Rattle.unit_world.specs.restart_laws.Units.{EndIsFree, MayChange}
+use Rattle.unit_world.proofs.restart_laws.ListLemmas.{all_as}
+use Rattle.unit_world.proofs.restart_laws.UnitLemmas.{keeps_units}
 
 -- what a branch may make: nothing that is held, stands or is counted refuses it
 pub record MayMake (n : Node) (b : Branch) (name : List ℕ) (file : File) (cs : List Change) : Type 0 where

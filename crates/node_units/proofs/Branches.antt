@@ -7,14 +7,14 @@ use Rattle.unit_table.specs.Units.{OpenUnit}
 use Rattle.commit_protocol.specs.Agreement as agreement
 use Rattle.commit_protocol.specs.Table.{Branch, branch_serials}
 use Rattle.commit_protocol.specs.World.{In}
-use Rattle.run_model.specs.World.{Node, find_branch, serials_of, without_branch}
-use Rattle.world_laws.specs.Nodes.{IsUp}
-use Rattle.world_laws.specs.Running.{Each}
-use Rattle.world_laws.proofs.FindLemmas.{some_is}
-use Rattle.world_laws.proofs.IdLemmas.{each_at, id_itself, id_other, in_map}
-use Rattle.world_laws.proofs.TableLemmas.{same_serials}
-use Rattle.world_laws.proofs.ToldLemmas.{id_apart}
-use Rattle.world_laws.proofs.UpLemmas.{differ}
+use Rattle.recovery_units.specs.run_model.World.{Node, find_branch, serials_of, without_branch}
+use Rattle.recovery_units.specs.world_laws.Nodes.{IsUp}
+use Rattle.recovery_units.specs.world_laws.Running.{Each}
+use Rattle.recovery_units.proofs.world_laws.FindLemmas.{some_is}
+use Rattle.recovery_units.proofs.world_laws.IdLemmas.{each_at, id_itself, id_other, in_map}
+use Rattle.recovery_units.proofs.world_laws.TableLemmas.{same_serials}
+use Rattle.recovery_units.proofs.world_laws.ToldLemmas.{id_apart}
+use Rattle.recovery_units.proofs.world_laws.UpLemmas.{differ}
 use Rattle.recovery_units.specs.State.{AreOfBranches, IsOfBranch, without_unit}
 
 -- no id is twice among these

@@ -11,15 +11,15 @@ use Rattle.vms_model.specs.Keys.{Number}
 use Rattle.volume.specs.declared.catalog.Catalog.{Catalog}
 use Rattle.volume.specs.State.{SameVolume, VolumeState}
 use Rattle.script_model.specs.Statements.{Truncate}
-use Rattle.run_model.specs.Operations.{operation_answer}
-use Rattle.run_model.specs.World.{find_file}
-use Rattle.directory_model.specs.Files.{head_at}
+use Rattle.recovery_units.specs.run_model.Operations.{operation_answer}
+use Rattle.recovery_units.specs.run_model.World.{find_file}
+use Rattle.unit_world.specs.directory_model.Files.{head_at}
 use Rattle.recovery_units.specs.Calls as calls
 use Rattle.recovery_units.specs.Calls.{IsDone, IsNotDone, IsNumbered, KeepsUp, position_line, unit_act, unit_refused_after_reading, unit_refused_before_reading}
 use Rattle.rms_units.specs.Calls as rms
 use Rattle.rms_units.specs.State as state
 use Rattle.rms_units.specs.State.{IsEarly, IsInOrder}
-use Rattle.key_changes.specs.declared.asked.KeyChange.TheVariants as how
+use Rattle.rms_units.specs.key_changes.declared.asked.KeyChange.TheVariants as how
 use Rattle.log_laws.specs.Slots.{Slots}
 use Rattle.node_units.specs.Seen.{seen}
 use Rattle.node_units.proofs.AskedKey.{no_position}

@@ -7,9 +7,9 @@ use Rattle.record_operations.specs.declared.ops.RecordOp.{RecordOp}
 use Rattle.unit_table.specs.Places.{AreInOrder}
 use Rattle.unit_table.specs.Units.{OpenUnit, unit_at}
 use Rattle.volume.specs.State.{SameVolume, VolumeState}
-use Rattle.run_model.specs.Operations.{operation_answer}
-use Rattle.run_model.specs.World.{find_file}
-use Rattle.directory_model.specs.Files.{head_at}
+use Rattle.recovery_units.specs.run_model.Operations.{operation_answer}
+use Rattle.recovery_units.specs.run_model.World.{find_file}
+use Rattle.unit_world.specs.directory_model.Files.{head_at}
 use Rattle.recovery_units.specs.Calls as calls
 use Rattle.recovery_units.specs.Calls.{IsDone, IsNotDone, IsNumbered, KeepsUp, change_said, position_line, unit_act, unit_refused_after_reading, unit_refused_before_reading}
 use Rattle.rms_units.specs.Calls as rms

@@ -19,40 +19,40 @@ use Rattle.journal_model.specs.Ring.{IsJournal}
 use Rattle.lmcp_log.specs.Log.{with_few_prepared}
 use Rattle.lmcp_log.proofs.Few.{few_same}
 use Rattle.log_laws.specs.Slots.{Slots, prepared_of, records_in}
-use Rattle.directory_model.specs.Files.{file_at}
+use Rattle.unit_world.specs.directory_model.Files.{file_at}
 use Rattle.record_locks.specs.Locks as table
 use Rattle.ru_journal.specs.Told.{UnitTold}
 use Rattle.volume.specs.State.{VolumeState}
-use Rattle.unit_aborts.specs.Reopening.{AreFound, AreFoundIn, left_after}
-use Rattle.unit_entries.specs.Opening.{AreAlike, AreFiledIn}
-use Rattle.unit_entries.specs.Collecting.{AreChangesAt}
-use Rattle.unit_entries.specs.Reading as entries
-use Rattle.unit_entries.specs.Reading.{placed}
-use Rattle.unit_entries.specs.Voting.{votes_in}
-use Rattle.unit_entries.proofs.OpenLemmas.{first_holds}
+use Rattle.rms_units.specs.unit_aborts.Reopening.{AreFound, AreFoundIn, left_after}
+use Rattle.recovery_units.specs.unit_entries.Opening.{AreAlike, AreFiledIn}
+use Rattle.recovery_units.specs.unit_entries.Collecting.{AreChangesAt}
+use Rattle.recovery_units.specs.unit_entries.Reading as entries
+use Rattle.recovery_units.specs.unit_entries.Reading.{placed}
+use Rattle.recovery_units.specs.unit_entries.Voting.{votes_in}
+use Rattle.undo_laws.proofs.unit_entries.OpenLemmas.{first_holds}
 use Rattle.unit_laws.specs.Journal.{ChangeEntry, JournalEntry, PreparedEntry, RecoveryUnit, SettledEntry, active_units, entry_size, find_unit, is_settled_in, serial_in, units_in, Journal}
 use Rattle.unit_laws.specs.JournalLaws.{is_unit}
-use Rattle.unit_restarts.specs.Restarting.{RestartTold, Restarts}
-use Rattle.unit_returns.specs.Returning as returning
-use Rattle.unit_returns.specs.Returning.{AreAllChangesAt, AreOfRecords, HaveChanges, HoldChanges}
-use Rattle.unit_returns.specs.Locking.{relocked_by as held_by_entries}
+use Rattle.rms_units.specs.unit_restarts.Restarting.{RestartTold, Restarts}
+use Rattle.rms_units.specs.unit_returns.Returning as returning
+use Rattle.rms_units.specs.unit_returns.Returning.{AreAllChangesAt, AreOfRecords, HaveChanges, HoldChanges}
+use Rattle.rms_units.specs.unit_returns.Locking.{relocked_by as held_by_entries}
 use Rattle.unit_table.specs.Units.{OpenUnit, Units, begun, first_that, is_of, no_files}
 use Rattle.undo_laws.proofs.EnteredLemmas.{entries_stand}
 use Rattle.unit_world.proofs.Found.{unchanged_at}
-use Rattle.run_model.specs.Answers.{left_active}
-use Rattle.run_model.specs.Locks as world
-use Rattle.run_model.specs.World.{IsOfTransaction, Node, Volatile, prepared_left, prepared_serials, records_by, relocked, relocked_by, tid_in, without_units}
-use Rattle.tm_types.specs.Parts.{log_record_of}
-use Rattle.volume_model.specs.Entries.{AreEntries, entry_for}
-use Rattle.volume_model.specs.Volumes.{HasVolume}
-use Rattle.volume_laws.proofs.WholeLemmas.{volume_rests}
-use Rattle.restart_laws.specs.Falls.{AllPrepared}
-use Rattle.world_laws.proofs.BootLemmas.{left_reordered}
-use Rattle.world_laws.proofs.Counting.{no_more}
-use Rattle.world_laws.proofs.IdLemmas.{id_is}
-use Rattle.world_laws.proofs.LogLemmas.{prepared_differ}
-use Rattle.world_laws.proofs.RoomLemmas.{unit_serials, units_length}
-use Rattle.world_laws.proofs.UndoLemmas.{each_in}
+use Rattle.recovery_units.specs.run_model.Answers.{left_active}
+use Rattle.recovery_units.specs.run_model.Locks as world
+use Rattle.recovery_units.specs.run_model.World.{IsOfTransaction, Node, Volatile, prepared_left, prepared_serials, records_by, relocked, relocked_by, tid_in, without_units}
+use Rattle.lmcp_log.specs.tm_types.Parts.{log_record_of}
+use Rattle.recovery_units.specs.volume_model.Entries.{AreEntries, entry_for}
+use Rattle.recovery_units.specs.volume_model.Volumes.{HasVolume}
+use Rattle.unit_world.proofs.volume_laws.WholeLemmas.{volume_rests}
+use Rattle.unit_world.specs.restart_laws.Falls.{AllPrepared}
+use Rattle.recovery_units.proofs.world_laws.BootLemmas.{left_reordered}
+use Rattle.recovery_units.proofs.world_laws.Counting.{no_more}
+use Rattle.recovery_units.proofs.world_laws.IdLemmas.{id_is}
+use Rattle.recovery_units.proofs.world_laws.LogLemmas.{prepared_differ}
+use Rattle.recovery_units.proofs.world_laws.RoomLemmas.{unit_serials, units_length}
+use Rattle.recovery_units.proofs.world_laws.UndoLemmas.{each_in}
 use Rattle.recovery_units.specs.Calls.{IsRestarting, ReopensTo, after_undone, told_in}
 use Rattle.recovery_units.specs.State.{AreLocks, AreOfBranches, IsEarly, IsKept, IsUnitOf, changed_at, is_change_by, positions_of}
 use Rattle.recovery_units.specs.Told.{ReopenedTold}

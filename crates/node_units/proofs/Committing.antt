@@ -18,10 +18,10 @@ use Rattle.journal_model.specs.Entries.{Entry}
 use Rattle.unit_table.specs.Places.{AreInOrder}
 use Rattle.unit_table.specs.Units.{OpenUnit, unit_at}
 use Rattle.unit_laws.specs.JournalLaws.{is_unit}
-use Rattle.file_settlements.specs.Settling.{EntersSettled, content_settled}
-use Rattle.unit_journal.specs.Entries.{settled_entry}
-use Rattle.unit_journal.specs.Settling.{MakesSettlement, content_with, entry_if, from_earliest, next_moment as moment_next, settled_home, span_with, with_front}
-use Rattle.unit_votes.specs.Voting.{MakesLogged, Settlement as LoggedSettlement}
+use Rattle.rms_units.specs.file_settlements.Settling.{EntersSettled, content_settled}
+use Rattle.rms_units.specs.unit_journal.Entries.{settled_entry}
+use Rattle.rms_units.specs.unit_journal.Settling.{MakesSettlement, content_with, entry_if, from_earliest, next_moment as moment_next, settled_home, span_with, with_front}
+use Rattle.rms_units.specs.unit_votes.Voting.{MakesLogged, Settlement as LoggedSettlement}
 use Rattle.commit_protocol.specs.Effects.{SettleEffect}
 use Rattle.commit_protocol.specs.Messages.{LogRecord}
 use Rattle.commit_protocol.specs.Table as table
@@ -31,21 +31,21 @@ use Rattle.lmcp_log.specs.Keeping.{IsWhole, Keeps, SameSlots}
 use Rattle.lmcp_log.specs.Slot.{IsRecord}
 use Rattle.lmcp_log.proofs.Keepings.{keeps_beside}
 use Rattle.lmcp_log.proofs.Whole.{beside_whole}
-use Rattle.run_model.specs.World.{Node, Settlement, Tables, acted, fallen, next_moment, settlement}
-use Rattle.world_laws.proofs.LogLemmas.{told_log}
-use Rattle.directory_model.specs.Files.{head_at}
-use Rattle.settlement_laws.specs.Settled.{IsSettled, Makes}
-use Rattle.settlement_laws.proofs.MadeLemmas.{settlements_are_made}
+use Rattle.recovery_units.specs.run_model.World.{Node, Settlement, Tables, acted, fallen, next_moment, settlement}
+use Rattle.recovery_units.proofs.world_laws.LogLemmas.{told_log}
+use Rattle.unit_world.specs.directory_model.Files.{head_at}
+use Rattle.undo_laws.specs.settlement_laws.Settled.{IsSettled, Makes}
+use Rattle.undo_laws.proofs.settlement_laws.MadeLemmas.{settlements_are_made}
 use Rattle.undo_laws.specs.Committed.{IsCommit}
 use Rattle.undo_laws.specs.Undone.{AgreeOnFiles, IsTold, IsToldIn}
 use Rattle.undo_laws.proofs.CommitLemmas.{commits_settle}
 use Rattle.undo_laws.proofs.ToldLemmas.{journal_beside}
-use Rattle.unit_undo.specs.Undoing.{journals_at}
-use Rattle.image_groups.specs.Groups.{HaveRoom}
-use Rattle.volume_model.specs.Homes as homes
-use Rattle.volume_model.specs.Homes.{HasHome}
-use Rattle.volume_model.specs.Laws.{KeepsNames}
-use Rattle.volume_model.specs.Volumes.{HasDisk, HasJournal, HasVolume, IsLeftBy}
+use Rattle.undo_laws.specs.unit_undo.Undoing.{journals_at}
+use Rattle.undo_laws.specs.image_groups.Groups.{HaveRoom}
+use Rattle.recovery_units.specs.volume_model.Homes as homes
+use Rattle.recovery_units.specs.volume_model.Homes.{HasHome}
+use Rattle.recovery_units.specs.volume_model.Laws.{KeepsNames}
+use Rattle.recovery_units.specs.volume_model.Volumes.{HasDisk, HasJournal, HasVolume, IsLeftBy}
 use Rattle.rms_units.specs.State as rms
 use Rattle.rms_units.specs.Voting.{CommitsLogged, CommitsLoggedNot, commit_of}
 use Rattle.rms_units.proofs.SettledLemmas.{next_bound, next_later}

@@ -10,8 +10,8 @@ use Rattle.unit_laws.specs.JournalLaws.{unit_or_new, with_more}
 use Rattle.unit_laws.proofs.TrimLemmas.{found_onto, had_onto}
 use Rattle.unit_laws.proofs.UnitLemmas.{found_changed, found_prepared, found_settled, is_prepared}
 use Rattle.commit_protocol.specs.World.{In}
-use Rattle.world_laws.proofs.UnitSets.{UnitsDiffer}
-use Rattle.world_laws.proofs.IdLemmas.{each_at, id_is, id_itself, id_other}
+use Rattle.recovery_units.proofs.world_laws.UnitSets.{UnitsDiffer}
+use Rattle.recovery_units.proofs.world_laws.IdLemmas.{each_at, id_is, id_itself, id_other}
 use Rattle.unit_table.specs.Units.{OpenUnit, owed_for}
 use Rattle.recovery_units.specs.State as calls
 use Rattle.recovery_units.specs.State.{are_there, is_change_by, positions_of}

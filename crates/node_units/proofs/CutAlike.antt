@@ -11,16 +11,16 @@ use Rattle.vms_model.specs.Keys.{Key}
 use Rattle.record_operations.specs.Causes.{Cause, Changes, RecordNotFound, cause_if, first_cause}
 use Rattle.record_operations.specs.Forms as form
 use Rattle.record_operations.specs.declared.ops.RecordOp.TheVariants as op
-use Rattle.run_model.specs.Operations.{changes_of, count_of, data_refused, file_full, first_of, free_buckets, refused_if}
-use Rattle.run_model.specs.World.{File}
+use Rattle.recovery_units.specs.run_model.Operations.{changes_of, count_of, data_refused, file_full, first_of, free_buckets, refused_if}
+use Rattle.recovery_units.specs.run_model.World.{File}
 use Rattle.script_model.specs.Statements.{Truncate}
-use Rattle.directory_model.specs.Files.{IsFile}
+use Rattle.unit_world.specs.directory_model.Files.{IsFile}
 use Rattle.recovery_units.specs.Calls.{cause_line, position_line}
 use Rattle.recovery_units.proofs.FormLemmas.{line_if, lines_first}
-use Rattle.key_changes.specs.Keys.{change_in, position_by}
+use Rattle.rms_units.specs.key_changes.Keys.{change_in, position_by}
 use Rattle.rms_units.specs.Truncating.{number_refused}
-use Rattle.unit_cuts.specs.Truncating.{removed_from}
-use Rattle.unit_cuts.proofs.CutLemmas.{removed_lies}
+use Rattle.rms_units.specs.unit_cuts.Truncating.{removed_from}
+use Rattle.rms_units.proofs.unit_cuts.CutLemmas.{removed_lies}
 use Rattle.node_units.proofs.AskedCut.{data_alike, many_alike}
 
 module _ (content : List (List ℕ)) (h : FileHead) (file : File) (is : IsFile content h file) (sequential : h.organization ≡ kept.Sequential) (from : ℕ) where

@@ -12,40 +12,40 @@ use Rattle.file_base.specs.declared.head.FileHead.{FileHead}
 use Rattle.file_base.specs.declared.head.Organization.{Organization as Kept}
 use Rattle.file_base.specs.declared.head.Organization.TheVariants as kept_by
 use Rattle.file_base.specs.declared.head.Span.{Span}
-use Rattle.file_images.specs.Files.{SameRing, form_of}
-use Rattle.file_images.specs.Images as images
-use Rattle.file_images.specs.Images.{IsSuited, entry_by}
-use Rattle.file_images.proofs.Forms.{suited_by_form}
-use Rattle.image_appends.specs.declared.side.Side.{Side}
-use Rattle.image_appends.specs.declared.side.Side.TheVariants.{After, Before}
-use Rattle.image_appends.specs.Images.{is_kept, span_of}
-use Rattle.image_groups.specs.Lists.{IsImageOf, StandBehind, image_of, images_bytes}
+use Rattle.unit_world.specs.file_images.Files.{SameRing, form_of}
+use Rattle.unit_world.specs.file_images.Images as images
+use Rattle.unit_world.specs.file_images.Images.{IsSuited, entry_by}
+use Rattle.unit_world.proofs.file_images.Forms.{suited_by_form}
+use Rattle.recovery_units.specs.image_appends.declared.side.Side.{Side}
+use Rattle.recovery_units.specs.image_appends.declared.side.Side.TheVariants.{After, Before}
+use Rattle.recovery_units.specs.image_appends.Images.{is_kept, span_of}
+use Rattle.undo_laws.specs.image_groups.Lists.{IsImageOf, StandBehind, image_of, images_bytes}
 use Rattle.journal_format.proofs.Decoding.{entry_size as size_within}
 use Rattle.journal_model.specs.Entries.{Entry, IsEntry, spelling}
 use Rattle.journal_model.specs.Ring.{HasRing, block_of, place_of, ring_size, stream}
 use Rattle.journal_store.proofs.Journals.{keeps_others, ring_stream, stream_here}
-use Rattle.record_files.specs.Any.{Suits, SuitsBy}
+use Rattle.volume_files.specs.record_files.Any.{Suits, SuitsBy}
 use Rattle.records_model.specs.Records.{Change}
-use Rattle.run_model.specs.Operations.{removed}
-use Rattle.run_model.specs.World as nodes
-use Rattle.run_model.specs.World.{Node}
-use Rattle.seq_file.specs.Layout as sequential
-use Rattle.seq_file.proofs.RecordLaws.{record_at_past}
-use Rattle.restart_laws.proofs.FoundLemmas.{record_is}
-use Rattle.directory_model.specs.Files.{AgreesOnCarried, head_at}
-use Rattle.directory_model.proofs.Apart.{off_ring, writes_apart}
+use Rattle.recovery_units.specs.run_model.Operations.{removed}
+use Rattle.recovery_units.specs.run_model.World as nodes
+use Rattle.recovery_units.specs.run_model.World.{Node}
+use Rattle.volume_files.specs.seq_file.Layout as sequential
+use Rattle.rms_units.proofs.seq_file.RecordLaws.{record_at_past}
+use Rattle.unit_world.proofs.restart_laws.FoundLemmas.{record_is}
+use Rattle.unit_world.specs.directory_model.Files.{AgreesOnCarried, head_at}
+use Rattle.unit_world.proofs.directory_model.Apart.{off_ring, writes_apart}
 use Rattle.undo_laws.proofs.NoteLemmas.{key_read}
-use Rattle.unit_cuts.proofs.CutEntering.{entries_more, spelled_more}
-use Rattle.unit_cuts.specs.Truncating.{CutEntries, cut_entries, told_map, with_entries, with_entries_if}
-use Rattle.unit_entries.specs.Keys.{key_in as key_in_file}
-use Rattle.unit_journal.specs.Entries.{change_entry}
+use Rattle.rms_units.proofs.unit_cuts.CutEntering.{entries_more, spelled_more}
+use Rattle.rms_units.specs.unit_cuts.Truncating.{CutEntries, cut_entries, told_map, with_entries, with_entries_if}
+use Rattle.recovery_units.specs.unit_entries.Keys.{key_in as key_in_file}
+use Rattle.rms_units.specs.unit_journal.Entries.{change_entry}
 use Rattle.vms_model.specs.Ids.{Id}
 use Rattle.vms_model.specs.Keys.{Key, Number, Text, End}
 use Rattle.volume.specs.declared.catalog.Catalog.{Catalog}
 use Rattle.volume.specs.Catalogs.{IsSound}
 use Rattle.volume.specs.Limits.{data_area}
 use Rattle.volume_format.specs.Home.{sizes_of}
-use Rattle.world_laws.specs.Ordered.{IsKeyOf}
+use Rattle.recovery_units.specs.world_laws.Ordered.{IsKeyOf}
 use Rattle.node_units.proofs.CutImages.{IsStill, behind_if, journal_of, still}
 use Rattle.node_units.proofs.CutRefusals.{Entries}
 use Rattle.node_units.proofs.Imaging.{fits as fits_in}

@@ -1,15 +1,15 @@
 -- Entries of images that a truncation wrote behind the ends of a file's journals: the volume of a node tells what it told.
 use Rattle.rms_units.specs.State as state
 use Rattle.node_units.specs.Seen.{seen}
-use Rattle.volume_laws.proofs.ToldLemmas.{logs_follow}
+use Rattle.unit_world.proofs.volume_laws.ToldLemmas.{logs_follow}
 use Rattle.log_laws.specs.Slots.{Slots}
 use Rattle.rms_units.specs.State.{IsInOrder}
 use Rattle.recovery_units.specs.State.{IsKept}
 use Rattle.unit_world.proofs.Leaving.{down}
-use Rattle.volume_laws.proofs.WholeLemmas.{volume_falls}
-use Rattle.restart_laws.proofs.StayLemmas.{keeps_restorable}
-use Rattle.directory_model.proofs.Standing.{stands_on_extents}
-use Rattle.directory_model.proofs.Apart.{writes_apart}
+use Rattle.unit_world.proofs.volume_laws.WholeLemmas.{volume_falls}
+use Rattle.unit_world.proofs.restart_laws.StayLemmas.{keeps_restorable}
+use Rattle.unit_world.proofs.directory_model.Standing.{stands_on_extents}
+use Rattle.unit_world.proofs.directory_model.Apart.{writes_apart}
 use Rattle.volume.specs.State.{VolumeState}
 use Rattle.block_disk.specs.Blocks.{block_at}
 use Rattle.std.specs.Prelude.{◌⊎◌}
@@ -17,23 +17,23 @@ use Rattle.std.proofs.Common.{◌≡◌, ℕ, ◌+◌, ◌-◌, ◌≤◌, List,
 use Rattle.std.specs.List.{flat_map}
 use Rattle.careful_write.specs.State.{EachWhole, content}
 use Rattle.file_base.specs.declared.head.FileHead.{FileHead}
-use Rattle.image_appends.specs.declared.side.Side.{Side}
-use Rattle.image_appends.specs.declared.side.Side.TheVariants.{After, Before}
-use Rattle.image_appends.specs.Images.{is_kept, span_of}
-use Rattle.image_groups.specs.Groups.{Enters}
-use Rattle.image_groups.proofs.Behind.{enters_behind}
+use Rattle.recovery_units.specs.image_appends.declared.side.Side.{Side}
+use Rattle.recovery_units.specs.image_appends.declared.side.Side.TheVariants.{After, Before}
+use Rattle.recovery_units.specs.image_appends.Images.{is_kept, span_of}
+use Rattle.undo_laws.specs.image_groups.Groups.{Enters}
+use Rattle.undo_laws.proofs.image_groups.Behind.{enters_behind}
 use Rattle.journal_model.specs.Entries.{Entry, spelling}
 use Rattle.journal_model.specs.Ring.{IsJournal, ring_size}
 use Rattle.journal_store.proofs.Journals.{keeps_others, written_behind}
-use Rattle.directory_model.specs.Files.{AgreesOnFile, file_at, head_at}
-use Rattle.directory_model.proofs.Places.{file_there, within_list}
-use Rattle.run_model.specs.World.{Node, Act, fallen}
-use Rattle.unit_cuts.specs.Truncating.{IsBehindIf, with_entries_if, AllTold, IsBehind, IsBehindAll}
+use Rattle.unit_world.specs.directory_model.Files.{AgreesOnFile, file_at, head_at}
+use Rattle.unit_world.proofs.directory_model.Places.{file_there, within_list}
+use Rattle.recovery_units.specs.run_model.World.{Node, Act, fallen}
+use Rattle.rms_units.specs.unit_cuts.Truncating.{IsBehindIf, with_entries_if, AllTold, IsBehind, IsBehindAll}
 use Rattle.volume.specs.declared.catalog.Catalog.{Catalog}
 use Rattle.volume.specs.Catalogs.{IsSound, TellsCatalog, TellsEntry}
 use Rattle.volume.specs.Limits.{data_area}
 use Rattle.volume_format.specs.Home.{sizes_of, HasHome, HasRu}
-use Rattle.volume_model.specs.Volumes.{HasVolume, IsLeftBy}
+use Rattle.recovery_units.specs.volume_model.Volumes.{HasVolume, IsLeftBy}
 use Rattle.node_units.proofs.ImagedVolume.{dressed_restorable, journal_entered, log_entered, same_live, tells_entered}
 use Rattle.node_units.proofs.Imaging.{fits as fits_in}
 

@@ -18,16 +18,16 @@ use Rattle.unit_laws.proofs.LiveLemmas.{by_changes, by_others}
 use Rattle.unit_table.specs.Places.{AreInOrder}
 use Rattle.unit_table.specs.Units.{OpenUnit, begun, has_changed, unit_at, units_of, with_position}
 use Rattle.unit_table.proofs.OrderLemmas.{at_below}
-use Rattle.run_model.specs.World.{tid_in}
-use Rattle.run_model.specs.World.{Act, File, Node, acted, changed_file, fallen, find_branch, find_file, is_durable}
-use Rattle.run_model.specs.Locks.{is_locked}
-use Rattle.run_model.specs.Operations.{first_of, operation_answer}
-use Rattle.world_laws.proofs.IdLemmas.{id_itself}
-use Rattle.world_laws.proofs.EntryLemmas.{all_append}
-use Rattle.directory_model.specs.Files.{file_at, head_at}
-use Rattle.volume_model.specs.Volumes.{HasDisk, HasVolume, IsEitherOf, IsLeftBy}
+use Rattle.recovery_units.specs.run_model.World.{tid_in}
+use Rattle.recovery_units.specs.run_model.World.{Act, File, Node, acted, changed_file, fallen, find_branch, find_file, is_durable}
+use Rattle.recovery_units.specs.run_model.Locks.{is_locked}
+use Rattle.recovery_units.specs.run_model.Operations.{first_of, operation_answer}
+use Rattle.recovery_units.proofs.world_laws.IdLemmas.{id_itself}
+use Rattle.recovery_units.proofs.world_laws.EntryLemmas.{all_append}
+use Rattle.unit_world.specs.directory_model.Files.{file_at, head_at}
+use Rattle.recovery_units.specs.volume_model.Volumes.{HasDisk, HasVolume, IsEitherOf, IsLeftBy}
 use Rattle.careful_write.specs.Content.{content_of}
-use Rattle.volume_laws.proofs.WholeLemmas.{volume_falls}
+use Rattle.unit_world.proofs.volume_laws.WholeLemmas.{volume_falls}
 use Rattle.recovery_units.specs.Calls.{IsBroken, IsDone, KeepsUp, position_line, unit_act, unit_refused_after_reading, unit_refused_before_reading}
 use Rattle.recovery_units.specs.State.{AreLocks, AreOfBranches, IsKept, IsUnitOf, are_there, changed_at, positions_of}
 use Rattle.unit_world.proofs.Leaving.{down}
@@ -37,7 +37,7 @@ use Rattle.rms_units.specs.State as state
 use Rattle.rms_units.specs.State.{IsEarly, IsInOrder}
 use Rattle.log_laws.specs.Slots.{Slots}
 use Rattle.commit_protocol.specs.Allowed.{is_prepared}
-use Rattle.world_laws.specs.Nodes.{IsUp}
+use Rattle.recovery_units.specs.world_laws.Nodes.{IsUp}
 use Rattle.node_units.specs.Seen.{seen}
 use Rattle.node_units.proofs.Falling.{disk_sound}
 use Rattle.node_units.proofs.Locking.{locks_more}
@@ -49,17 +49,17 @@ use Rattle.record_operations.specs.declared.ops.RecordOp.TheVariants as op
 use Rattle.script_model.specs.Statements.{Truncate}
 use Rattle.unit_laws.specs.Journal.{entries_for, entry_size}
 use Rattle.unit_laws.specs.Journal as journal
-use Rattle.run_model.specs.Operations.{changes_of}
-use Rattle.world_laws.proofs.EntryLemmas.{all_entered}
+use Rattle.recovery_units.specs.run_model.Operations.{changes_of}
+use Rattle.recovery_units.proofs.world_laws.EntryLemmas.{all_entered}
 use Rattle.recovery_units.specs.State.{is_change_by}
-use Rattle.volume_model.specs.Entries.{entry_for}
-use Rattle.file_images.specs.Images as images
+use Rattle.recovery_units.specs.volume_model.Entries.{entry_for}
+use Rattle.unit_world.specs.file_images.Images as images
 use Rattle.journal_format.proofs.Decoding.{total_is}
 use Rattle.records_model.specs.Slots.{size_of}
 use Rattle.volume_files.proofs.Places.{head_below}
 use Rattle.node_units.proofs.Holding.{once_of}
 use Rattle.rms_units.specs.Truncating.{ChangesCut, CutBroke, IsCut, cut_asked, with_positions}
-use Rattle.unit_cuts.specs.Truncating.{AllTold, BreaksCut, begins_at}
+use Rattle.rms_units.specs.unit_cuts.Truncating.{AllTold, BreaksCut, begins_at}
 use Rattle.rms_units.proofs.CutOrder as cut_order
 use Rattle.node_units.proofs.CutImages.{cut_left}
 use Rattle.node_units.proofs.CutMade as made_by

@@ -24,83 +24,83 @@ use Rattle.volume_files.specs.Staging.{CutsFile}
 use Rattle.volume_format.specs.Head.{IsHead, head_block_of}
 use Rattle.volume_format.specs.Home.{ru_block_of, sizes_of}
 use Rattle.volume_format.specs.Home as home_format
-use Rattle.volume_model.specs.Homes.{HasHome}
+use Rattle.recovery_units.specs.volume_model.Homes.{HasHome}
 use Rattle.rms_units.proofs.OrderLemmas.{sound_longer}
 use Rattle.recovery_units.specs.Calls.{cause_line}
-use Rattle.directory_model.specs.Files.{organized_by}
+use Rattle.unit_world.specs.directory_model.Files.{organized_by}
 use Rattle.journal_model.specs.Entries.{Entry, IsEntry, spelling}
 use Rattle.journal_model.specs.Ring.{IsJournal, ring_size}
 use Rattle.journal_store.proofs.Journals.{keeps_others, written_behind}
 use Rattle.records_model.specs.Records.{Change}
-use Rattle.record_files.specs.Any.{LaidOutBy, layout_by, map_by, map_of}
+use Rattle.volume_files.specs.record_files.Any.{LaidOutBy, layout_by, map_by, map_of}
 use Rattle.record_operations.specs.Causes.{Changes as TooMany, RecordNotFound, cause_if, first_cause}
 use Rattle.record_operations.specs.declared.ops.RecordOp.TheVariants as op
-use Rattle.seq_file.specs.Layout as sequential
-use Rattle.seq_file.specs.Records.{cut_from}
-use Rattle.unit_journal.specs.Entries as spelled
-use Rattle.unit_journal.specs.Spans.{longer}
+use Rattle.volume_files.specs.seq_file.Layout as sequential
+use Rattle.volume_files.specs.seq_file.Records.{cut_from}
+use Rattle.rms_units.specs.unit_journal.Entries as spelled
+use Rattle.rms_units.specs.unit_journal.Spans.{longer}
 use Rattle.unit_laws.specs.Journal.{ChangeEntry, JournalEntry, end_of, entries_for, with_entries as with_more}
 use Rattle.unit_laws.specs.Units.{has_changes}
 use Rattle.unit_laws.proofs.TrimLemmas.{size_append}
 use Rattle.unit_table.specs.Places.{AreInOrder}
 use Rattle.unit_table.specs.Units.{OpenUnit, unit_at}
-use Rattle.run_model.specs.Answers.{found_refused, held_against, images_full, is_marked, journal_full, keys_refused, more_changes, more_locks, operation_act}
-use Rattle.run_model.specs.Locks.{is_locked}
-use Rattle.run_model.specs.Locks as world
-use Rattle.run_model.specs.Operations.{changes_of, data_refused, file_full, first_of, form_refused, in_order, keys_asked, keys_held, removed}
-use Rattle.world_laws.specs.Ordered.{IsImageOf, IsJournalInOrder, IsKeyOf, IsNoteOf}
+use Rattle.recovery_units.specs.run_model.Answers.{found_refused, held_against, images_full, is_marked, journal_full, keys_refused, more_changes, more_locks, operation_act}
+use Rattle.recovery_units.specs.run_model.Locks.{is_locked}
+use Rattle.recovery_units.specs.run_model.Locks as world
+use Rattle.recovery_units.specs.run_model.Operations.{changes_of, data_refused, file_full, first_of, form_refused, in_order, keys_asked, keys_held, removed}
+use Rattle.recovery_units.specs.world_laws.Ordered.{IsImageOf, IsJournalInOrder, IsKeyOf, IsNoteOf}
 use Rattle.commit_protocol.specs.World.{In}
-use Rattle.run_model.specs.World as nodes
-use Rattle.run_model.specs.World.{Act, Changes, File, AreUnitsOf, Node, acted, changed_file, find_branch, find_file, with_images}
-use Rattle.world_laws.proofs.AnswerLemmas.{neither, not_refused}
-use Rattle.world_laws.proofs.FoundLemmas.{changes_asked, changes_found}
-use Rattle.world_laws.proofs.HeldLemmas.{free_for}
-use Rattle.world_laws.proofs.RoomLemmas.{changes_have_room}
-use Rattle.world_laws.proofs.UndoLemmas.{kept_up}
-use Rattle.restart_laws.specs.Restorable.{SameLive}
-use Rattle.restart_laws.specs.Units.{MayChange}
+use Rattle.recovery_units.specs.run_model.World as nodes
+use Rattle.recovery_units.specs.run_model.World.{Act, Changes, File, AreUnitsOf, Node, acted, changed_file, find_branch, find_file, with_images}
+use Rattle.recovery_units.proofs.world_laws.AnswerLemmas.{neither, not_refused}
+use Rattle.recovery_units.proofs.world_laws.FoundLemmas.{changes_asked, changes_found}
+use Rattle.recovery_units.proofs.world_laws.HeldLemmas.{free_for}
+use Rattle.recovery_units.proofs.world_laws.RoomLemmas.{changes_have_room}
+use Rattle.recovery_units.proofs.world_laws.UndoLemmas.{kept_up}
+use Rattle.unit_world.specs.restart_laws.Restorable.{SameLive}
+use Rattle.unit_world.specs.restart_laws.Units.{MayChange}
 use Rattle.unit_laws.specs.Units.{is_free}
-use Rattle.volume_laws.proofs.ToldLemmas.{logs_follow}
+use Rattle.unit_world.proofs.volume_laws.ToldLemmas.{logs_follow}
 use Rattle.script_model.specs.Statements.{Operation, Truncate}
-use Rattle.directory_model.specs.Files.{AgreesOnFile, AreFiles, IsCarried, IsFile, IsFoundAt, IsNamed, file_at, head_at}
-use Rattle.directory_model.specs.Laws.{IsChanged, SameBut, carrying, changed_buckets}
-use Rattle.directory_model.specs.Restoring.{AreRestorable}
-use Rattle.directory_model.proofs.Acts.{keeps_files}
-use Rattle.directory_model.proofs.Apart.{writes_apart}
-use Rattle.directory_model.proofs.Entering.{enters_images}
-use Rattle.directory_model.proofs.Finding.{finds_files}
-use Rattle.directory_model.proofs.Places.{within_list}
-use Rattle.directory_model.proofs.Reading.{reads_files}
-use Rattle.directory_model.proofs.Standing.{stands_on_extents}
-use Rattle.restart_laws.proofs.ChangingLemmas.{changes_restorable}
-use Rattle.restart_laws.proofs.ListLemmas.{all_as}
-use Rattle.restart_laws.proofs.StayLemmas.{keeps_restorable}
-use Rattle.volume_model.specs.Entries.{entry_for}
-use Rattle.volume_model.specs.Laws.{KeepsNames}
-use Rattle.volume_model.specs.Volumes.{HasJournal, HasLog, HasVolume}
-use Rattle.file_images.specs.Files.{SameRing}
-use Rattle.volume_laws.proofs.FollowLemmas.{follow}
-use Rattle.file_images.proofs.Rings.{journal_stands}
-use Rattle.image_appends.specs.declared.side.Side.{Side}
-use Rattle.image_appends.specs.declared.side.Side.TheVariants.{After, Before}
-use Rattle.image_appends.specs.Images.{is_kept, span_of}
-use Rattle.image_groups.specs.Groups.{Enters}
-use Rattle.image_groups.specs.Lists.{StandIfKept, images_bytes, moved_ends, moved_if}
-use Rattle.image_groups.proofs.Lists.{enters_moved}
+use Rattle.unit_world.specs.directory_model.Files.{AgreesOnFile, AreFiles, IsCarried, IsFile, IsFoundAt, IsNamed, file_at, head_at}
+use Rattle.unit_world.specs.directory_model.Laws.{IsChanged, SameBut, carrying, changed_buckets}
+use Rattle.unit_world.specs.directory_model.Restoring.{AreRestorable}
+use Rattle.unit_world.proofs.directory_model.Acts.{keeps_files}
+use Rattle.unit_world.proofs.directory_model.Apart.{writes_apart}
+use Rattle.unit_world.proofs.directory_model.Entering.{enters_images}
+use Rattle.unit_world.proofs.directory_model.Finding.{finds_files}
+use Rattle.unit_world.proofs.directory_model.Places.{within_list}
+use Rattle.unit_world.proofs.directory_model.Reading.{reads_files}
+use Rattle.unit_world.proofs.directory_model.Standing.{stands_on_extents}
+use Rattle.unit_world.proofs.restart_laws.ChangingLemmas.{changes_restorable}
+use Rattle.unit_world.proofs.restart_laws.ListLemmas.{all_as}
+use Rattle.unit_world.proofs.restart_laws.StayLemmas.{keeps_restorable}
+use Rattle.recovery_units.specs.volume_model.Entries.{entry_for}
+use Rattle.recovery_units.specs.volume_model.Laws.{KeepsNames}
+use Rattle.recovery_units.specs.volume_model.Volumes.{HasJournal, HasLog, HasVolume}
+use Rattle.unit_world.specs.file_images.Files.{SameRing}
+use Rattle.unit_world.proofs.volume_laws.FollowLemmas.{follow}
+use Rattle.unit_world.proofs.file_images.Rings.{journal_stands}
+use Rattle.recovery_units.specs.image_appends.declared.side.Side.{Side}
+use Rattle.recovery_units.specs.image_appends.declared.side.Side.TheVariants.{After, Before}
+use Rattle.recovery_units.specs.image_appends.Images.{is_kept, span_of}
+use Rattle.undo_laws.specs.image_groups.Groups.{Enters}
+use Rattle.undo_laws.specs.image_groups.Lists.{StandIfKept, images_bytes, moved_ends, moved_if}
+use Rattle.undo_laws.proofs.image_groups.Lists.{enters_moved}
 use Rattle.recovery_units.specs.Calls.{KeepsUp, unit_act, unit_refused_after_reading, unit_refused_before_reading}
 use Rattle.recovery_units.specs.State.{IsKept, IsOfBranch}
 use Rattle.rms_units.specs.Calls as rms
-use Rattle.key_changes.specs.Changing as changing
-use Rattle.unit_cuts.specs.Records.{OfRecords}
+use Rattle.rms_units.specs.key_changes.Changing as changing
+use Rattle.rms_units.specs.unit_cuts.Records.{OfRecords}
 use Rattle.rms_units.specs.State as state
 use Rattle.rms_units.specs.State.{IsEarly, IsInOrder}
 use Rattle.rms_units.specs.Truncating as cutting
 use Rattle.rms_units.specs.Truncating.{cut_asked, cut_refused_before_reading, number_refused}
-use Rattle.unit_cuts.specs.Truncating.{CutEntries, EntersCut, IsBehind, MakesCut, cut_entries, entry_sizes, head_behind, keys_cut, removed_from, span_behind, span_if, with_entries, with_entries_if}
-use Rattle.unit_cuts.proofs.CutEntering.{entries_long, entries_more, journal_more}
+use Rattle.rms_units.specs.unit_cuts.Truncating.{CutEntries, EntersCut, IsBehind, MakesCut, cut_entries, entry_sizes, head_behind, keys_cut, removed_from, span_behind, span_if, with_entries, with_entries_if}
+use Rattle.rms_units.proofs.unit_cuts.CutEntering.{entries_long, entries_more, journal_more}
 use Rattle.log_laws.specs.Slots.{Slots}
 use Rattle.commit_protocol.specs.Allowed.{is_prepared}
-use Rattle.world_laws.specs.Nodes.{IsUp}
+use Rattle.recovery_units.specs.world_laws.Nodes.{IsUp}
 use Rattle.node_units.specs.Seen.{seen}
 use Rattle.node_units.proofs.AskedCut.{keys_alike, many_alike}
 use Rattle.node_units.proofs.BranchChanges.{MayMake, frees, may_change, order_after, units_after}

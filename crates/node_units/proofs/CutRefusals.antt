@@ -21,38 +21,38 @@ use Rattle.recovery_model.specs.File.{all_of}
 use Rattle.recovery_model.specs.Images.{afters, befores}
 use Rattle.recovery_model.specs.Journal.{is_settled}
 use Rattle.recovery_model.specs.Room.{changes_length}
-use Rattle.image_room.specs.Room.{images_refused}
+use Rattle.recovery_units.specs.image_room.Room.{images_refused}
 use Rattle.unit_laws.specs.Units.{has_changes}
-use Rattle.record_files.specs.Any.{map_of}
+use Rattle.volume_files.specs.record_files.Any.{map_of}
 use Rattle.record_operations.specs.Causes.{Cause, Changes, JournalFull, NotForUnits, RecordNotFound, cause_if, first_cause}
 use Rattle.record_operations.specs.Forms as form
 use Rattle.record_operations.specs.declared.ops.RecordOp.TheVariants as op
-use Rattle.unit_journal.specs.Room as room
+use Rattle.rms_units.specs.unit_journal.Room as room
 use Rattle.unit_laws.specs.Journal as journal
 use Rattle.unit_laws.specs.Journal.{ChangeEntry, entries_for, entries_size, find_unit, units_in}
 use Rattle.unit_laws.proofs.TrimLemmas.{size_append}
 use Rattle.unit_table.specs.Places.{AreInOrder}
 use Rattle.unit_table.specs.Units.{OpenUnit, has_changed, unit_at}
-use Rattle.run_model.specs.Answers as answers
-use Rattle.run_model.specs.Answers.{found_refused, images_full, is_marked, journal_full, journal_need, keys_refused, more_changes, more_locks}
-use Rattle.run_model.specs.Operations.{changes_of, data_refused, file_full, first_of, form_refused, free_buckets, in_order, keys_asked, keys_held, refused_if, removed}
-use Rattle.run_model.specs.World.{File, Node, changes_made, find_branch, find_file}
-use Rattle.world_laws.proofs.FoundLemmas.{all_got, dropped, sorted_in}
+use Rattle.recovery_units.specs.run_model.Answers as answers
+use Rattle.recovery_units.specs.run_model.Answers.{found_refused, images_full, is_marked, journal_full, journal_need, keys_refused, more_changes, more_locks}
+use Rattle.recovery_units.specs.run_model.Operations.{changes_of, data_refused, file_full, first_of, form_refused, free_buckets, in_order, keys_asked, keys_held, refused_if, removed}
+use Rattle.recovery_units.specs.run_model.World.{File, Node, changes_made, find_branch, find_file}
+use Rattle.recovery_units.proofs.world_laws.FoundLemmas.{all_got, dropped, sorted_in}
 use Rattle.script_model.specs.Statements.{Operation, Truncate}
-use Rattle.directory_model.specs.Files.{IsCarried, IsFile, IsFoundAt, IsNamed, file_at, head_at}
-use Rattle.directory_model.proofs.Finding.{finds_files}
+use Rattle.unit_world.specs.directory_model.Files.{IsCarried, IsFile, IsFoundAt, IsNamed, file_at, head_at}
+use Rattle.unit_world.proofs.directory_model.Finding.{finds_files}
 use Rattle.recovery_units.specs.Calls.{cause_line, unit_refused_after_reading, unit_refused_before_reading}
 use Rattle.recovery_units.specs.State.{IsKept, IsOfBranch, changed_at}
 use Rattle.recovery_units.proofs.FormLemmas.{forms, line_if, lines_first}
 use Rattle.rms_units.specs.Calls as rms
-use Rattle.key_changes.specs.Changing as changing
+use Rattle.rms_units.specs.key_changes.Changing as changing
 use Rattle.rms_units.specs.State as state
 use Rattle.rms_units.specs.State.{IsInOrder}
 use Rattle.rms_units.specs.Truncating.{CutRefused, cut_asked, cut_refused_before_reading, number_refused}
-use Rattle.unit_cuts.specs.Truncating.{entry_sizes, keys_cut, removed_from}
+use Rattle.rms_units.specs.unit_cuts.Truncating.{entry_sizes, keys_cut, removed_from}
 use Rattle.log_laws.specs.Slots.{Slots}
 use Rattle.commit_protocol.specs.Allowed.{is_prepared}
-use Rattle.world_laws.specs.Nodes.{IsUp}
+use Rattle.recovery_units.specs.world_laws.Nodes.{IsUp}
 use Rattle.node_units.specs.Seen.{seen}
 use Rattle.node_units.proofs.AskedCut.{data_alike, keys_alike, many_alike}
 use Rattle.node_units.proofs.Branches.{found_there}

@@ -4,18 +4,18 @@ use Rattle.file_base.specs.declared.head.FileHead.{FileHead}
 use Rattle.file_base.specs.declared.head.Organization.{Organization}
 use Rattle.file_base.specs.declared.head.Organization.TheVariants.{Sequential}
 use Rattle.change_set.specs.Files.{sizes_of}
-use Rattle.record_files.specs.Any.{layout_by, layout_of}
+use Rattle.volume_files.specs.record_files.Any.{layout_by, layout_of}
 use Rattle.vms_model.specs.Keys.{Key}
 use Rattle.volume.specs.State.{VolumeState}
 use Rattle.volume_files.specs.Staging.{CutsFile, StagesFile}
 use Rattle.tree_model.specs.Layouts.{no_layout}
 use Rattle.tree_model.specs.Setting.{layout_changed}
-use Rattle.run_model.specs.Operations.{in_order, removed}
-use Rattle.run_model.specs.World.{File}
-use Rattle.directory_model.specs.Files.{IsFile}
-use Rattle.directory_model.specs.Laws.{IsChanged}
-use Rattle.directory_model.proofs.Acts.{none_changed}
-use Rattle.directory_model.proofs.Reading.{reads_files}
+use Rattle.recovery_units.specs.run_model.Operations.{in_order, removed}
+use Rattle.recovery_units.specs.run_model.World.{File}
+use Rattle.unit_world.specs.directory_model.Files.{IsFile}
+use Rattle.unit_world.specs.directory_model.Laws.{IsChanged}
+use Rattle.unit_world.proofs.directory_model.Acts.{none_changed}
+use Rattle.unit_world.proofs.directory_model.Reading.{reads_files}
 
 none_kept : (h : FileHead) (c : List (List ℕ)) → h.organization ≡ Sequential → layout_of h c ≡ no_layout
 none_kept h c is = ap (λ (o : Organization). layout_by o h c) is

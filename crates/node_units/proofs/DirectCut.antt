@@ -7,30 +7,30 @@ use Rattle.std.proofs.lemmas.List.{length-map}
 use Rattle.block_disk.specs.Blocks.{block_at}
 use Rattle.vms_model.specs.Limits.{change_limit}
 use Rattle.change_set.specs.Maps.{empty_map}
-use Rattle.directory_model.specs.Files.{AreFiles, IsFile, IsFoundAt, IsNamed, file_at, head_at}
-use Rattle.directory_model.specs.Laws.{IsChanged, carrying, directly_buckets, spelled_entry}
-use Rattle.directory_model.specs.Restoring.{AreRestorable}
-use Rattle.directory_model.proofs.Entering.{enters_images}
-use Rattle.directory_model.proofs.Places.{within_list}
+use Rattle.unit_world.specs.directory_model.Files.{AreFiles, IsFile, IsFoundAt, IsNamed, file_at, head_at}
+use Rattle.unit_world.specs.directory_model.Laws.{IsChanged, carrying, directly_buckets, spelled_entry}
+use Rattle.unit_world.specs.directory_model.Restoring.{AreRestorable}
+use Rattle.unit_world.proofs.directory_model.Entering.{enters_images}
+use Rattle.unit_world.proofs.directory_model.Places.{within_list}
 use Rattle.file_base.specs.declared.head.FileHead.{FileHead}
 use Rattle.file_base.specs.declared.head.Organization.{Organization as Kept}
 use Rattle.file_base.specs.declared.head.Organization.TheVariants as kept
 use Rattle.file_base.specs.declared.head.Span.{Span}
-use Rattle.file_images.specs.Files.{SameRing}
-use Rattle.image_appends.specs.Images.{is_kept, span_of}
-use Rattle.image_appends.specs.Settling.{content_from, heads_from}
-use Rattle.image_appends.specs.declared.side.Side.{Side}
-use Rattle.image_appends.specs.declared.side.Side.TheVariants.{After, Before}
-use Rattle.image_groups.proofs.Lists.{enters_moved}
-use Rattle.image_groups.specs.Groups.{Enters, outcome_of, told_file}
-use Rattle.image_groups.specs.Lists.{StandIfKept, images_bytes, moved_ends}
-use Rattle.image_room.proofs.Keeping.{afters_have_room, befores_have_room, room_to_change}
-use Rattle.image_room.specs.Room.{SettlementsFit, images_refused}
+use Rattle.unit_world.specs.file_images.Files.{SameRing}
+use Rattle.recovery_units.specs.image_appends.Images.{is_kept, span_of}
+use Rattle.recovery_units.specs.image_appends.Settling.{content_from, heads_from}
+use Rattle.recovery_units.specs.image_appends.declared.side.Side.{Side}
+use Rattle.recovery_units.specs.image_appends.declared.side.Side.TheVariants.{After, Before}
+use Rattle.undo_laws.proofs.image_groups.Lists.{enters_moved}
+use Rattle.undo_laws.specs.image_groups.Groups.{Enters, outcome_of, told_file}
+use Rattle.undo_laws.specs.image_groups.Lists.{StandIfKept, images_bytes, moved_ends}
+use Rattle.recovery_units.proofs.image_room.Keeping.{afters_have_room, befores_have_room, room_to_change}
+use Rattle.recovery_units.specs.image_room.Room.{SettlementsFit, images_refused}
 use Rattle.journal_model.specs.Entries.{IsEntry, spelling}
 use Rattle.journal_model.specs.Ring.{ring_size}
-use Rattle.kept_files.specs.Own.{only}
+use Rattle.rms_units.specs.kept_files.Own.{only}
 use Rattle.log_laws.specs.Slots.{Slots}
-use Rattle.record_files.specs.Any.{LaidOutBy, layout_by, map_by, map_of}
+use Rattle.volume_files.specs.record_files.Any.{LaidOutBy, layout_by, map_by, map_of}
 use Rattle.record_operations.specs.Causes.{Cause, Changes as TooMany, RecordNotFound, cause_if, first_cause}
 use Rattle.record_operations.specs.declared.ops.RecordOp.{RecordOp}
 use Rattle.record_operations.specs.declared.ops.RecordOp.TheVariants as op
@@ -38,27 +38,27 @@ use Rattle.records_model.specs.History.{changed_it}
 use Rattle.records_model.specs.Records.{Change}
 use Rattle.recovery_units.specs.Calls.{IsDone, KeepsUp, alone_refused_after_reading, alone_refused_before_reading, cause_line, change_said, direct_act, position_line}
 use Rattle.recovery_units.specs.State.{AreLocks, IsKept}
-use Rattle.restart_laws.proofs.ChangingLemmas.{changes_restorable}
-use Rattle.restart_laws.specs.Units.{MayChange}
+use Rattle.unit_world.proofs.restart_laws.ChangingLemmas.{changes_restorable}
+use Rattle.unit_world.specs.restart_laws.Units.{MayChange}
 use Rattle.rms_units.specs.Calls as rms
-use Rattle.key_changes.specs.Changing.{locks_refuse}
-use Rattle.key_changes.specs.Keys.{change_in, position_by}
+use Rattle.rms_units.specs.key_changes.Changing.{locks_refuse}
+use Rattle.rms_units.specs.key_changes.Keys.{change_in, position_by}
 use Rattle.rms_units.specs.State as state
 use Rattle.rms_units.specs.Truncating.{DirectsCut, IsDirectCut, cut_asked, number_refused}
-use Rattle.run_model.specs.Answers.{found_refused, images_full, keys_refused}
-use Rattle.run_model.specs.Locks.{is_locked}
-use Rattle.run_model.specs.Operations.{changes_of, data_refused, file_full, first_of, in_order, keys_asked, operation_answer, refused_if, removed}
-use Rattle.run_model.specs.World.{Act, Changes, Directs, File, Node, Settlement, acted, directly_changed, fallen, next_id, next_moment, with_images, with_outcome}
+use Rattle.recovery_units.specs.run_model.Answers.{found_refused, images_full, keys_refused}
+use Rattle.recovery_units.specs.run_model.Locks.{is_locked}
+use Rattle.recovery_units.specs.run_model.Operations.{changes_of, data_refused, file_full, first_of, in_order, keys_asked, operation_answer, refused_if, removed}
+use Rattle.recovery_units.specs.run_model.World.{Act, Changes, Directs, File, Node, Settlement, acted, directly_changed, fallen, next_id, next_moment, with_images, with_outcome}
 use Rattle.script_model.specs.Statements.{Operation, Truncate}
-use Rattle.seq_file.specs.Layout as seq
-use Rattle.seq_file.specs.Records.{cut_from}
+use Rattle.volume_files.specs.seq_file.Layout as seq
+use Rattle.volume_files.specs.seq_file.Records.{cut_from}
 use Rattle.transcript_model.specs.Lines as line
 use Rattle.transcript_model.specs.Lines.{Line}
-use Rattle.unit_cuts.proofs.CutEntering.{entries_long}
-use Rattle.unit_cuts.specs.Truncating.{CommitsCut, CutEntries, cut_entries, entry_sizes, head_behind, keys_cut, removed_from, with_entries_if}
-use Rattle.unit_journal.specs.Entries.{settled_entry}
-use Rattle.unit_journal.specs.Settling as settling
-use Rattle.unit_journal.specs.Settling.{MakesSettlement}
+use Rattle.rms_units.proofs.unit_cuts.CutEntering.{entries_long}
+use Rattle.rms_units.specs.unit_cuts.Truncating.{CommitsCut, CutEntries, cut_entries, entry_sizes, head_behind, keys_cut, removed_from, with_entries_if}
+use Rattle.rms_units.specs.unit_journal.Entries.{settled_entry}
+use Rattle.rms_units.specs.unit_journal.Settling as settling
+use Rattle.rms_units.specs.unit_journal.Settling.{MakesSettlement}
 use Rattle.unit_laws.specs.Journal.{trimmed}
 use Rattle.unit_laws.specs.Units.{has_changes}
 use Rattle.unit_table.specs.Units.{earliest}
@@ -76,8 +76,8 @@ use Rattle.volume_files.specs.Staging.{CutsFile}
 use Rattle.volume_format.specs.Head.{IsHead, head_block_of}
 use Rattle.volume_format.specs.Home.{sizes_of}
 use Rattle.volume_format.specs.declared.home.Ending.TheVariants as ending
-use Rattle.volume_model.specs.Volumes.{HasVolume, IsLeftBy}
-use Rattle.world_laws.specs.Nodes.{IsUp}
+use Rattle.recovery_units.specs.volume_model.Volumes.{HasVolume, IsLeftBy}
+use Rattle.recovery_units.specs.world_laws.Nodes.{IsUp}
 use Rattle.node_units.specs.Seen.{seen}
 use Rattle.node_units.proofs.AskedCut.{keys_alike, many_alike}
 use Rattle.node_units.proofs.CutAlike.{cut_answers, cut_room, cut_some, is_sequential, number_alike}

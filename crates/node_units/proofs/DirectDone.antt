@@ -5,38 +5,38 @@ use Rattle.std.proofs.Common.{false, ◌+◌, ◌-◌, ◌^◌, get_or-set_same}
 use Rattle.std.specs.Option.{IfSome}
 use Rattle.vms_model.specs.Limits.{change_limit}
 use Rattle.file_base.specs.declared.head.Span.{Span}
-use Rattle.file_images.specs.Images.{key_bytes}
-use Rattle.image_appends.specs.declared.side.Side.TheVariants.{After, Before}
-use Rattle.image_appends.specs.Images.{content_with_both, heads_with_both, span_of}
-use Rattle.image_appends.specs.Settling.{content_from, heads_from}
-use Rattle.image_groups.specs.Groups.{AreFitting, Enters, MayEnter, after_image, before_image, outcome_of, told_file}
-use Rattle.image_room.specs.Room.{ImagesAreLow, SettlementsFit, images_refused}
-use Rattle.image_room.proofs.Keeping.{afters_have_room, befores_have_room, room_to_change}
+use Rattle.unit_world.specs.file_images.Images.{key_bytes}
+use Rattle.recovery_units.specs.image_appends.declared.side.Side.TheVariants.{After, Before}
+use Rattle.recovery_units.specs.image_appends.Images.{content_with_both, heads_with_both, span_of}
+use Rattle.recovery_units.specs.image_appends.Settling.{content_from, heads_from}
+use Rattle.undo_laws.specs.image_groups.Groups.{AreFitting, Enters, MayEnter, after_image, before_image, outcome_of, told_file}
+use Rattle.recovery_units.specs.image_room.Room.{ImagesAreLow, SettlementsFit, images_refused}
+use Rattle.recovery_units.proofs.image_room.Keeping.{afters_have_room, befores_have_room, room_to_change}
 use Rattle.journal_format.proofs.Decoding.{entry_size}
 use Rattle.journal_model.specs.Entries.{Entry, IsEntry, spelling}
 use Rattle.journal_model.specs.Ring.{ring_size}
-use Rattle.kept_files.specs.Own.{only, own_change}
+use Rattle.rms_units.specs.kept_files.Own.{only, own_change}
 use Rattle.record_operations.specs.Causes.{first_cause}
 use Rattle.records_model.specs.History.{changed_it}
 use Rattle.recovery_model.specs.File.{all_of}
 use Rattle.recovery_model.specs.Images.{afters, befores}
 use Rattle.recovery_model.specs.Journal.{Changed, is_settled}
 use Rattle.recovery_model.specs.Room.{changes_length}
-use Rattle.run_model.specs.Answers.{images_full}
-use Rattle.run_model.specs.Operations.{file_full}
-use Rattle.run_model.specs.World.{Settlement, directly_changed, next_moment, with_image, with_outcome}
+use Rattle.recovery_units.specs.run_model.Answers.{images_full}
+use Rattle.recovery_units.specs.run_model.Operations.{file_full}
+use Rattle.recovery_units.specs.run_model.World.{Settlement, directly_changed, next_moment, with_image, with_outcome}
 use Rattle.vms_model.specs.Transactions.{Commit}
-use Rattle.world_laws.proofs.ServedLemmas.{undrawn}
-use Rattle.world_laws.proofs.ToldImages.{undrawn_open, unsettled_in_images}
-use Rattle.directory_model.specs.Files.{AreFiles, IsCarried, file_at}
-use Rattle.directory_model.specs.Laws.{carrying, directly_buckets, spelled_entry}
-use Rattle.directory_model.proofs.Entering.{enters_images}
-use Rattle.directory_model.proofs.Finding.{finds_files}
-use Rattle.directory_model.proofs.Places.{within_list}
-use Rattle.unit_cuts.proofs.EntrySizes.{spelled_size}
-use Rattle.unit_entries.specs.Keys.{key_in as key_in_file}
-use Rattle.unit_journal.specs.Entries.{change_entry, settled_entry}
-use Rattle.unit_journal.specs.Room as room
+use Rattle.recovery_units.proofs.world_laws.ServedLemmas.{undrawn}
+use Rattle.recovery_units.proofs.world_laws.ToldImages.{undrawn_open, unsettled_in_images}
+use Rattle.unit_world.specs.directory_model.Files.{AreFiles, IsCarried, file_at}
+use Rattle.unit_world.specs.directory_model.Laws.{carrying, directly_buckets, spelled_entry}
+use Rattle.unit_world.proofs.directory_model.Entering.{enters_images}
+use Rattle.unit_world.proofs.directory_model.Finding.{finds_files}
+use Rattle.unit_world.proofs.directory_model.Places.{within_list}
+use Rattle.rms_units.proofs.unit_cuts.EntrySizes.{spelled_size}
+use Rattle.recovery_units.specs.unit_entries.Keys.{key_in as key_in_file}
+use Rattle.rms_units.specs.unit_journal.Entries.{change_entry, settled_entry}
+use Rattle.rms_units.specs.unit_journal.Room as room
 use Rattle.undo_laws.proofs.NoteLemmas.{key_read}
 use Rattle.unit_world.proofs.Found.{unchanged}
 use Rattle.volume.specs.Catalogs.{TellsCatalog}
@@ -44,7 +44,7 @@ use Rattle.volume.specs.Limits.{data_area}
 use Rattle.volume.specs.declared.catalog.Catalog.{Catalog}
 use Rattle.volume_format.specs.Head.{IsHead}
 use Rattle.volume_format.specs.Home.{sizes_of}
-use Rattle.image_groups.proofs.Sides.{enters_change}
+use Rattle.undo_laws.proofs.image_groups.Sides.{enters_change}
 use Rattle.node_units.proofs.DirectImages.{HasRoomFor, may_settle, told_behind}
 use Rattle.node_units.proofs.DirectMade.{moment_of}
 use Rattle.node_units.proofs.Directly.{fresh}
@@ -53,8 +53,8 @@ use Rattle.node_units.proofs.ImagesAlike.{images_alike}
 use Rattle.node_units.proofs.KeyImages.{IsImage, change_is, may_enter, now_changed}
 use Rattle.node_units.proofs.KeyRefusals.{found_before, image_size, key_size}
 use Rattle.node_units.proofs.NotedKey.{Noted, noted_by}
-use Rattle.key_changes.specs.Changing.{before_change}
-use Rattle.record_files.specs.Any.{Suits, Takes, map_of, room_at}
+use Rattle.rms_units.specs.key_changes.Changing.{before_change}
+use Rattle.volume_files.specs.record_files.Any.{Suits, Takes, map_of, room_at}
 use Rattle.script_model.specs.Statements.{Operation}
 use Rattle.vms_model.specs.Keys.{Key}
 use Rattle.unit_laws.specs.Journal.{trimmed}
@@ -62,10 +62,10 @@ use Rattle.unit_table.specs.Places.{AreInOrder}
 use Rattle.unit_table.specs.Units.{earliest}
 use Rattle.unit_table.proofs.BegunLemmas.{earliest_seen}
 use Rattle.volume_files.specs.Staging.{SetsKey}
-use Rattle.directory_model.specs.Laws.{IsChanged}
-use Rattle.key_changes.specs.Changing as keys_by
+use Rattle.unit_world.specs.directory_model.Laws.{IsChanged}
+use Rattle.rms_units.specs.key_changes.Changing as keys_by
 use Rattle.recovery_units.proofs.FormLemmas.{forms, line_if, lines_first}
-use Rattle.key_changes.specs.Keys.{change_in, key_in, position_by}
+use Rattle.rms_units.specs.key_changes.Keys.{change_in, key_in, position_by}
 use Rattle.node_units.proofs.Looking.{first_again, first_some}
 use Rattle.node_units.proofs.DirectMade.{DirectsFile, begins_made, direct_kept, direct_told, own_settlement}
 use Rattle.std.proofs.lemmas.Nat.{mul-le}
@@ -86,20 +86,20 @@ use Rattle.record_operations.specs.Forms as form
 use Rattle.record_operations.specs.declared.ops.RecordOp.{RecordOp}
 use Rattle.record_operations.specs.declared.ops.RecordOp.TheVariants as op
 use Rattle.records_model.specs.Records.{Change}
-use Rattle.run_model.specs.Answers.{found_refused, keys_refused, needs_unit}
-use Rattle.run_model.specs.Locks.{is_locked}
-use Rattle.run_model.specs.Operations.{changes_of, data_refused, first_of, form_refused, is_change, keys_asked, keys_found, operation_answer, record_in, refused_if}
-use Rattle.run_model.specs.World.{Changes, Directs, File, Node, acted, find_file, next_id}
-use Rattle.directory_model.specs.Files.{IsFile, IsFoundAt, IsNamed, head_at}
-use Rattle.directory_model.proofs.Places.{file_there}
-use Rattle.directory_model.proofs.Reading.{reads_files}
+use Rattle.recovery_units.specs.run_model.Answers.{found_refused, keys_refused, needs_unit}
+use Rattle.recovery_units.specs.run_model.Locks.{is_locked}
+use Rattle.recovery_units.specs.run_model.Operations.{changes_of, data_refused, first_of, form_refused, is_change, keys_asked, keys_found, operation_answer, record_in, refused_if}
+use Rattle.recovery_units.specs.run_model.World.{Changes, Directs, File, Node, acted, find_file, next_id}
+use Rattle.unit_world.specs.directory_model.Files.{IsFile, IsFoundAt, IsNamed, head_at}
+use Rattle.unit_world.proofs.directory_model.Places.{file_there}
+use Rattle.unit_world.proofs.directory_model.Reading.{reads_files}
 use Rattle.recovery_units.specs.Calls.{IsDone, IsNumbered, KeepsUp, alone_refused_after_reading, alone_refused_before_reading, cause_line, change_said, direct_act, position_line}
 use Rattle.recovery_units.specs.State.{IsKept}
 use Rattle.rms_units.specs.Calls as rms
-use Rattle.key_changes.specs.Changing.{after_change, locks_refuse}
+use Rattle.rms_units.specs.key_changes.Changing.{after_change, locks_refuse}
 use Rattle.rms_units.specs.State as state
 use Rattle.rms_units.specs.State.{IsInOrder}
-use Rattle.unit_journal.specs.Settling as settling
+use Rattle.rms_units.specs.unit_journal.Settling as settling
 use Rattle.unit_world.proofs.Found.{found_by}
 use Rattle.node_units.specs.Seen.{seen}
 use Rattle.node_units.proofs.Holding.{once_of}
@@ -110,11 +110,11 @@ use Rattle.node_units.proofs.SettingFile.{IsOfNode, KeepsRest, held_alike, keeps
 use Rattle.node_units.proofs.BranchChanges.{held_locked}
 use Rattle.node_units.proofs.Directly.{direct_may, live_held}
 use Rattle.log_laws.specs.Slots.{Slots}
-use Rattle.world_laws.specs.Nodes.{IsUp}
-use Rattle.world_laws.proofs.AnswerLemmas.{neither}
-use Rattle.restart_laws.specs.Units.{MayChange}
-use Rattle.restart_laws.proofs.ChangingLemmas.{changes_restorable}
-use Rattle.directory_model.specs.Restoring.{AreRestorable}
+use Rattle.recovery_units.specs.world_laws.Nodes.{IsUp}
+use Rattle.recovery_units.proofs.world_laws.AnswerLemmas.{neither}
+use Rattle.unit_world.specs.restart_laws.Units.{MayChange}
+use Rattle.unit_world.proofs.restart_laws.ChangingLemmas.{changes_restorable}
+use Rattle.unit_world.specs.directory_model.Restoring.{AreRestorable}
 use Rattle.unit_laws.specs.Units.{has_changes}
 use Rattle.records_model.specs.History.{is_held}
 use Rattle.node_units.proofs.AskedKey.{AsksKey, asks_key}

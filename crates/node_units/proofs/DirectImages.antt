@@ -5,29 +5,29 @@ use Rattle.std.specs.Option.{option_map}
 use Rattle.std.specs.Prelude.{replicate}
 use Rattle.file_base.specs.declared.head.FileHead.{FileHead}
 use Rattle.file_base.specs.declared.head.Span.{Span}
-use Rattle.file_images.specs.Images.{entry_by}
-use Rattle.image_appends.specs.declared.side.Side.{Side}
-use Rattle.image_appends.specs.declared.side.Side.TheVariants.{After, Before}
-use Rattle.image_appends.specs.Images.{files_grown, grown, heads_with, heads_with_both, is_kept, span_of}
-use Rattle.image_appends.specs.Settling.{content_from, heads_from, heads_if}
-use Rattle.image_appends.proofs.Growing.{others_both}
-use Rattle.image_room.specs.Room.{ImagesAreLow}
-use Rattle.image_groups.specs.Groups.{Enters, MayEnter, MayGrow, TellsOutcome, outcome_of, told_file}
-use Rattle.image_groups.specs.Lists.{moved_ends, moved_if}
-use Rattle.image_groups.proofs.Dressed.{all_after, sound_after, tells_after}
-use Rattle.image_groups.proofs.Outcomes.{enters_told}
+use Rattle.unit_world.specs.file_images.Images.{entry_by}
+use Rattle.recovery_units.specs.image_appends.declared.side.Side.{Side}
+use Rattle.recovery_units.specs.image_appends.declared.side.Side.TheVariants.{After, Before}
+use Rattle.recovery_units.specs.image_appends.Images.{files_grown, grown, heads_with, heads_with_both, is_kept, span_of}
+use Rattle.recovery_units.specs.image_appends.Settling.{content_from, heads_from, heads_if}
+use Rattle.rms_units.proofs.image_appends.Growing.{others_both}
+use Rattle.recovery_units.specs.image_room.Room.{ImagesAreLow}
+use Rattle.undo_laws.specs.image_groups.Groups.{Enters, MayEnter, MayGrow, TellsOutcome, outcome_of, told_file}
+use Rattle.undo_laws.specs.image_groups.Lists.{moved_ends, moved_if}
+use Rattle.undo_laws.proofs.image_groups.Dressed.{all_after, sound_after, tells_after}
+use Rattle.undo_laws.proofs.image_groups.Outcomes.{enters_told}
 use Rattle.journal_format.proofs.Decoding.{total_is}
 use Rattle.journal_model.specs.Entries.{Entry, IsEntry, spelling}
 use Rattle.journal_model.specs.Ring.{ring_size}
-use Rattle.kept_files.specs.Own.{only}
-use Rattle.run_model.specs.World.{File, Settlement}
-use Rattle.directory_model.specs.Files.{IsPlace, file_at, head_at}
-use Rattle.directory_model.specs.Laws.{spelled_entry}
-use Rattle.directory_model.proofs.Places.{within_list}
+use Rattle.rms_units.specs.kept_files.Own.{only}
+use Rattle.recovery_units.specs.run_model.World.{File, Settlement}
+use Rattle.unit_world.specs.directory_model.Files.{IsPlace, file_at, head_at}
+use Rattle.unit_world.specs.directory_model.Laws.{spelled_entry}
+use Rattle.unit_world.proofs.directory_model.Places.{within_list}
 use Rattle.extents.specs.declared.extent.Extent.{Extent as Area}
-use Rattle.unit_journal.specs.Entries.{settled_entry}
-use Rattle.unit_journal.specs.Spans.{longer}
-use Rattle.unit_journal.proofs.EntryLemmas.{settled_is}
+use Rattle.rms_units.specs.unit_journal.Entries.{settled_entry}
+use Rattle.rms_units.specs.unit_journal.Spans.{longer}
+use Rattle.rms_units.proofs.unit_journal.EntryLemmas.{settled_is}
 use Rattle.unit_table.specs.Units.{no_files}
 use Rattle.vms_model.specs.Ids.{IsId}
 use Rattle.volume_format.specs.Head.{IsHead}

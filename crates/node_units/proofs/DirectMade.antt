@@ -1,10 +1,10 @@
 -- Changes that are committed at once are made of a node's volume.
 use Rattle.volume_format.specs.Home.{sizes_of}
 use Rattle.volume.specs.Limits.{data_area}
-use Rattle.volume_model.specs.Homes.{HasHome}
+use Rattle.recovery_units.specs.volume_model.Homes.{HasHome}
 use Rattle.node_units.proofs.ImagedVolume.{dressed_restorable, tells_entered, sound_entered, names_entered, log_entered, journal_entered, live_set, same_live}
-use Rattle.restart_laws.specs.Restorable.{SameLive}
-use Rattle.image_groups.specs.Groups.{Enters}
+use Rattle.unit_world.specs.restart_laws.Restorable.{SameLive}
+use Rattle.undo_laws.specs.image_groups.Groups.{Enters}
 use Rattle.std.proofs.Common.{◌≡◌, ℕ, ◌+◌, ◌≤◌, ◌^◌, List, [], ◌∷◌, ◌++◌, Bool, true, false, Option, Some, None, nat_le, refl, sym, ◌∙◌, ap, subst, arith, append-nil, if◌then◌else◌, inl, inr}
 use Rattle.std.specs.Prelude.{is_some, option_map, unwrap_or, slice_set}
 use Rattle.std.specs.List.{AllByRecursion}
@@ -29,39 +29,39 @@ use Rattle.unit_laws.specs.Journal.{Journal, JournalEntry, RecoveryUnit, Settled
 use Rattle.unit_laws.specs.JournalLaws.{is_unit}
 use Rattle.unit_laws.proofs.TrimLemmas.{trim_keeps_units, trimmed_begins}
 use Rattle.unit_table.specs.Units.{OpenUnit, earliest}
-use Rattle.unit_journal.specs.Settling.{MakesSettlement, entry_if}
-use Rattle.unit_journal.specs.Settling as settling
-use Rattle.unit_journal.specs.Entries.{settled_entry}
-use Rattle.run_model.specs.Answers.{commit_settlement}
-use Rattle.run_model.specs.Locks.{is_locked}
-use Rattle.run_model.specs.World.{tid_in}
-use Rattle.world_laws.specs.Nodes.{IsUp}
+use Rattle.rms_units.specs.unit_journal.Settling.{MakesSettlement, entry_if}
+use Rattle.rms_units.specs.unit_journal.Settling as settling
+use Rattle.rms_units.specs.unit_journal.Entries.{settled_entry}
+use Rattle.recovery_units.specs.run_model.Answers.{commit_settlement}
+use Rattle.recovery_units.specs.run_model.Locks.{is_locked}
+use Rattle.recovery_units.specs.run_model.World.{tid_in}
+use Rattle.recovery_units.specs.world_laws.Nodes.{IsUp}
 use Rattle.commit_protocol.specs.World.{In}
 use Rattle.commit_protocol.specs.Table.{Branch}
-use Rattle.run_model.specs.World.{Act, AreUnitsOf, Changes, Directs, File, Node, Settlement, acted, directly_changed, fallen, next_id, next_moment}
-use Rattle.world_laws.proofs.DirectLemmas.{live_same}
-use Rattle.world_laws.proofs.EntryLemmas.{all_trimmed}
-use Rattle.world_laws.proofs.OrderedLemmas.{directs_keep_order}
-use Rattle.world_laws.proofs.LogLemmas.{told_log}
-use Rattle.directory_model.specs.Files.{AreFiles, IsFoundAt, IsNamed, file_at, head_at}
-use Rattle.directory_model.specs.Laws.{IsChanged, directly_buckets, carrying}
-use Rattle.directory_model.specs.Restoring.{AreRestorable}
-use Rattle.directory_model.proofs.Places.{within_list}
-use Rattle.directory_model.proofs.Standing.{stands_on_extents}
-use Rattle.restart_laws.specs.Units.{MayChange}
-use Rattle.restart_laws.proofs.ListLemmas.{both_as}
-use Rattle.restart_laws.proofs.StayLemmas.{keeps_restorable}
-use Rattle.restart_laws.proofs.UnitLemmas.{keeps_units}
+use Rattle.recovery_units.specs.run_model.World.{Act, AreUnitsOf, Changes, Directs, File, Node, Settlement, acted, directly_changed, fallen, next_id, next_moment}
+use Rattle.recovery_units.proofs.world_laws.DirectLemmas.{live_same}
+use Rattle.recovery_units.proofs.world_laws.EntryLemmas.{all_trimmed}
+use Rattle.recovery_units.proofs.world_laws.OrderedLemmas.{directs_keep_order}
+use Rattle.recovery_units.proofs.world_laws.LogLemmas.{told_log}
+use Rattle.unit_world.specs.directory_model.Files.{AreFiles, IsFoundAt, IsNamed, file_at, head_at}
+use Rattle.unit_world.specs.directory_model.Laws.{IsChanged, directly_buckets, carrying}
+use Rattle.unit_world.specs.directory_model.Restoring.{AreRestorable}
+use Rattle.unit_world.proofs.directory_model.Places.{within_list}
+use Rattle.unit_world.proofs.directory_model.Standing.{stands_on_extents}
+use Rattle.unit_world.specs.restart_laws.Units.{MayChange}
+use Rattle.unit_world.proofs.restart_laws.ListLemmas.{both_as}
+use Rattle.unit_world.proofs.restart_laws.StayLemmas.{keeps_restorable}
+use Rattle.unit_world.proofs.restart_laws.UnitLemmas.{keeps_units}
 use Rattle.volume_format.specs.declared.home.Home.{Home}
-use Rattle.volume_model.specs.Entries.{entry_for}
-use Rattle.volume_model.specs.Laws.{KeepsNames}
-use Rattle.volume_model.specs.Volumes.{HasVolume, IsLeftBy, HasJournal, HasLog}
-use Rattle.volume_laws.specs.Journals.{settled_entries}
-use Rattle.volume_laws.proofs.FollowLemmas.{follow}
-use Rattle.volume_laws.proofs.ToldLemmas.{logs_follow}
-use Rattle.volume_laws.proofs.WholeLemmas.{volume_falls}
-use Rattle.settlement_laws.specs.Settled.{IsSettled, Makes}
-use Rattle.settlement_laws.proofs.MadeLemmas.{settlements_are_made}
+use Rattle.recovery_units.specs.volume_model.Entries.{entry_for}
+use Rattle.recovery_units.specs.volume_model.Laws.{KeepsNames}
+use Rattle.recovery_units.specs.volume_model.Volumes.{HasVolume, IsLeftBy, HasJournal, HasLog}
+use Rattle.unit_world.specs.volume_laws.Journals.{settled_entries}
+use Rattle.unit_world.proofs.volume_laws.FollowLemmas.{follow}
+use Rattle.unit_world.proofs.volume_laws.ToldLemmas.{logs_follow}
+use Rattle.unit_world.proofs.volume_laws.WholeLemmas.{volume_falls}
+use Rattle.undo_laws.specs.settlement_laws.Settled.{IsSettled, Makes}
+use Rattle.undo_laws.proofs.settlement_laws.MadeLemmas.{settlements_are_made}
 use Rattle.recovery_units.specs.State.{AreOfBranches, IsKept, IsUnitOf, UnitsState, changed_at}
 use Rattle.unit_world.proofs.Leaving.{down}
 use Rattle.unit_world.proofs.Staying.{changed_set, locks_stay}

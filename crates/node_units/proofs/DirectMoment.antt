@@ -3,7 +3,7 @@ use Rattle.std.proofs.Common.{◌≡◌, ◌∙◌, ℕ, List, ap, refl}
 use Rattle.file_base.specs.declared.head.FileHead.{FileHead}
 use Rattle.record_operations.specs.declared.ops.RecordOp.{RecordOp}
 use Rattle.record_operations.specs.declared.ops.RecordOp.TheVariants as op
-use Rattle.unit_journal.specs.Settling.{next_moment}
+use Rattle.rms_units.specs.unit_journal.Settling.{next_moment}
 use Rattle.vms_base.specs.declared.ids.Tid.{Tid}
 use Rattle.volume.specs.declared.catalog.Catalog.{Catalog}
 use Rattle.volume.specs.State.{VolumeState}

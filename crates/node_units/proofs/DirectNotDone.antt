@@ -1,5 +1,5 @@
 -- A change without a unit that was not done is one of the world that was not done.
-use Rattle.directory_model.specs.Files.{IsFile}
+use Rattle.unit_world.specs.directory_model.Files.{IsFile}
 use Rattle.std.proofs.Common.{◌≡◌, ℕ, ◌≤◌, List, [], ◌∷◌, true, Option, Some, None, length, refl, sym, ◌∙◌, ap, subst, arith, inl, inr, ⊎_elim}
 use Rattle.std.specs.Prelude.{option_map}
 use Rattle.block_disk.specs.Disk.{DiskState}
@@ -16,28 +16,28 @@ use Rattle.record_operations.specs.Causes.{Cause, first_cause}
 use Rattle.record_operations.specs.declared.ops.RecordOp.{RecordOp}
 use Rattle.record_operations.specs.declared.ops.RecordOp.TheVariants as op
 use Rattle.records_model.specs.Records.{Change}
-use Rattle.run_model.specs.World.{Act, Directs, File, Node, acted, fallen, next_id}
+use Rattle.recovery_units.specs.run_model.World.{Act, Directs, File, Node, acted, fallen, next_id}
 use Rattle.log_laws.specs.Slots.{Slots}
-use Rattle.world_laws.specs.Nodes.{IsUp}
-use Rattle.run_model.specs.Operations.{first_of}
-use Rattle.volume_model.specs.Volumes.{HasDisk, IsEitherOf, IsLeftBy}
-use Rattle.unit_journal.specs.Groups.{LeavesEither, LeavesOld}
+use Rattle.recovery_units.specs.world_laws.Nodes.{IsUp}
+use Rattle.recovery_units.specs.run_model.Operations.{first_of}
+use Rattle.recovery_units.specs.volume_model.Volumes.{HasDisk, IsEitherOf, IsLeftBy}
+use Rattle.rms_units.specs.unit_journal.Groups.{LeavesEither, LeavesOld}
 use Rattle.unit_table.specs.Units.{OpenUnit}
 use Rattle.recovery_units.specs.Calls.{IsBroken, KeepsUp, alone_refused_after_reading, alone_refused_before_reading, cause_line, change_said, direct_act}
-use Rattle.run_model.specs.World.{is_durable}
+use Rattle.recovery_units.specs.run_model.World.{is_durable}
 use Rattle.rms_units.specs.Calls as rms
-use Rattle.key_changes.specs.Changing as keys_by
-use Rattle.key_changes.specs.Keys.{change_in, key_in}
+use Rattle.rms_units.specs.key_changes.Changing as keys_by
+use Rattle.rms_units.specs.key_changes.Keys.{change_in, key_in}
 use Rattle.rms_units.specs.State as state
-use Rattle.unit_journal.specs.Settling as settling
+use Rattle.rms_units.specs.unit_journal.Settling as settling
 use Rattle.node_units.specs.Seen.{seen}
 use Rattle.node_units.proofs.Falling.{disk_sound, leaves_kept, same_some}
 use Rattle.node_units.proofs.DirectMade.{DirectsFile, direct_left, own_settlement}
-use Rattle.run_model.specs.Operations.{changes_of, keys_asked}
+use Rattle.recovery_units.specs.run_model.Operations.{changes_of, keys_asked}
 use Rattle.script_model.specs.Statements.{Truncate}
-use Rattle.key_changes.specs.Changing.{locks_refuse}
+use Rattle.rms_units.specs.key_changes.Changing.{locks_refuse}
 use Rattle.rms_units.specs.Truncating.{DirectCutBroke, DirectCutRefused, IsDirectCut, cut_asked, number_refused}
-use Rattle.unit_cuts.specs.Truncating.{AllTold, LeavesCut, removed_from}
+use Rattle.rms_units.specs.unit_cuts.Truncating.{AllTold, LeavesCut, removed_from}
 use Rattle.node_units.proofs.AskedCut.{keys_alike}
 use Rattle.node_units.proofs.CutAlike.{cut_some}
 use Rattle.node_units.proofs.Looking.{first_some}

@@ -10,14 +10,14 @@ use Rattle.record_operations.specs.Causes.{Cause}
 use Rattle.record_operations.specs.declared.errors.RecErr.{RecErr}
 use Rattle.record_operations.specs.declared.ops.RecordOp.{RecordOp}
 use Rattle.record_operations.specs.declared.ops.RecordOp.TheVariants as op
-use Rattle.run_model.specs.Operations.{first_of, operation_answer}
-use Rattle.run_model.specs.World.{File, Node, find_file, next_id}
-use Rattle.directory_model.specs.Files.{NoneNamed, head_at}
+use Rattle.recovery_units.specs.run_model.Operations.{first_of, operation_answer}
+use Rattle.recovery_units.specs.run_model.World.{File, Node, find_file, next_id}
+use Rattle.unit_world.specs.directory_model.Files.{NoneNamed, head_at}
 use Rattle.recovery_units.specs.Calls as calls
 use Rattle.recovery_units.specs.Calls.{IsAskedAlone, IsBroken, IsDone, IsNotDone, IsNumbered, KeepsUp, alone_refused_after_reading, alone_refused_before_reading, cause_line, change_said, direct_act, position_line}
 use Rattle.log_laws.specs.Slots.{Slots}
 use Rattle.unit_table.specs.Places.{AreInOrder}
-use Rattle.unit_journal.specs.Settling as settling
+use Rattle.rms_units.specs.unit_journal.Settling as settling
 use Rattle.rms_units.specs.Calls as rms
 use Rattle.rms_units.specs.State as state
 use Rattle.rms_units.specs.State.{IsEarly, IsInOrder}

@@ -7,7 +7,7 @@ use Rattle.std.proofs.lemmas.Bool.{both_ways}
 use Rattle.file_base.specs.declared.head.FileHead.{FileHead}
 use Rattle.change_set.specs.Maps.{Map, applied, map_of_records}
 use Rattle.change_set.proofs.Changes.{agree}
-use Rattle.record_files.specs.Any.{map_of}
+use Rattle.volume_files.specs.record_files.Any.{map_of}
 use Rattle.vms_model.specs.Ids.{Id}
 use Rattle.vms_model.specs.Keys.{Key, End}
 use Rattle.vms_model.specs.Transactions.{Outcome, Commit}
@@ -21,29 +21,29 @@ use Rattle.unit_laws.specs.Journal.{RecoveryUnit, find_unit, units_in}
 use Rattle.unit_laws.specs.JournalLaws.{is_unit}
 use Rattle.unit_laws.proofs.HistoryLaws.{changes_more, commits_one}
 use Rattle.commit_protocol.specs.World.{In}
-use Rattle.run_model.specs.Answers.{held_against, keys_refused}
-use Rattle.run_model.specs.Locks.{holder, is_locked}
-use Rattle.run_model.specs.Operations.{changes_of, count_of, data_refused, delete_refused, form_refused, key_refused, keys_asked, put_keys, record_in, update_refused}
-use Rattle.run_model.specs.World as world
-use Rattle.run_model.specs.World.{AreUnitsOf, Directs, File, Node, Organization, Settlement, acted, directly_changed, next_id, sizes_of}
-use Rattle.world_laws.specs.Nodes.{IsUp}
-use Rattle.world_laws.specs.Restarts.{AreHeld}
-use Rattle.world_laws.proofs.AnswerLemmas.{neither}
-use Rattle.world_laws.proofs.DirectLemmas.{none_of}
-use Rattle.world_laws.proofs.FoundLemmas.{changes_asked, changes_found}
-use Rattle.world_laws.proofs.HeldLemmas.{IsFreeFor, free_for}
-use Rattle.world_laws.proofs.LockLemmas.{held_free}
-use Rattle.world_laws.proofs.OperationLemmas.{held_of}
-use Rattle.world_laws.proofs.RunningLemmas.{end_is_free_for}
-use Rattle.world_laws.proofs.ServedLemmas.{undrawn}
-use Rattle.world_laws.proofs.TableLemmas.{in_serials}
-use Rattle.world_laws.proofs.UpLemmas.{branch_drawn}
-use Rattle.directory_model.specs.Files.{AreFiles, IsFile, IsFoundAt, IsNamed, file_at, AgreesOnCarried, IsCarried}
-use Rattle.directory_model.specs.Laws.{AreFree, IsChanged, SameBut, carrying, directly_buckets}
-use Rattle.directory_model.proofs.Acts.{layout_after, same_there}
-use Rattle.directory_model.proofs.Finding.{finds_files}
-use Rattle.directory_model.proofs.Moving.{carried_moved, file_moved, places_moved}
-use Rattle.restart_laws.specs.Units.{EndIsFree, MayChange}
+use Rattle.recovery_units.specs.run_model.Answers.{held_against, keys_refused}
+use Rattle.recovery_units.specs.run_model.Locks.{holder, is_locked}
+use Rattle.recovery_units.specs.run_model.Operations.{changes_of, count_of, data_refused, delete_refused, form_refused, key_refused, keys_asked, put_keys, record_in, update_refused}
+use Rattle.recovery_units.specs.run_model.World as world
+use Rattle.recovery_units.specs.run_model.World.{AreUnitsOf, Directs, File, Node, Organization, Settlement, acted, directly_changed, next_id, sizes_of}
+use Rattle.recovery_units.specs.world_laws.Nodes.{IsUp}
+use Rattle.recovery_units.specs.world_laws.Restarts.{AreHeld}
+use Rattle.recovery_units.proofs.world_laws.AnswerLemmas.{neither}
+use Rattle.recovery_units.proofs.world_laws.DirectLemmas.{none_of}
+use Rattle.recovery_units.proofs.world_laws.FoundLemmas.{changes_asked, changes_found}
+use Rattle.recovery_units.proofs.world_laws.HeldLemmas.{IsFreeFor, free_for}
+use Rattle.recovery_units.proofs.world_laws.LockLemmas.{held_free}
+use Rattle.recovery_units.proofs.world_laws.OperationLemmas.{held_of}
+use Rattle.recovery_units.proofs.world_laws.RunningLemmas.{end_is_free_for}
+use Rattle.recovery_units.proofs.world_laws.ServedLemmas.{undrawn}
+use Rattle.recovery_units.proofs.world_laws.TableLemmas.{in_serials}
+use Rattle.recovery_units.proofs.world_laws.UpLemmas.{branch_drawn}
+use Rattle.unit_world.specs.directory_model.Files.{AreFiles, IsFile, IsFoundAt, IsNamed, file_at, AgreesOnCarried, IsCarried}
+use Rattle.unit_world.specs.directory_model.Laws.{AreFree, IsChanged, SameBut, carrying, directly_buckets}
+use Rattle.unit_world.proofs.directory_model.Acts.{layout_after, same_there}
+use Rattle.unit_world.proofs.directory_model.Finding.{finds_files}
+use Rattle.unit_world.proofs.directory_model.Moving.{carried_moved, file_moved, places_moved}
+use Rattle.unit_world.specs.restart_laws.Units.{EndIsFree, MayChange}
 
 -- An operation that moves the end of a sequential file asks for it.
 

@@ -12,11 +12,11 @@ use Rattle.unit_table.specs.Units.{OpenUnit, earlier, first_of}
 use Rattle.unit_table.proofs.BegunLemmas.{earlier_either, earliest_in}
 use Rattle.commit_protocol.specs.Table.{Branch}
 use Rattle.commit_protocol.specs.World.{In}
-use Rattle.world_laws.specs.Nodes.{IsUp}
-use Rattle.world_laws.specs.Running.{Each}
-use Rattle.run_model.specs.World.{Node}
-use Rattle.world_laws.proofs.IdLemmas.{id_itself, in_map}
-use Rattle.restart_laws.proofs.ListLemmas.{all_as, all_of, both_as}
+use Rattle.recovery_units.specs.world_laws.Nodes.{IsUp}
+use Rattle.recovery_units.specs.world_laws.Running.{Each}
+use Rattle.recovery_units.specs.run_model.World.{Node}
+use Rattle.recovery_units.proofs.world_laws.IdLemmas.{id_itself, in_map}
+use Rattle.unit_world.proofs.restart_laws.ListLemmas.{all_as, all_of, both_as}
 use Rattle.recovery_units.specs.State.{AreOfBranches, IsUnitOf, is_change_by, positions_of}
 use Rattle.node_units.proofs.Branches.{serials, serials_are}
 use Rattle.node_units.proofs.Positions.{changes_of_units}

@@ -6,17 +6,17 @@ use Rattle.vms_model.specs.Ids.{Id}
 use Rattle.volume.specs.State.{VolumeState}
 use Rattle.records_model.specs.History.{same_id}
 use Rattle.file_base.specs.declared.head.FileHead.{FileHead}
-use Rattle.image_room.specs.Room.{AllSettlementsFit}
+use Rattle.recovery_units.specs.image_room.Room.{AllSettlementsFit}
 use Rattle.unit_table.specs.Units.{Ascend, OpenUnit, changers, owed_for}
 use Rattle.commit_protocol.specs.Effects.{Effect, ForgetEffect, KeepEffect, ReadOnlyEffect, acknowledge_effects, line_effect, record_effects, release_effects}
 use Rattle.commit_protocol.specs.Messages.{LogRecord, Name}
 use Rattle.commit_protocol.specs.Table.{Accepts, Acknowledges, Branch, Ended, Key, Leaves, Line, Notes, Prepares, Prints, Releases, Sends, Settles, Started, Told, Undoes, acknowledged, cut, find, holds, nothing_left, released, same_key, waits_for}
 use Rattle.commit_protocol.specs.World.{In}
 use Rattle.commit_protocol.proofs.Lists.{find-key, same_key-true}
-use Rattle.run_model.specs.World.{Node, Tables, acted, next_moment}
-use Rattle.world_laws.proofs.IdLemmas.{each_at, id_itself, id_other}
-use Rattle.world_laws.proofs.TableLemmas.{found_in}
-use Rattle.restart_laws.proofs.ListLemmas.{all_as}
+use Rattle.recovery_units.specs.run_model.World.{Node, Tables, acted, next_moment}
+use Rattle.recovery_units.proofs.world_laws.IdLemmas.{each_at, id_itself, id_other}
+use Rattle.recovery_units.proofs.world_laws.TableLemmas.{found_in}
+use Rattle.unit_world.proofs.restart_laws.ListLemmas.{all_as}
 use Rattle.recovery_units.specs.Calls as calls
 use Rattle.recovery_units.specs.Calls.{MayDo}
 use Rattle.recovery_units.specs.State.{AreOfBranches, IsInOrder, IsKept, IsUnitOf, UnitsState, owed, without_begun, without_unit}

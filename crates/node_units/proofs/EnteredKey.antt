@@ -9,16 +9,16 @@ use Rattle.file_base.specs.declared.head.Span.{Span}
 use Rattle.journal_model.specs.Entries.{Entry, IsEntry, spelling}
 use Rattle.journal_model.specs.Ring.{IsJournal, KeepsOthers, put_stream, ring_size}
 use Rattle.journal_store.proofs.Journals.{appended, keeps_others}
-use Rattle.unit_journal.specs.Spans.{entered, longer}
+use Rattle.rms_units.specs.unit_journal.Spans.{entered, longer}
 use Rattle.lmcp_log.specs.Keeping.{SameSlots}
 use Rattle.volume.specs.declared.catalog.Catalog.{Catalog}
 use Rattle.volume.specs.Catalogs.{IsSound, TellsCatalog, TellsEntry}
 use Rattle.volume_format.specs.Home.{HasHome, HasRu, ru_block_of, ru_rows, sizes_of}
 use Rattle.volume_format.proofs.Splices.{laid_again, laid_stand, length-laid}
-use Rattle.directory_model.specs.Files.{AgreesOnFile, head_at}
-use Rattle.directory_model.proofs.Apart.{writes_apart}
+use Rattle.unit_world.specs.directory_model.Files.{AgreesOnFile, head_at}
+use Rattle.unit_world.proofs.directory_model.Apart.{writes_apart}
 use Rattle.volume.specs.Limits.{data_area}
-use Rattle.file_images.proofs.Rings.{journal_stands}
+use Rattle.unit_world.proofs.file_images.Rings.{journal_stands}
 use Rattle.unit_world.proofs.Blocks.{fit, other_block, whole_set}
 
 abbrev Content : Type 0

@@ -10,10 +10,10 @@ use Rattle.std.specs.Prelude.{Result, Err}
 use Rattle.volume.specs.Catalogs.{IsSound, TellsCatalog}
 use Rattle.volume.specs.State.{Holds, VolumeState}
 use Rattle.std.specs.Option.{IfSome}
-use Rattle.run_model.specs.World.{Act, Barred, Faulty, Node, Sound, Unknown, Volume, fallen}
-use Rattle.volume_model.specs.Volumes.{BarsBoots, FailsFirst, HasDisk, IsEitherOf, IsLeftBy}
-use Rattle.volume_laws.proofs.WholeLemmas.{volume_falls}
-use Rattle.unit_journal.specs.Leaving.{FellIn}
+use Rattle.recovery_units.specs.run_model.World.{Act, Barred, Faulty, Node, Sound, Unknown, Volume, fallen}
+use Rattle.recovery_units.specs.volume_model.Volumes.{BarsBoots, FailsFirst, HasDisk, IsEitherOf, IsLeftBy}
+use Rattle.unit_world.proofs.volume_laws.WholeLemmas.{volume_falls}
+use Rattle.rms_units.specs.unit_journal.Leaving.{FellIn}
 use Rattle.recovery_units.specs.State.{IsKept, UnitsState}
 use Rattle.unit_world.proofs.Leaving.{down}
 

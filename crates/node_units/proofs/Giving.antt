@@ -20,17 +20,17 @@ use Rattle.volume_format.specs.declared.home.Home.{Home}
 use Rattle.volume_format.specs.Head.{IsHead}
 use Rattle.volume_format.specs.Home.{sizes_of}
 use Rattle.volume.specs.Limits.{data_area}
-use Rattle.file_settlements.specs.Settling.{EntersSettled}
+use Rattle.rms_units.specs.file_settlements.Settling.{EntersSettled}
 use Rattle.unit_laws.specs.JournalLaws.{is_unit}
-use Rattle.unit_journal.specs.Entries.{settled_entry}
+use Rattle.rms_units.specs.unit_journal.Entries.{settled_entry}
 use Rattle.unit_table.specs.Units.{OpenUnit}
-use Rattle.unit_aborts.specs.Aborting.{Abortion}
-use Rattle.unit_undo.specs.Undoing.{GoesOn}
-use Rattle.unit_undo.specs.Way.{FailsOnTheWay, IsOnTheWay, IsUndone, KeepsJournal, Undoes}
-use Rattle.unit_undo.proofs.StepLemmas.{same_way}
-use Rattle.unit_journal.specs.Groups.{Breaks}
-use Rattle.unit_journal.specs.Settling.{entry_if, next_moment as moment_next}
-use Rattle.unit_votes.specs.Voting.{AbortsLogged, BreaksOffLogged, MakesLogged, abort_settlement}
+use Rattle.rms_units.specs.unit_aborts.Aborting.{Abortion}
+use Rattle.undo_laws.specs.unit_undo.Undoing.{GoesOn}
+use Rattle.undo_laws.specs.unit_undo.Way.{FailsOnTheWay, IsOnTheWay, IsUndone, KeepsJournal, Undoes}
+use Rattle.undo_laws.proofs.unit_undo.StepLemmas.{same_way}
+use Rattle.rms_units.specs.unit_journal.Groups.{Breaks}
+use Rattle.rms_units.specs.unit_journal.Settling.{entry_if, next_moment as moment_next}
+use Rattle.rms_units.specs.unit_votes.Voting.{AbortsLogged, BreaksOffLogged, MakesLogged, abort_settlement}
 use Rattle.commit_protocol.specs.Effects.{SettleEffect}
 use Rattle.commit_protocol.specs.Table as table
 use Rattle.commit_protocol.specs.Table.{Key, Settles}
@@ -38,10 +38,10 @@ use Rattle.log_laws.specs.Slots.{Slots, forgotten}
 use Rattle.lmcp_log.specs.Keeping.{IsWhole, Keeps, SameSlots}
 use Rattle.lmcp_log.proofs.Keepings.{keeps_beside}
 use Rattle.lmcp_log.proofs.Whole.{beside_whole}
-use Rattle.run_model.specs.World.{Act, Node, Settlement, Tables, acted, fallen, next_moment, settlement}
-use Rattle.directory_model.specs.Files.{Fit, head_at}
-use Rattle.settlement_laws.specs.Settled.{IsSettled, Makes}
-use Rattle.settlement_laws.proofs.MadeLemmas.{settlements_are_made}
+use Rattle.recovery_units.specs.run_model.World.{Act, Node, Settlement, Tables, acted, fallen, next_moment, settlement}
+use Rattle.unit_world.specs.directory_model.Files.{Fit, head_at}
+use Rattle.undo_laws.specs.settlement_laws.Settled.{IsSettled, Makes}
+use Rattle.undo_laws.proofs.settlement_laws.MadeLemmas.{settlements_are_made}
 use Rattle.undo_laws.specs.Undoable.{entries_for}
 use Rattle.undo_laws.specs.Undone.{AgreeOnFiles, IsTold, IsToldIn}
 use Rattle.undo_laws.proofs.ToldLemmas.{journal_beside}
@@ -49,10 +49,10 @@ use Rattle.undo_laws.proofs.HalfLemmas.{aborts_leave}
 use Rattle.undo_laws.proofs.SettledLemmas.{undone_settle}
 use Rattle.undo_laws.proofs.UndoableLemmas.{units_are_undoable}
 use Rattle.undo_laws.proofs.WayLemmas.{far_off, log_kept, undos_keep_journal}
-use Rattle.volume_laws.proofs.WholeLemmas.{volume_falls}
-use Rattle.volume_model.specs.Homes.{HasHome}
-use Rattle.volume_model.specs.Laws.{KeepsNames}
-use Rattle.volume_model.specs.Volumes.{HasDisk, HasJournal, HasLog, HasVolume, IsEitherOf, IsLeftBy, LeavesVolume}
+use Rattle.unit_world.proofs.volume_laws.WholeLemmas.{volume_falls}
+use Rattle.recovery_units.specs.volume_model.Homes.{HasHome}
+use Rattle.recovery_units.specs.volume_model.Laws.{KeepsNames}
+use Rattle.recovery_units.specs.volume_model.Volumes.{HasDisk, HasJournal, HasLog, HasVolume, IsEitherOf, IsLeftBy, LeavesVolume}
 use Rattle.rms_units.specs.Aborting.{abortion_of}
 use Rattle.rms_units.specs.State as rms
 use Rattle.rms_units.specs.Voting.{AbortsPrepared, AbortsPreparedNot}

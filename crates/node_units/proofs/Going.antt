@@ -8,7 +8,7 @@ use Rattle.unit_table.specs.Places.{AreInOrder, count_at, occurrences}
 use Rattle.unit_table.specs.Units.{OpenUnit, unit_at, units_of}
 use Rattle.unit_table.proofs.OrderLemmas.{more_here, more_there}
 use Rattle.commit_protocol.specs.World.{In}
-use Rattle.world_laws.proofs.IdLemmas.{id_itself, id_other}
+use Rattle.recovery_units.proofs.world_laws.IdLemmas.{id_itself, id_other}
 use Rattle.log_laws.specs.Slots.{Slots}
 use Rattle.rms_units.specs.State as rms
 use Rattle.recovery_units.specs.State.{without_begun, without_unit}

@@ -5,9 +5,9 @@ use Rattle.std.proofs.lemmas.List.{length-map}
 use Rattle.commit_protocol.specs.Messages.{LogRecord}
 use Rattle.log_laws.specs.Slots.{Slots, records_in}
 use Rattle.record_locks.specs.Locks.{Lock}
-use Rattle.tm_types.specs.Parts.{log_record_of}
-use Rattle.unit_restarts.specs.Restarting.{RestartTold, Restarts}
-use Rattle.unit_returns.specs.Returning.{AreOfRecords}
+use Rattle.lmcp_log.specs.tm_types.Parts.{log_record_of}
+use Rattle.rms_units.specs.unit_restarts.Restarting.{RestartTold, Restarts}
+use Rattle.rms_units.specs.unit_returns.Returning.{AreOfRecords}
 use Rattle.unit_table.specs.Places.{AreInOrder, occurrences}
 use Rattle.unit_table.specs.Units.{OpenUnit, Units, begun, unit_at}
 use Rattle.unit_table.proofs.OrderLemmas.{taken_is, units_many}

@@ -8,10 +8,10 @@ use Rattle.volume.specs.declared.catalog.Catalog.{Catalog}
 use Rattle.volume.specs.Catalogs.{IsNew, IsSound}
 use Rattle.volume.specs.State.{VolumeState}
 use Rattle.record_locks.specs.Locks as table
-use Rattle.run_model.specs.World.{Holds, Node, acted}
-use Rattle.directory_model.specs.Files.{head_at}
-use Rattle.directory_model.proofs.Places.{within_list}
-use Rattle.restart_laws.proofs.ListLemmas.{all_as}
+use Rattle.recovery_units.specs.run_model.World.{Holds, Node, acted}
+use Rattle.unit_world.specs.directory_model.Files.{head_at}
+use Rattle.unit_world.proofs.directory_model.Places.{within_list}
+use Rattle.unit_world.proofs.restart_laws.ListLemmas.{all_as}
 use Rattle.recovery_units.specs.State.{IsKept, IsUnitOf, UnitsState}
 use Rattle.unit_world.proofs.Keeping.{volume_as}
 use Rattle.node_units.proofs.Locking.{AreOnce, locks_more}

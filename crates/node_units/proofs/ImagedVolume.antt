@@ -2,23 +2,23 @@
 use Rattle.std.proofs.Common.{◌≡◌, ℕ, zero, suc, [], ◌∷◌, slice_set, ◌+◌, ◌-◌, ◌<◌, ◌≤◌, List, Option, Some, None, length, refl, sym, ◌∙◌, ap, subst, arith, inr}
 use Rattle.block_disk.specs.Blocks.{block_at}
 use Rattle.file_base.specs.declared.head.FileHead.{FileHead}
-use Rattle.file_images.specs.Files.{SameRing}
+use Rattle.unit_world.specs.file_images.Files.{SameRing}
 use Rattle.careful_write.specs.State.{EachWhole}
 use Rattle.file_base.specs.declared.head.Span.{Span}
-use Rattle.directory_model.specs.Files.{AgreesOnFile, AreFiles, file_at, head_at}
-use Rattle.directory_model.specs.Restoring.{AreRestorable, CanRestore, IsPlaceRestorable}
-use Rattle.restart_laws.specs.Restorable.{SameLive}
-use Rattle.restart_laws.proofs.StayLemmas.{keeps_restorable}
-use Rattle.image_groups.specs.Groups.{AllDressed, Enters}
-use Rattle.run_model.specs.World.{File, Node}
+use Rattle.unit_world.specs.directory_model.Files.{AgreesOnFile, AreFiles, file_at, head_at}
+use Rattle.unit_world.specs.directory_model.Restoring.{AreRestorable, CanRestore, IsPlaceRestorable}
+use Rattle.unit_world.specs.restart_laws.Restorable.{SameLive}
+use Rattle.unit_world.proofs.restart_laws.StayLemmas.{keeps_restorable}
+use Rattle.undo_laws.specs.image_groups.Groups.{AllDressed, Enters}
+use Rattle.recovery_units.specs.run_model.World.{File, Node}
 use Rattle.undo_laws.proofs.ToldLemmas.{journal_beside, names_dressed}
 use Rattle.volume.specs.Catalogs.{IsSound, TellsCatalog}
 use Rattle.volume.specs.Limits.{data_area}
 use Rattle.volume.specs.declared.catalog.Catalog.{Catalog}
 use Rattle.volume_format.specs.Home.{sizes_of}
-use Rattle.volume_laws.proofs.ToldLemmas.{logs_follow}
-use Rattle.volume_model.specs.Laws.{KeepsNames}
-use Rattle.volume_model.specs.Volumes.{HasJournal, HasLog}
+use Rattle.unit_world.proofs.volume_laws.ToldLemmas.{logs_follow}
+use Rattle.recovery_units.specs.volume_model.Laws.{KeepsNames}
+use Rattle.recovery_units.specs.volume_model.Volumes.{HasJournal, HasLog}
 
 module _ (c b : List (List ℕ)) (k : Catalog) (new : List (Option FileHead)) (d : List (Option File)) (enters : Enters c k.heads b (data_area (sizes_of k.home)) new d) (n : Node) (sound : IsSound n.name n.blocks k) where
   pub front_entered : (i : ℕ) → 65 ≤ i → i + 518 < k.ru.start + k.ru.blocks → block_at b i ≡ block_at c i

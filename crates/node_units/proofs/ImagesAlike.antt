@@ -4,9 +4,9 @@ use Rattle.std.specs.List.{AllByRecursion}
 use Rattle.std.specs.Option.{option_map}
 use Rattle.std.proofs.lemmas.Bool.{both_ways}
 use Rattle.file_base.specs.declared.head.FileHead.{FileHead}
-use Rattle.image_appends.specs.declared.side.Side.TheVariants.{After, Before}
-use Rattle.image_room.specs.Room.{images_refused}
-use Rattle.image_room.proofs.Model.{IsJournalOf, cause_full, refused_as_told}
+use Rattle.recovery_units.specs.image_appends.declared.side.Side.TheVariants.{After, Before}
+use Rattle.recovery_units.specs.image_room.Room.{images_refused}
+use Rattle.recovery_units.proofs.image_room.Model.{IsJournalOf, cause_full, refused_as_told}
 use Rattle.vms_model.specs.Ids.{Id}
 use Rattle.vms_model.specs.Keys.{Key}
 use Rattle.records_model.specs.Records.{Change}
@@ -25,14 +25,14 @@ use Rattle.commit_protocol.specs.Allowed.{is_prepared}
 use Rattle.commit_protocol.specs.Table.{Branch}
 use Rattle.commit_protocol.specs.World.{In}
 use Rattle.log_laws.specs.Slots.{Slots}
-use Rattle.run_model.specs.Answers.{full_line, images_full}
-use Rattle.run_model.specs.World.{File, KeepsImages, Node, AreUnitsOf, find_file, state_of}
-use Rattle.world_laws.specs.Nodes.{IsUp}
+use Rattle.recovery_units.specs.run_model.Answers.{full_line, images_full}
+use Rattle.recovery_units.specs.run_model.World.{File, KeepsImages, Node, AreUnitsOf, find_file, state_of}
+use Rattle.recovery_units.specs.world_laws.Nodes.{IsUp}
 use Rattle.std.specs.Prelude.{is_some}
-use Rattle.world_laws.proofs.IdLemmas.{each_at, id_is, id_itself, id_other}
-use Rattle.world_laws.proofs.PlainLemmas.{by_others}
-use Rattle.world_laws.proofs.ToldImages.{unsettled_in_images}
-use Rattle.directory_model.specs.Files.{IsCarried, file_at}
+use Rattle.recovery_units.proofs.world_laws.IdLemmas.{each_at, id_is, id_itself, id_other}
+use Rattle.recovery_units.proofs.world_laws.PlainLemmas.{by_others}
+use Rattle.recovery_units.proofs.world_laws.ToldImages.{unsettled_in_images}
+use Rattle.unit_world.specs.directory_model.Files.{IsCarried, file_at}
 use Rattle.recovery_units.specs.Calls.{cause_line}
 use Rattle.recovery_units.specs.State.{IsKept, IsUnitOf, changed_at}
 use Rattle.rms_units.specs.State as rms

@@ -4,35 +4,35 @@ use Rattle.std.proofs.lemmas.Bool.{cases_eq}
 use Rattle.std.specs.Option.{option_map}
 use Rattle.file_base.specs.declared.head.FileHead.{FileHead}
 use Rattle.file_base.specs.declared.head.Span.{Span}
-use Rattle.file_images.specs.Images.{entry_by}
-use Rattle.image_appends.specs.declared.side.Side.{Side}
-use Rattle.image_appends.specs.declared.side.Side.TheVariants.{After, Before}
-use Rattle.image_appends.specs.Images.{files_grown, grown, heads_with, is_kept, span_of}
-use Rattle.image_appends.specs.Settling.{content_from, heads_from, heads_if}
-use Rattle.image_groups.specs.Groups.{AreToldBy, HaveRoom, IsToldBy, MayEnter, outcome_of}
-use Rattle.image_room.specs.Room.{SettlementsFit}
-use Rattle.image_room.proofs.Keeping.{room_to_settle}
-use Rattle.file_settlements.specs.Settling.{EntersSettled, content_settled, heads_settled}
+use Rattle.unit_world.specs.file_images.Images.{entry_by}
+use Rattle.recovery_units.specs.image_appends.declared.side.Side.{Side}
+use Rattle.recovery_units.specs.image_appends.declared.side.Side.TheVariants.{After, Before}
+use Rattle.recovery_units.specs.image_appends.Images.{files_grown, grown, heads_with, is_kept, span_of}
+use Rattle.recovery_units.specs.image_appends.Settling.{content_from, heads_from, heads_if}
+use Rattle.undo_laws.specs.image_groups.Groups.{AreToldBy, HaveRoom, IsToldBy, MayEnter, outcome_of}
+use Rattle.recovery_units.specs.image_room.Room.{SettlementsFit}
+use Rattle.recovery_units.proofs.image_room.Keeping.{room_to_settle}
+use Rattle.rms_units.specs.file_settlements.Settling.{EntersSettled, content_settled, heads_settled}
 use Rattle.journal_format.proofs.Decoding.{total_is}
 use Rattle.journal_model.specs.Entries.{Entry, IsEntry, spelling}
 use Rattle.journal_model.specs.Ring.{ring_size}
 use Rattle.recovery_model.specs.Journal.{Settled}
 use Rattle.unit_laws.specs.JournalLaws.{is_unit}
-use Rattle.unit_journal.specs.Entries.{settled_entry}
-use Rattle.unit_journal.specs.Settling.{entry_if}
-use Rattle.unit_journal.proofs.EntryLemmas.{settled_is}
+use Rattle.rms_units.specs.unit_journal.Entries.{settled_entry}
+use Rattle.rms_units.specs.unit_journal.Settling.{entry_if}
+use Rattle.rms_units.proofs.unit_journal.EntryLemmas.{settled_is}
 use Rattle.unit_table.specs.Units.{OpenUnit, has_changed}
-use Rattle.unit_undo.specs.Undoing.{Journals, journals_at, journals_of}
+use Rattle.undo_laws.specs.unit_undo.Undoing.{Journals, journals_at, journals_of}
 use Rattle.vms_model.specs.Ids.{Id, IsId}
 use Rattle.vms_model.specs.Transactions.{Abort, Commit, Outcome}
 use Rattle.records_model.specs.History.{changed_it}
 use Rattle.commit_protocol.specs.Table.{Key}
 use Rattle.log_laws.specs.Slots.{Slots}
-use Rattle.run_model.specs.World.{File, Node, Settlement}
-use Rattle.directory_model.specs.Files.{Fit, file_at, head_at}
-use Rattle.directory_model.specs.Laws.{spelled_entry}
-use Rattle.directory_model.proofs.Places.{within_list}
-use Rattle.volume_model.specs.Laws.{KeepsNames}
+use Rattle.recovery_units.specs.run_model.World.{File, Node, Settlement}
+use Rattle.unit_world.specs.directory_model.Files.{Fit, file_at, head_at}
+use Rattle.unit_world.specs.directory_model.Laws.{spelled_entry}
+use Rattle.unit_world.proofs.directory_model.Places.{within_list}
+use Rattle.recovery_units.specs.volume_model.Laws.{KeepsNames}
 use Rattle.volume.specs.declared.catalog.Catalog.{Catalog}
 use Rattle.volume.specs.Catalogs.{IsSound, TellsCatalog, entry_of}
 use Rattle.volume.specs.Limits.{data_area}

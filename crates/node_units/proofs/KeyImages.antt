@@ -6,23 +6,23 @@ use Rattle.std.specs.Option.{IfSome}
 use Rattle.change_set.specs.Files.{SameFile}
 use Rattle.file_base.specs.declared.head.FileHead.{FileHead}
 use Rattle.file_base.specs.declared.head.Span.{Span}
-use Rattle.file_images.specs.Files.{form_of}
-use Rattle.file_images.specs.Images as images
-use Rattle.file_images.specs.Images.{IsOf, IsSuited, entry_by}
-use Rattle.file_images.proofs.Forms.{suited_by_form}
-use Rattle.file_images.proofs.Sizes.{long_by}
-use Rattle.image_appends.specs.declared.side.Side.{Side}
-use Rattle.image_appends.specs.declared.side.Side.TheVariants.{After, Before}
-use Rattle.image_appends.specs.Images.{is_kept, span_of}
-use Rattle.image_groups.specs.Groups.{MayEnter}
-use Rattle.directory_model.specs.Files.{head_at}
+use Rattle.unit_world.specs.file_images.Files.{form_of}
+use Rattle.unit_world.specs.file_images.Images as images
+use Rattle.unit_world.specs.file_images.Images.{IsOf, IsSuited, entry_by}
+use Rattle.unit_world.proofs.file_images.Forms.{suited_by_form}
+use Rattle.unit_world.proofs.file_images.Sizes.{long_by}
+use Rattle.recovery_units.specs.image_appends.declared.side.Side.{Side}
+use Rattle.recovery_units.specs.image_appends.declared.side.Side.TheVariants.{After, Before}
+use Rattle.recovery_units.specs.image_appends.Images.{is_kept, span_of}
+use Rattle.undo_laws.specs.image_groups.Groups.{MayEnter}
+use Rattle.unit_world.specs.directory_model.Files.{head_at}
 use Rattle.journal_format.proofs.Decoding.{entry_size}
 use Rattle.journal_model.specs.Entries.{Entry, IsEntry, spelling}
 use Rattle.journal_model.specs.Ring.{ring_size}
-use Rattle.record_files.specs.Any.{Suits}
+use Rattle.volume_files.specs.record_files.Any.{Suits}
 use Rattle.recovery_model.specs.Journal.{Changed, entry_length}
-use Rattle.unit_journal.specs.Entries as spelled
-use Rattle.unit_journal.specs.Entries.{change_entry}
+use Rattle.rms_units.specs.unit_journal.Entries as spelled
+use Rattle.rms_units.specs.unit_journal.Entries.{change_entry}
 use Rattle.volume_format.specs.Head.{IsHead}
 use Rattle.vms_model.specs.Ids.{Id}
 use Rattle.records_model.specs.Records.{Change}

@@ -12,41 +12,41 @@ use Rattle.volume.specs.declared.catalog.Catalog.{Catalog}
 use Rattle.volume.specs.State.{VolumeState}
 use Rattle.records_model.specs.Records.{Change}
 use Rattle.records_model.specs.History.{History, changed_it, changed_with, same_id}
-use Rattle.record_files.specs.Any.{map_of}
+use Rattle.volume_files.specs.record_files.Any.{map_of}
 use Rattle.record_locks.specs.Locks as table
 use Rattle.record_operations.specs.Asking.{file_in, is_of_key, written}
 use Rattle.record_operations.specs.declared.ops.RecordOp.{RecordOp}
-use Rattle.unit_journal.specs.Groups.{Breaks}
+use Rattle.rms_units.specs.unit_journal.Groups.{Breaks}
 use Rattle.unit_laws.specs.Journal.{ChangeEntry, JournalEntry, entries_size, serial_in}
 use Rattle.unit_laws.proofs.LiveLemmas.{by_others}
 use Rattle.node_units.proofs.KeyImages.{now_changed}
 use Rattle.unit_table.specs.Places.{AreInOrder}
 use Rattle.unit_table.specs.Units.{OpenUnit, begun, has_changed, unit_at, units_of, with_position}
 use Rattle.unit_table.proofs.OrderLemmas.{at_below}
-use Rattle.run_model.specs.World.{tid_in}
-use Rattle.run_model.specs.World.{Act, Changes, File, Node, acted, changed_file, fallen, find_branch, find_file, is_durable}
-use Rattle.run_model.specs.Locks.{is_locked}
-use Rattle.run_model.specs.Operations.{first_of, operation_answer}
-use Rattle.world_laws.proofs.IdLemmas.{id_itself}
-use Rattle.world_laws.proofs.EntryLemmas.{all_append}
-use Rattle.directory_model.specs.Files.{file_at, head_at}
-use Rattle.directory_model.proofs.Places.{within_list}
-use Rattle.volume_model.specs.Volumes.{HasDisk, HasVolume, IsEitherOf, IsLeftBy}
+use Rattle.recovery_units.specs.run_model.World.{tid_in}
+use Rattle.recovery_units.specs.run_model.World.{Act, Changes, File, Node, acted, changed_file, fallen, find_branch, find_file, is_durable}
+use Rattle.recovery_units.specs.run_model.Locks.{is_locked}
+use Rattle.recovery_units.specs.run_model.Operations.{first_of, operation_answer}
+use Rattle.recovery_units.proofs.world_laws.IdLemmas.{id_itself}
+use Rattle.recovery_units.proofs.world_laws.EntryLemmas.{all_append}
+use Rattle.unit_world.specs.directory_model.Files.{file_at, head_at}
+use Rattle.unit_world.proofs.directory_model.Places.{within_list}
+use Rattle.recovery_units.specs.volume_model.Volumes.{HasDisk, HasVolume, IsEitherOf, IsLeftBy}
 use Rattle.careful_write.specs.Content.{content_of}
 use Rattle.script_model.specs.Statements.{Operation}
-use Rattle.volume_laws.proofs.WholeLemmas.{volume_falls}
+use Rattle.unit_world.proofs.volume_laws.WholeLemmas.{volume_falls}
 use Rattle.recovery_units.specs.Calls.{IsBroken, IsDone, IsNumbered, KeepsUp, change_said, position_line, unit_act, unit_refused_after_reading, unit_refused_before_reading}
 use Rattle.recovery_units.specs.State.{AreLocks, AreOfBranches, IsKept, IsUnitOf, changed_at, positions_of}
 use Rattle.unit_world.proofs.Leaving.{down}
 use Rattle.unit_world.proofs.Staying.{changed_set}
 use Rattle.rms_units.specs.Calls as rms
-use Rattle.key_changes.specs.Changing as changing
-use Rattle.key_changes.specs.Keys.{change_in, key_in, position_by}
+use Rattle.rms_units.specs.key_changes.Changing as changing
+use Rattle.rms_units.specs.key_changes.Keys.{change_in, key_in, position_by}
 use Rattle.rms_units.specs.State as state
 use Rattle.rms_units.specs.State.{IsEarly, IsInOrder}
 use Rattle.log_laws.specs.Slots.{Slots}
 use Rattle.commit_protocol.specs.Allowed.{is_prepared}
-use Rattle.world_laws.specs.Nodes.{IsUp}
+use Rattle.recovery_units.specs.world_laws.Nodes.{IsUp}
 use Rattle.node_units.specs.Seen.{seen}
 use Rattle.node_units.proofs.Falling.{disk_sound, leaves_kept}
 use Rattle.node_units.proofs.KeyMade as made_by

@@ -20,13 +20,13 @@ use Rattle.volume_format.specs.Head as head_format
 use Rattle.volume_format.specs.Home.{sizes_of}
 use Rattle.volume.specs.Catalogs.{entry_of}
 use Rattle.volume_files.proofs.Places.{head_below}
-use Rattle.directory_model.proofs.Places.{within_list}
+use Rattle.unit_world.proofs.directory_model.Places.{within_list}
 use Rattle.journal_format.proofs.Decoding.{entry_size}
 use Rattle.journal_model.specs.Entries.{Entry, IsEntry, spelling}
 use Rattle.journal_model.specs.Ring.{IsJournal, ring_size}
 use Rattle.records_model.specs.Records.{Change}
 use Rattle.records_model.specs.History.{is_held}
-use Rattle.record_files.specs.Any.{Suits, Takes, map_of, room_at}
+use Rattle.volume_files.specs.record_files.Any.{Suits, Takes, map_of, room_at}
 use Rattle.record_locks.specs.Locks as table
 use Rattle.record_operations.specs.Asking.{file_in, is_of_key, written}
 use Rattle.record_operations.specs.Causes.{Cause, first_cause}
@@ -34,78 +34,78 @@ use Rattle.record_operations.specs.Forms as form
 use Rattle.record_operations.specs.declared.ops.RecordOp.{RecordOp}
 use Rattle.record_operations.specs.declared.ops.RecordOp.TheVariants as op
 use Rattle.vms_base.specs.Keys.{key_of}
-use Rattle.unit_journal.specs.Entries as spelled
-use Rattle.unit_journal.specs.Room as room
-use Rattle.unit_journal.specs.Spans.{entered, longer}
+use Rattle.rms_units.specs.unit_journal.Entries as spelled
+use Rattle.rms_units.specs.unit_journal.Room as room
+use Rattle.rms_units.specs.unit_journal.Spans.{entered, longer}
 use Rattle.unit_laws.specs.Journal.{ChangeEntry, JournalEntry, end_of, entries_for, with_entries}
 use Rattle.unit_laws.proofs.TrimLemmas.{size_append}
 use Rattle.unit_table.specs.Places.{AreInOrder}
 use Rattle.unit_table.specs.Units.{OpenUnit, has_changed, unit_at}
-use Rattle.run_model.specs.Answers.{found_refused, held_against, images_full, is_marked, journal_full, keys_refused, more_changes, more_locks, operation_act}
-use Rattle.run_model.specs.Locks.{is_locked}
-use Rattle.run_model.specs.Locks as world
-use Rattle.run_model.specs.Operations.{changes_of, file_full, first_of, form_refused, keys_asked, keys_held}
-use Rattle.world_laws.specs.Ordered.{IsImageOf, IsJournalInOrder, IsKeyOf, IsNoteOf}
+use Rattle.recovery_units.specs.run_model.Answers.{found_refused, held_against, images_full, is_marked, journal_full, keys_refused, more_changes, more_locks, operation_act}
+use Rattle.recovery_units.specs.run_model.Locks.{is_locked}
+use Rattle.recovery_units.specs.run_model.Locks as world
+use Rattle.recovery_units.specs.run_model.Operations.{changes_of, file_full, first_of, form_refused, keys_asked, keys_held}
+use Rattle.recovery_units.specs.world_laws.Ordered.{IsImageOf, IsJournalInOrder, IsKeyOf, IsNoteOf}
 use Rattle.commit_protocol.specs.World.{In}
-use Rattle.run_model.specs.World as nodes
-use Rattle.run_model.specs.World.{Act, Changes, File, Node, acted, changed_file, find_branch, find_file, with_image, AreUnitsOf}
-use Rattle.world_laws.proofs.AnswerLemmas.{neither, not_refused}
-use Rattle.world_laws.proofs.HeldLemmas.{IsFreeFor, free_for}
-use Rattle.world_laws.proofs.RoomLemmas.{changes_have_room}
-use Rattle.world_laws.proofs.UndoLemmas.{kept_up}
-use Rattle.world_laws.specs.Restarts.{AreHeld}
-use Rattle.restart_laws.specs.Units.{MayChange}
+use Rattle.recovery_units.specs.run_model.World as nodes
+use Rattle.recovery_units.specs.run_model.World.{Act, Changes, File, Node, acted, changed_file, find_branch, find_file, with_image, AreUnitsOf}
+use Rattle.recovery_units.proofs.world_laws.AnswerLemmas.{neither, not_refused}
+use Rattle.recovery_units.proofs.world_laws.HeldLemmas.{IsFreeFor, free_for}
+use Rattle.recovery_units.proofs.world_laws.RoomLemmas.{changes_have_room}
+use Rattle.recovery_units.proofs.world_laws.UndoLemmas.{kept_up}
+use Rattle.recovery_units.specs.world_laws.Restarts.{AreHeld}
+use Rattle.unit_world.specs.restart_laws.Units.{MayChange}
 use Rattle.unit_laws.specs.Units.{is_free}
 use Rattle.lmcp_log.specs.Keeping.{SameSlots}
-use Rattle.volume_laws.proofs.ToldLemmas.{logs_follow}
-use Rattle.directory_model.specs.Files.{AgreesOnFile, AreFiles, IsCarried, IsFile, IsFoundAt, IsNamed, IsWithin, file_at, head_at, organized_by}
-use Rattle.directory_model.specs.Laws.{IsChanged, carrying, changed_buckets, spelled_entry}
-use Rattle.directory_model.specs.Restoring.{AreRestorable}
-use Rattle.directory_model.proofs.Acts.{keeps_files}
-use Rattle.directory_model.proofs.Finding.{finds_files}
-use Rattle.directory_model.proofs.Standing.{stands_on_extents}
-use Rattle.restart_laws.proofs.ChangingLemmas.{changes_restorable}
-use Rattle.restart_laws.proofs.StayLemmas.{keeps_restorable}
+use Rattle.unit_world.proofs.volume_laws.ToldLemmas.{logs_follow}
+use Rattle.unit_world.specs.directory_model.Files.{AgreesOnFile, AreFiles, IsCarried, IsFile, IsFoundAt, IsNamed, IsWithin, file_at, head_at, organized_by}
+use Rattle.unit_world.specs.directory_model.Laws.{IsChanged, carrying, changed_buckets, spelled_entry}
+use Rattle.unit_world.specs.directory_model.Restoring.{AreRestorable}
+use Rattle.unit_world.proofs.directory_model.Acts.{keeps_files}
+use Rattle.unit_world.proofs.directory_model.Finding.{finds_files}
+use Rattle.unit_world.proofs.directory_model.Standing.{stands_on_extents}
+use Rattle.unit_world.proofs.restart_laws.ChangingLemmas.{changes_restorable}
+use Rattle.unit_world.proofs.restart_laws.StayLemmas.{keeps_restorable}
 use Rattle.script_model.specs.Statements.{Operation}
-use Rattle.file_images.specs.Images as images
-use Rattle.volume_model.specs.Entries.{entry_for}
-use Rattle.volume_model.specs.Laws.{KeepsNames}
-use Rattle.volume_model.specs.Volumes.{HasJournal, HasLog, HasVolume}
-use Rattle.volume_laws.proofs.FollowLemmas.{follow}
+use Rattle.unit_world.specs.file_images.Images as images
+use Rattle.recovery_units.specs.volume_model.Entries.{entry_for}
+use Rattle.recovery_units.specs.volume_model.Laws.{KeepsNames}
+use Rattle.recovery_units.specs.volume_model.Volumes.{HasJournal, HasLog, HasVolume}
+use Rattle.unit_world.proofs.volume_laws.FollowLemmas.{follow}
 use Rattle.recovery_units.specs.Calls.{IsNumbered, KeepsUp, change_said, unit_act, unit_refused_after_reading, unit_refused_before_reading}
 use Rattle.recovery_units.specs.State.{AreLocks, IsKept, IsOfBranch}
 use Rattle.unit_world.proofs.Blocks.{same_names}
 use Rattle.rms_units.specs.Calls as rms
-use Rattle.key_changes.specs.Changing as changing
-use Rattle.key_changes.specs.Changing.{after_change, before_change, need_of}
-use Rattle.key_changes.specs.declared.asked.KeyChange.{KeyChange}
-use Rattle.key_changes.specs.declared.asked.KeyChange.TheVariants as change
-use Rattle.key_changes.specs.Keys.{change_in, key_in}
+use Rattle.rms_units.specs.key_changes.Changing as changing
+use Rattle.rms_units.specs.key_changes.Changing.{after_change, before_change, need_of}
+use Rattle.rms_units.specs.key_changes.declared.asked.KeyChange.{KeyChange}
+use Rattle.rms_units.specs.key_changes.declared.asked.KeyChange.TheVariants as change
+use Rattle.rms_units.specs.key_changes.Keys.{change_in, key_in}
 use Rattle.rms_units.specs.Making.{EntersKey}
 use Rattle.rms_units.specs.State as state
 use Rattle.rms_units.specs.State.{IsEarly, IsInOrder}
 use Rattle.rms_units.proofs.OrderLemmas.{sound_longer}
 use Rattle.rms_units.proofs.RoomLemmas.{room_for}
-use Rattle.unit_cuts.proofs.EntrySizes.{spelled_size}
+use Rattle.rms_units.proofs.unit_cuts.EntrySizes.{spelled_size}
 use Rattle.log_laws.specs.Slots.{Slots}
 use Rattle.commit_protocol.specs.Allowed.{is_prepared}
-use Rattle.world_laws.specs.Nodes.{IsUp}
+use Rattle.recovery_units.specs.world_laws.Nodes.{IsUp}
 use Rattle.node_units.specs.Seen.{seen}
 use Rattle.node_units.proofs.AskedKey.{AsksKey}
 use Rattle.node_units.proofs.BranchChanges.{MayMake, frees, held_live, held_locked, may_change, order_after, units_after}
 use Rattle.node_units.proofs.Branches.{found_there}
 use Rattle.node_units.proofs.EnteredKey.{entered_files, entered_journal, entered_slots, entered_tells}
 use Rattle.node_units.proofs.Holding.{once_of}
-use Rattle.image_appends.specs.declared.side.Side.TheVariants.{After, Before}
-use Rattle.image_appends.specs.Images.{content_with_both, heads_with_both, span_of}
-use Rattle.image_groups.specs.Groups.{Enters, MayEnter}
-use Rattle.image_groups.proofs.Sides.{enters_change}
-use Rattle.image_room.specs.Room.{images_refused}
-use Rattle.image_room.proofs.Keeping.{afters_have_room, befores_have_room, room_to_change}
+use Rattle.recovery_units.specs.image_appends.declared.side.Side.TheVariants.{After, Before}
+use Rattle.recovery_units.specs.image_appends.Images.{content_with_both, heads_with_both, span_of}
+use Rattle.undo_laws.specs.image_groups.Groups.{Enters, MayEnter}
+use Rattle.undo_laws.proofs.image_groups.Sides.{enters_change}
+use Rattle.recovery_units.specs.image_room.Room.{images_refused}
+use Rattle.recovery_units.proofs.image_room.Keeping.{afters_have_room, befores_have_room, room_to_change}
 use Rattle.recovery_model.specs.Journal.{Changed}
-use Rattle.restart_laws.specs.Restorable.{SameLive}
-use Rattle.directory_model.proofs.Entering.{enters_images}
-use Rattle.unit_entries.specs.Keys.{key_in as key_in_file}
+use Rattle.unit_world.specs.restart_laws.Restorable.{SameLive}
+use Rattle.unit_world.proofs.directory_model.Entering.{enters_images}
+use Rattle.recovery_units.specs.unit_entries.Keys.{key_in as key_in_file}
 use Rattle.undo_laws.proofs.NoteLemmas.{key_read}
 use Rattle.volume.specs.Limits.{data_area}
 use Rattle.volume_format.specs.Head.{IsHead}

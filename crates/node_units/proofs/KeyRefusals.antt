@@ -13,28 +13,28 @@ use Rattle.vms_model.specs.Keys.{Key, Number, Text, End}
 use Rattle.volume.specs.State.{VolumeState}
 use Rattle.records_model.specs.Records.{Change}
 use Rattle.records_model.specs.Slots.{size_of}
-use Rattle.record_files.specs.Any.{map_of}
+use Rattle.volume_files.specs.record_files.Any.{map_of}
 use Rattle.record_operations.specs.Asking.{file_in, is_of_key, written}
 use Rattle.record_operations.specs.Causes.{Cause, Changes, JournalFull, NotForUnits, cause_if, first_cause}
 use Rattle.record_operations.specs.Forms as form
 use Rattle.record_operations.specs.declared.ops.RecordOp.{RecordOp}
-use Rattle.unit_journal.specs.Entries as spelled
-use Rattle.unit_journal.specs.Room as room
+use Rattle.rms_units.specs.unit_journal.Entries as spelled
+use Rattle.rms_units.specs.unit_journal.Room as room
 use Rattle.unit_laws.specs.Journal as journal
 use Rattle.unit_laws.specs.Journal.{RecoveryUnit, find_unit, is_settled_in, units_in}
 use Rattle.unit_table.specs.Places.{AreInOrder}
 use Rattle.unit_table.specs.Units.{OpenUnit, has_changed, unit_at}
-use Rattle.run_model.specs.Answers as answers
-use Rattle.run_model.specs.Answers.{found_refused, free_journal, images_full, is_marked, journal_full, journal_need, keys_refused, more_changes, more_locks}
-use Rattle.run_model.specs.Operations.{changes_of, data_refused, file_full, first_of, form_refused, keys_asked, keys_held, refused_if, set_in}
-use Rattle.run_model.specs.World.{File, Node, changes_made, find_branch, find_file}
-use Rattle.directory_model.specs.Files.{IsCarried, IsFile, IsFoundAt, IsNamed, file_at, head_at}
-use Rattle.directory_model.proofs.Reading.{reads_files}
+use Rattle.recovery_units.specs.run_model.Answers as answers
+use Rattle.recovery_units.specs.run_model.Answers.{found_refused, free_journal, images_full, is_marked, journal_full, journal_need, keys_refused, more_changes, more_locks}
+use Rattle.recovery_units.specs.run_model.Operations.{changes_of, data_refused, file_full, first_of, form_refused, keys_asked, keys_held, refused_if, set_in}
+use Rattle.recovery_units.specs.run_model.World.{File, Node, changes_made, find_branch, find_file}
+use Rattle.unit_world.specs.directory_model.Files.{IsCarried, IsFile, IsFoundAt, IsNamed, file_at, head_at}
+use Rattle.unit_world.proofs.directory_model.Reading.{reads_files}
 use Rattle.script_model.specs.Statements.{Operation}
 use Rattle.volume_files.proofs.Places.{fits_at}
 use Rattle.rms_units.proofs.OrderLemmas.{placed_in}
-use Rattle.directory_model.proofs.Finding.{finds_files}
-use Rattle.image_room.specs.Room.{images_refused}
+use Rattle.unit_world.proofs.directory_model.Finding.{finds_files}
+use Rattle.recovery_units.specs.image_room.Room.{images_refused}
 use Rattle.recovery_model.specs.File.{all_of}
 use Rattle.recovery_model.specs.Images.{afters, befores}
 use Rattle.recovery_model.specs.Journal.{is_settled}
@@ -50,16 +50,16 @@ use Rattle.recovery_units.specs.Calls.{IsNumbered, cause_line, change_said, unit
 use Rattle.recovery_units.specs.State.{IsKept, IsOfBranch, are_there}
 use Rattle.recovery_units.proofs.FormLemmas.{forms, line_if, lines_first}
 use Rattle.rms_units.specs.Calls as rms
-use Rattle.key_changes.specs.Changing as changing
-use Rattle.key_changes.specs.Changing.{before_change, need_of}
-use Rattle.key_changes.specs.Keys.{change_in, key_in}
+use Rattle.rms_units.specs.key_changes.Changing as changing
+use Rattle.rms_units.specs.key_changes.Changing.{before_change, need_of}
+use Rattle.rms_units.specs.key_changes.Keys.{change_in, key_in}
 use Rattle.rms_units.specs.State as state
 use Rattle.rms_units.specs.State.{IsInOrder}
-use Rattle.key_changes.specs.declared.asked.KeyChange.{KeyChange}
-use Rattle.key_changes.specs.declared.asked.KeyChange.TheVariants as how
+use Rattle.rms_units.specs.key_changes.declared.asked.KeyChange.{KeyChange}
+use Rattle.rms_units.specs.key_changes.declared.asked.KeyChange.TheVariants as how
 use Rattle.log_laws.specs.Slots.{Slots}
 use Rattle.commit_protocol.specs.Allowed.{is_prepared}
-use Rattle.world_laws.specs.Nodes.{IsUp}
+use Rattle.recovery_units.specs.world_laws.Nodes.{IsUp}
 use Rattle.node_units.specs.Seen.{seen}
 use Rattle.node_units.proofs.AskedKey.{AsksKey, asks_key}
 use Rattle.node_units.proofs.Holding.{once_of}

@@ -9,17 +9,17 @@ use Rattle.lmcp_log.specs.Keeping.{Keeps}
 use Rattle.lmcp_log.specs.Log.{OnlyRead, with_few_prepared}
 use Rattle.log_laws.specs.Slots.{Slots}
 use Rattle.record_locks.specs.Locks.{Lock}
-use Rattle.unit_aborts.specs.Reopening.{reading}
-use Rattle.unit_aborts.specs.declared.reopening.AbortedUnit.{AbortedUnit}
-use Rattle.unit_journal.specs.Groups.{LeavesOld}
-use Rattle.unit_restarts.specs.Restarting.{RestartTold, Restarts, RestartsNot, undoing}
+use Rattle.rms_units.specs.unit_aborts.Reopening.{reading}
+use Rattle.rms_units.specs.unit_aborts.declared.reopening.AbortedUnit.{AbortedUnit}
+use Rattle.rms_units.specs.unit_journal.Groups.{LeavesOld}
+use Rattle.rms_units.specs.unit_restarts.Restarting.{RestartTold, Restarts, RestartsNot, undoing}
 use Rattle.unit_table.specs.Units.{Units, owed}
-use Rattle.run_model.specs.World.{Node}
+use Rattle.recovery_units.specs.run_model.World.{Node}
 use Rattle.volume.specs.Catalogs.{IsSound, TellsCatalog}
 use Rattle.volume.specs.State.{Holds, VolumeState}
-use Rattle.image_room.specs.Room.{AllSettlementsFit, images_end}
+use Rattle.recovery_units.specs.image_room.Room.{AllSettlementsFit, images_end}
 use Rattle.volume.specs.declared.catalog.Catalog.{Catalog}
-use Rattle.volume_model.specs.Volumes.{LeavesVolume}
+use Rattle.recovery_units.specs.volume_model.Volumes.{LeavesVolume}
 use Rattle.recovery_units.specs.Calls.{IsRestarting, ReopensErr, ReopensOk}
 use Rattle.recovery_units.specs.State.{IsEarly}
 use Rattle.recovery_units.specs.Told.{ReopenedTold}

@@ -10,8 +10,8 @@ use Rattle.vms_model.specs.Keys.{Key}
 use Rattle.records_model.specs.Records.{key_cmp}
 use Rattle.records_model.specs.History.{same_id}
 use Rattle.record_locks.specs.Locks as table
-use Rattle.run_model.specs.Locks as world
-use Rattle.directory_model.specs.Files.{head_at}
+use Rattle.recovery_units.specs.run_model.Locks as world
+use Rattle.unit_world.specs.directory_model.Files.{head_at}
 use Rattle.recovery_units.specs.State.{AreLocks, IsLock}
 
 -- no two files have one name

@@ -31,10 +31,10 @@ use Rattle.volume.specs.Catalogs.{IsSound, TellsCatalog, TellsEntry}
 use Rattle.volume.specs.Limits.{data_area}
 use Rattle.volume.specs.State.{VolumeState}
 use Rattle.volume_format.specs.Home.{HasHome, HasRu, sizes_of}
-use Rattle.directory_model.specs.Files.{AgreesOnFile, head_at}
-use Rattle.directory_model.proofs.Apart.{writes_apart}
-use Rattle.file_images.specs.Files.{SameRing}
-use Rattle.unit_votes.specs.Logging.{SetsRecord, nothing, written}
+use Rattle.unit_world.specs.directory_model.Files.{AgreesOnFile, head_at}
+use Rattle.unit_world.proofs.directory_model.Apart.{writes_apart}
+use Rattle.unit_world.specs.file_images.Files.{SameRing}
+use Rattle.rms_units.specs.unit_votes.Logging.{SetsRecord, nothing, written}
 use Rattle.unit_world.proofs.Blocks.{fit, other_block, whole_set}
 
 abbrev Content : Type 0

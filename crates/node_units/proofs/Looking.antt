@@ -15,18 +15,18 @@ use Rattle.record_operations.specs.declared.errors.RecErr.{RecErr}
 use Rattle.record_operations.specs.declared.errors.RecErr.TheVariants as err
 use Rattle.record_operations.specs.declared.ops.ReadOp.{ReadOp}
 use Rattle.record_operations.specs.declared.ops.ReadOp.TheVariants as read
-use Rattle.record_files.specs.Any.{map_of}
-use Rattle.run_model.specs.Answers.{found_refused, held_against, keys_refused}
-use Rattle.run_model.specs.Locks.{holder}
-use Rattle.run_model.specs.Operations as said
-use Rattle.run_model.specs.Operations.{at_end, first_of, key_found, keys_asked, record_in}
-use Rattle.run_model.specs.World.{File, Node}
-use Rattle.directory_model.specs.Files.{IsFile, head_at}
-use Rattle.directory_model.proofs.Reading.{reads_files}
+use Rattle.volume_files.specs.record_files.Any.{map_of}
+use Rattle.recovery_units.specs.run_model.Answers.{found_refused, held_against, keys_refused}
+use Rattle.recovery_units.specs.run_model.Locks.{holder}
+use Rattle.recovery_units.specs.run_model.Operations as said
+use Rattle.recovery_units.specs.run_model.Operations.{at_end, first_of, key_found, keys_asked, record_in}
+use Rattle.recovery_units.specs.run_model.World.{File, Node}
+use Rattle.unit_world.specs.directory_model.Files.{IsFile, head_at}
+use Rattle.unit_world.proofs.directory_model.Reading.{reads_files}
 use Rattle.recovery_units.specs.Calls.{cause_line, read_said}
 use Rattle.recovery_units.specs.State.{AreLocks}
 use Rattle.recovery_units.proofs.FormLemmas.{lines_first}
-use Rattle.key_changes.specs.Changing as rms
+use Rattle.rms_units.specs.key_changes.Changing as rms
 use Rattle.rms_units.specs.Reading.{FindsNone, missing}
 use Rattle.node_units.proofs.Locking.{AreOnce}
 use Rattle.node_units.proofs.Refusing.{held_by}

@@ -21,23 +21,23 @@ use Rattle.unit_laws.proofs.TrimLemmas.{found_onto, had_after, had_onto, settles
 use Rattle.unit_table.specs.Places.{AreInOrder}
 use Rattle.unit_table.specs.Units.{OpenUnit, earliest, unit_at}
 use Rattle.unit_table.proofs.OrderLemmas.{at_below, gone_in_order}
-use Rattle.unit_journal.specs.Entries.{settled_entry}
-use Rattle.unit_journal.specs.Settling.{MakesSettlement, entry_if, span_with}
-use Rattle.unit_journal.proofs.EntryLemmas.{settled_is}
+use Rattle.rms_units.specs.unit_journal.Entries.{settled_entry}
+use Rattle.rms_units.specs.unit_journal.Settling.{MakesSettlement, entry_if, span_with}
+use Rattle.rms_units.proofs.unit_journal.EntryLemmas.{settled_is}
 use Rattle.commit_protocol.specs.Table.{Branch}
 use Rattle.commit_protocol.specs.World.{In}
 use Rattle.commit_protocol.specs.Messages.{LogRecord}
 use Rattle.commit_protocol.specs.Table.{Key, Settles, find, same_key}
 use Rattle.commit_protocol.proofs.Lists.{find-key, same_key-true}
 use Rattle.log_laws.specs.Slots.{Slots}
-use Rattle.run_model.specs.World.{Node, Settlement, Tables, acted, settlement}
-use Rattle.world_laws.specs.Nodes.{IsUp}
-use Rattle.world_laws.specs.Running.{AreEntriesOf}
-use Rattle.world_laws.proofs.FindLemmas.{some_is}
-use Rattle.world_laws.proofs.IdLemmas.{each_at, id_itself}
-use Rattle.world_laws.proofs.TableLemmas.{found_in}
-use Rattle.settlement_laws.specs.Settled.{Makes, MaySettle}
-use Rattle.volume_model.specs.Homes.{settlement_of}
+use Rattle.recovery_units.specs.run_model.World.{Node, Settlement, Tables, acted, settlement}
+use Rattle.recovery_units.specs.world_laws.Nodes.{IsUp}
+use Rattle.recovery_units.specs.world_laws.Running.{AreEntriesOf}
+use Rattle.recovery_units.proofs.world_laws.FindLemmas.{some_is}
+use Rattle.recovery_units.proofs.world_laws.IdLemmas.{each_at, id_itself}
+use Rattle.recovery_units.proofs.world_laws.TableLemmas.{found_in}
+use Rattle.undo_laws.specs.settlement_laws.Settled.{Makes, MaySettle}
+use Rattle.recovery_units.specs.volume_model.Homes.{settlement_of}
 use Rattle.rms_units.specs.Calls.{is_some_change}
 use Rattle.rms_units.specs.State as rms
 use Rattle.rms_units.proofs.RoomLemmas.{room_to_settle}

@@ -12,24 +12,24 @@ use Rattle.records_model.specs.History.{LiveChanges, changed_it, changes_by, sam
 use Rattle.file_base.specs.declared.head.FileHead.{FileHead}
 use Rattle.journal_model.specs.Entries.{Entry, spelling}
 use Rattle.journal_model.specs.Ring.{IsJournal}
-use Rattle.run_model.specs.World.{AreUnitsOf, File, Node}
-use Rattle.directory_model.specs.Files.{file_at, head_at}
-use Rattle.directory_model.specs.Restoring.{IsPlaceLeft}
-use Rattle.directory_model.proofs.Places.{within_list}
+use Rattle.recovery_units.specs.run_model.World.{AreUnitsOf, File, Node}
+use Rattle.unit_world.specs.directory_model.Files.{file_at, head_at}
+use Rattle.unit_world.specs.directory_model.Restoring.{IsPlaceLeft}
+use Rattle.unit_world.proofs.directory_model.Places.{within_list}
 use Rattle.undo_laws.proofs.EnteredLemmas.{entries_stand}
-use Rattle.unit_aborts.specs.Reopening.{AreFound}
-use Rattle.unit_entries.specs.Collecting.{AreChangesAt}
-use Rattle.unit_entries.specs.Opening.{AreFilesAt, AreFilesOf, files_in, files_onto}
-use Rattle.unit_entries.specs.Reading as entries
-use Rattle.unit_entries.specs.Reading.{changes_of, is_change_of, placed}
-use Rattle.unit_entries.proofs.KeyLemmas.{number_is, number_itself}
+use Rattle.rms_units.specs.unit_aborts.Reopening.{AreFound}
+use Rattle.recovery_units.specs.unit_entries.Collecting.{AreChangesAt}
+use Rattle.recovery_units.specs.unit_entries.Opening.{AreFilesAt, AreFilesOf, files_in, files_onto}
+use Rattle.recovery_units.specs.unit_entries.Reading as entries
+use Rattle.recovery_units.specs.unit_entries.Reading.{changes_of, is_change_of, placed}
+use Rattle.undo_laws.proofs.unit_entries.KeyLemmas.{number_is, number_itself}
 use Rattle.unit_laws.specs.Journal.{ChangeEntry, Journal, JournalEntry, Note, PreparedEntry, RecoveryUnit, SettledEntry, find_unit, is_of_units, is_settled_in, note_of, notes_in, notes_of, units_in}
 use Rattle.unit_laws.specs.JournalLaws.{HasNotes, is_unit}
 use Rattle.unit_table.specs.Units.{no_files}
 use Rattle.volume.specs.State.{VolumeState}
-use Rattle.volume_model.specs.Entries.{AreEntries, IsFileOf, entry_for}
-use Rattle.volume_model.specs.Volumes.{LeavesVolume}
-use Rattle.world_laws.proofs.IdLemmas.{id_is}
+use Rattle.recovery_units.specs.volume_model.Entries.{AreEntries, IsFileOf, entry_for}
+use Rattle.recovery_units.specs.volume_model.Volumes.{LeavesVolume}
+use Rattle.recovery_units.proofs.world_laws.IdLemmas.{id_is}
 use Rattle.recovery_units.specs.State.{changed_at, is_change_by}
 use Rattle.node_units.proofs.Positions.{changes_of_units}
 

@@ -8,16 +8,16 @@ use Rattle.file_base.specs.declared.head.FileHead.{FileHead}
 use Rattle.file_base.specs.declared.head.Organization.{Organization as Kept}
 use Rattle.file_base.specs.declared.head.Organization.TheVariants as kept
 use Rattle.vms_model.specs.Keys.{Key, Number, Text, End}
-use Rattle.record_files.specs.Any.{FormBy, LaidOutBy, SuitsBy, TakesBy, map_by}
-use Rattle.seq_file.specs.Layout as sequential
-use Rattle.seq_file.specs.Records.{record_at}
-use Rattle.seq_file.proofs.RecordLaws.{record_at_past}
-use Rattle.relative_file.specs.Cells as relative
-use Rattle.indexed_file.specs.Chain as slots
-use Rattle.indexed_tree.specs.Files as indexed
-use Rattle.world_laws.specs.Ordered.{IsImageOf, IsKeyOf}
-use Rattle.directory_model.specs.Files.{IsWithin, organized_by}
-use Rattle.restart_laws.proofs.FoundLemmas.{Keeps, cell_suits, record_is, slot_suits}
+use Rattle.volume_files.specs.record_files.Any.{FormBy, LaidOutBy, SuitsBy, TakesBy, map_by}
+use Rattle.volume_files.specs.seq_file.Layout as sequential
+use Rattle.volume_files.specs.seq_file.Records.{record_at}
+use Rattle.rms_units.proofs.seq_file.RecordLaws.{record_at_past}
+use Rattle.volume_files.specs.relative_file.Cells as relative
+use Rattle.volume_files.specs.indexed_file.Chain as slots
+use Rattle.volume_files.specs.indexed_tree.Files as indexed
+use Rattle.recovery_units.specs.world_laws.Ordered.{IsImageOf, IsKeyOf}
+use Rattle.unit_world.specs.directory_model.Files.{IsWithin, organized_by}
+use Rattle.unit_world.proofs.restart_laws.FoundLemmas.{Keeps, cell_suits, record_is, slot_suits}
 
 abbrev Content : Type 0
 Content = List (List ℕ)

@@ -2,8 +2,8 @@
 use Rattle.std.proofs.Common.{◌≡◌, ◌∙◌, ℕ, ◌-◌, ◌≤◌, List, [], ◌∷◌, Option, Some, None, length, map, get_or, take, drop, refl, sym, ap, arith}
 use Rattle.std.proofs.Math.Seq.{take-length}
 use Rattle.std.specs.List.{AllByRecursion}
-use Rattle.unit_aborts.specs.Growing.{AreTold}
-use Rattle.unit_aborts.specs.declared.reopening.AbortedUnit.{AbortedUnit}
+use Rattle.rms_units.specs.unit_aborts.Growing.{AreTold}
+use Rattle.rms_units.specs.unit_aborts.declared.reopening.AbortedUnit.{AbortedUnit}
 use Rattle.unit_table.specs.Places.{AreInOrder, count_at, occurrences}
 use Rattle.unit_table.specs.Units.{OpenUnit, begun, no_units, unit_at}
 use Rattle.unit_table.proofs.OrderLemmas.{all_none, taken_is, units_many}

@@ -9,8 +9,8 @@ use Rattle.vms_model.specs.Transactions.{Outcome}
 use Rattle.records_model.specs.History.{same_id}
 use Rattle.unit_laws.specs.Journal.{ChangeEntry, Journal, JournalEntry, PreparedEntry, RecoveryUnit, SettledEntry, entries_from, entries_size, entry_size, find_unit, is_of_units, is_settled_in, is_settling, trimmed, units_in, with_entries, with_settled}
 use Rattle.unit_laws.proofs.TrimLemmas.{found_onto, had_after, had_onto, trimmed_size}
-use Rattle.world_laws.proofs.IdLemmas.{id_is}
-use Rattle.restart_laws.proofs.ListLemmas.{all_as}
+use Rattle.recovery_units.proofs.world_laws.IdLemmas.{id_is}
+use Rattle.unit_world.proofs.restart_laws.ListLemmas.{all_as}
 use Rattle.recovery_units.specs.State.{is_change_by, positions_of}
 
 -- a branch that changed something and is not settled is a unit

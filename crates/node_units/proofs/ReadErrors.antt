@@ -18,23 +18,23 @@ use Rattle.record_operations.specs.Forms as form
 use Rattle.record_operations.specs.declared.errors.RecErr.{RecErr}
 use Rattle.record_operations.specs.declared.ops.ReadOp.{ReadOp}
 use Rattle.record_operations.specs.declared.ops.ReadOp.TheVariants as read
-use Rattle.record_files.specs.Any.{map_of}
-use Rattle.run_model.specs.Answers.{found_refused, images_full, is_marked, journal_full, keys_refused, more_changes, more_locks}
-use Rattle.run_model.specs.Operations.{changes_of, file_full, first_of, form_refused, keys_asked, keys_held, refused_if}
-use Rattle.run_model.specs.World.{Act, File, Node, find_file, next_id}
-use Rattle.world_laws.proofs.FindLemmas.{found_serial}
-use Rattle.directory_model.specs.Files.{IsFile, head_at}
+use Rattle.volume_files.specs.record_files.Any.{map_of}
+use Rattle.recovery_units.specs.run_model.Answers.{found_refused, images_full, is_marked, journal_full, keys_refused, more_changes, more_locks}
+use Rattle.recovery_units.specs.run_model.Operations.{changes_of, file_full, first_of, form_refused, keys_asked, keys_held, refused_if}
+use Rattle.recovery_units.specs.run_model.World.{Act, File, Node, find_file, next_id}
+use Rattle.recovery_units.proofs.world_laws.FindLemmas.{found_serial}
+use Rattle.unit_world.specs.directory_model.Files.{IsFile, head_at}
 use Rattle.recovery_units.specs.Calls as calls
 use Rattle.recovery_units.specs.Calls.{IsAsked, IsBroken, IsNotDone, alone_refused_after_reading, alone_refused_before_reading, cause_line, read_said, unit_act, unit_refused_after_reading, unit_refused_before_reading}
 use Rattle.recovery_units.specs.State.{IsKept}
 use Rattle.recovery_units.proofs.FormLemmas.{forms, lines_first}
-use Rattle.volume_model.specs.Volumes.{HasDisk}
-use Rattle.run_model.specs.World.{fallen}
-use Rattle.world_laws.proofs.FewLemmas.{few_in}
-use Rattle.unit_journal.specs.Leaving.{FellIn}
+use Rattle.recovery_units.specs.volume_model.Volumes.{HasDisk}
+use Rattle.recovery_units.specs.run_model.World.{fallen}
+use Rattle.recovery_units.proofs.world_laws.FewLemmas.{few_in}
+use Rattle.rms_units.specs.unit_journal.Leaving.{FellIn}
 use Rattle.rms_units.specs.Calls as rms
 use Rattle.rms_units.specs.Calls.{MayLook, MayRead}
-use Rattle.key_changes.specs.Changing.{locks_refuse}
+use Rattle.rms_units.specs.key_changes.Changing.{locks_refuse}
 use Rattle.rms_units.specs.Reading.{FindsNone, read_keys}
 use Rattle.rms_units.specs.State as state
 use Rattle.rms_units.specs.State.{IsInOrder}

@@ -5,7 +5,7 @@ use Rattle.std.specs.Prelude.{option_map}
 use Rattle.vms_model.specs.Limits.{change_limit}
 use Rattle.file_base.specs.declared.head.FileHead.{FileHead}
 use Rattle.file_base.specs.declared.head.Organization.{Organization}
-use Rattle.record_files.specs.Any.{reads_by}
+use Rattle.volume_files.specs.record_files.Any.{reads_by}
 use Rattle.transcript_model.specs.Lines as line
 use Rattle.transcript_model.specs.Lines.{Line}
 use Rattle.commit_protocol.specs.Table.{Branch}
@@ -21,13 +21,13 @@ use Rattle.record_operations.specs.Causes.{Cause, cause_if, first_cause, NotForU
 use Rattle.record_operations.specs.Forms as form
 use Rattle.record_operations.specs.declared.ops.ReadOp.{ReadOp}
 use Rattle.record_operations.specs.declared.ops.ReadOp.TheVariants as read
-use Rattle.run_model.specs.Answers.{free_journal, is_marked, journal_full, more_changes, more_locks, needs_unit, images_full}
-use Rattle.run_model.specs.Operations.{changes_of, file_full, first_of, form_refused, free_buckets, keys_held, need_of, operation_answer, refused_if}
-use Rattle.run_model.specs.World.{Act, AreUnitsOf, File, Holds, Node, acted, changes_made, find_file, next_id}
-use Rattle.world_laws.proofs.FindLemmas.{found_serial}
-use Rattle.world_laws.proofs.FewLemmas.{few_in}
-use Rattle.directory_model.specs.Files.{AreFiles, IsFile, head_at}
-use Rattle.directory_model.proofs.Places.{file_there}
+use Rattle.recovery_units.specs.run_model.Answers.{free_journal, is_marked, journal_full, more_changes, more_locks, needs_unit, images_full}
+use Rattle.recovery_units.specs.run_model.Operations.{changes_of, file_full, first_of, form_refused, free_buckets, keys_held, need_of, operation_answer, refused_if}
+use Rattle.recovery_units.specs.run_model.World.{Act, AreUnitsOf, File, Holds, Node, acted, changes_made, find_file, next_id}
+use Rattle.recovery_units.proofs.world_laws.FindLemmas.{found_serial}
+use Rattle.recovery_units.proofs.world_laws.FewLemmas.{few_in}
+use Rattle.unit_world.specs.directory_model.Files.{AreFiles, IsFile, head_at}
+use Rattle.unit_world.proofs.directory_model.Places.{file_there}
 use Rattle.recovery_units.specs.Calls as calls
 use Rattle.recovery_units.specs.Calls.{IsAsked, IsAskedAlone, IsDone, IsSeen, alone_refused_after_reading, alone_refused_before_reading, cause_line, read_said, record_line, unit_act, unit_refused_after_reading, unit_refused_before_reading}
 use Rattle.recovery_units.specs.State.{IsKept, UnitsState}

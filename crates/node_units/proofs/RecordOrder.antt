@@ -4,7 +4,7 @@ use Rattle.std.specs.List.{AllByRecursion}
 use Rattle.careful_write.specs.State.{IsIdle}
 use Rattle.change_set.specs.Files.{free_frames}
 use Rattle.commit_protocol.specs.Messages.{LogRecord, same_id}
-use Rattle.image_room.specs.Room.{AllSettlementsFit}
+use Rattle.recovery_units.specs.image_room.Room.{AllSettlementsFit}
 use Rattle.journal_model.specs.Ring.{ring_size}
 use Rattle.log_laws.specs.Slots.{Slots, filled, forgotten, has_slot, put_in, replaced, settled_in}
 use Rattle.unit_table.specs.Units.{Ascend, OpenUnit}

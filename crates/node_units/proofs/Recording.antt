@@ -4,22 +4,22 @@ use Rattle.vms_model.specs.Ids.{Id}
 use Rattle.volume.specs.declared.catalog.Catalog.{Catalog}
 use Rattle.volume.specs.Catalogs.{IsSound, TellsCatalog}
 use Rattle.volume.specs.State.{VolumeState}
-use Rattle.unit_journal.specs.Groups.{Breaks}
-use Rattle.unit_votes.specs.Logging.{SetsRecord}
+use Rattle.rms_units.specs.unit_journal.Groups.{Breaks}
+use Rattle.rms_units.specs.unit_votes.Logging.{SetsRecord}
 use Rattle.commit_protocol.specs.Effects.{Effect, act_effects, line_effect}
 use Rattle.commit_protocol.specs.Messages.{LogRecord}
 use Rattle.commit_protocol.specs.Table as table
 use Rattle.commit_protocol.specs.Table.{Accepts, Acknowledges, Branch, Ended, Leaves, Line, Notes, Prepares, Prints, Releases, Sends, Settles, Started, Told, Undoes}
 use Rattle.log_laws.specs.Slots.{Slots, record_effect_in, record_effects_in}
-use Rattle.run_model.specs.World.{Durable, IsLogInOrder, Node, Tables, acted, fallen, next_moment}
-use Rattle.world_laws.specs.Nodes.{IsUp}
-use Rattle.world_laws.proofs.LogLemmas.{told_log}
-use Rattle.directory_model.proofs.Standing.{stands_on_extents}
-use Rattle.restart_laws.proofs.ListLemmas.{all_as}
-use Rattle.restart_laws.proofs.StayLemmas.{keeps_restorable}
-use Rattle.volume_laws.proofs.FollowLemmas.{follow}
-use Rattle.volume_laws.proofs.LogLemmas.{told}
-use Rattle.volume_model.specs.Volumes.{HasVolume, IsLeftBy}
+use Rattle.recovery_units.specs.run_model.World.{Durable, IsLogInOrder, Node, Tables, acted, fallen, next_moment}
+use Rattle.recovery_units.specs.world_laws.Nodes.{IsUp}
+use Rattle.recovery_units.proofs.world_laws.LogLemmas.{told_log}
+use Rattle.unit_world.proofs.directory_model.Standing.{stands_on_extents}
+use Rattle.unit_world.proofs.restart_laws.ListLemmas.{all_as}
+use Rattle.unit_world.proofs.restart_laws.StayLemmas.{keeps_restorable}
+use Rattle.unit_world.proofs.volume_laws.FollowLemmas.{follow}
+use Rattle.unit_world.proofs.volume_laws.LogLemmas.{told}
+use Rattle.recovery_units.specs.volume_model.Volumes.{HasVolume, IsLeftBy}
 use Rattle.rms_units.specs.State as rms
 use Rattle.recovery_units.specs.Calls.{Broken, Done, ForActs, MayDo}
 use Rattle.recovery_units.specs.State.{AreLocks, IsKept, IsUnitOf}

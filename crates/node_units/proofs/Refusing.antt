@@ -10,15 +10,15 @@ use Rattle.vms_model.specs.Keys.{Key}
 use Rattle.records_model.specs.History.{same_id}
 use Rattle.record_locks.specs.Locks as table
 use Rattle.record_operations.specs.Causes.{Locked, Locks, NotForUnits, cause_if}
-use Rattle.run_model.specs.Answers.{held_against, is_marked, keys_refused, more_locks}
-use Rattle.run_model.specs.Operations.{first_of, refused_if}
-use Rattle.run_model.specs.Locks.{holder}
-use Rattle.run_model.specs.World.{File, Node}
-use Rattle.directory_model.specs.Files.{IsHeadOf, head_at}
+use Rattle.recovery_units.specs.run_model.Answers.{held_against, is_marked, keys_refused, more_locks}
+use Rattle.recovery_units.specs.run_model.Operations.{first_of, refused_if}
+use Rattle.recovery_units.specs.run_model.Locks.{holder}
+use Rattle.recovery_units.specs.run_model.World.{File, Node}
+use Rattle.unit_world.specs.directory_model.Files.{IsHeadOf, head_at}
 use Rattle.recovery_units.specs.Calls.{cause_line}
 use Rattle.recovery_units.specs.State.{AreLocks}
 use Rattle.recovery_units.proofs.FormLemmas.{line_if, lines_first}
-use Rattle.key_changes.specs.Changing as rms
+use Rattle.rms_units.specs.key_changes.Changing as rms
 use Rattle.node_units.proofs.Locking.{AreOnce, holder_alike, many_alike, not_locked_alike}
 
 pub held_alike : (asking holder : Option Id) → option_map cause_line (rms.held_against asking holder) ≡ held_against asking holder

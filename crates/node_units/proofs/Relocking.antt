@@ -16,15 +16,15 @@ use Rattle.commit_protocol.specs.World.{In}
 use Rattle.unit_laws.specs.Journal.{ChangeEntry, Journal, JournalEntry, Note, PreparedEntry, RecoveryUnit, SettledEntry, entries_from, find_unit, is_of_units, is_settled_in, is_settling, notes_in, trimmed, units_in, with_entries, with_settled}
 use Rattle.unit_laws.specs.Units.{Apart}
 use Rattle.unit_laws.proofs.CurrentLemmas.{current_without}
-use Rattle.run_model.specs.Locks.{Lock, with_locks}
-use Rattle.run_model.specs.World.{Durable, File, Sequential, Relative, Indexed, Settlement, find_file, keys_left, moved_end, relocked_by, relocked_for, settled_file}
-use Rattle.world_laws.specs.Restarts.{CanRestart}
-use Rattle.world_laws.proofs.EntryLemmas.{none_settles}
-use Rattle.world_laws.proofs.FindLemmas.{mapped_file}
-use Rattle.world_laws.proofs.HeldLemmas.{found_file_name, noted_at}
-use Rattle.world_laws.proofs.HistoryLemmas.{aborted_leaves}
-use Rattle.world_laws.proofs.IdLemmas.{id_itself}
-use Rattle.world_laws.proofs.LeftLemmas.{change_unit, in_changed, note_there, noted_in, one_changed}
+use Rattle.recovery_units.specs.run_model.Locks.{Lock, with_locks}
+use Rattle.recovery_units.specs.run_model.World.{Durable, File, Sequential, Relative, Indexed, Settlement, find_file, keys_left, moved_end, relocked_by, relocked_for, settled_file}
+use Rattle.recovery_units.specs.world_laws.Restarts.{CanRestart}
+use Rattle.recovery_units.proofs.world_laws.EntryLemmas.{none_settles}
+use Rattle.recovery_units.proofs.world_laws.FindLemmas.{mapped_file}
+use Rattle.recovery_units.proofs.world_laws.HeldLemmas.{found_file_name, noted_at}
+use Rattle.recovery_units.proofs.world_laws.HistoryLemmas.{aborted_leaves}
+use Rattle.recovery_units.proofs.world_laws.IdLemmas.{id_itself}
+use Rattle.recovery_units.proofs.world_laws.LeftLemmas.{change_unit, in_changed, note_there, noted_in, one_changed}
 use Rattle.recovery_units.specs.State.{is_change_by}
 use Rattle.node_units.proofs.Positions.{changes_of_units}
 

@@ -16,33 +16,33 @@ use Rattle.journal_model.specs.Entries.{Entry}
 use Rattle.journal_model.specs.Ring.{IsJournal, ring_size}
 use Rattle.log_laws.specs.Slots.{prepared_of, records_in}
 use Rattle.ru_journal.specs.Told.{UnitTold, nothing_told, told_by}
-use Rattle.directory_model.specs.Files.{file_at}
-use Rattle.image_room.specs.Room.{ImagesAreLow}
+use Rattle.unit_world.specs.directory_model.Files.{file_at}
+use Rattle.recovery_units.specs.image_room.Room.{ImagesAreLow}
 use Rattle.volume.specs.Catalogs.{IsSound, TellsCatalog}
 use Rattle.volume.specs.State.{VolumeState}
-use Rattle.unit_aborts.specs.Reopening.{AreFound, AreLeft, AreUnits, BreaksUnit, HasTaken, Reopens, UndoesOne, aborting, broken, but_next, full, left_after, left_unit, left_units, next_of, reading, taken}
-use Rattle.unit_aborts.specs.declared.reopening.AbortedUnit.{AbortedUnit}
-use Rattle.unit_entries.specs.Opening.{AreAlike, AreFilesAt}
-use Rattle.unit_entries.specs.Reading.{AreInOrder, placed}
-use Rattle.unit_entries.specs.Reading as entries
+use Rattle.rms_units.specs.unit_aborts.Reopening.{AreFound, AreLeft, AreUnits, BreaksUnit, HasTaken, Reopens, UndoesOne, aborting, broken, but_next, full, left_after, left_unit, left_units, next_of, reading, taken}
+use Rattle.rms_units.specs.unit_aborts.declared.reopening.AbortedUnit.{AbortedUnit}
+use Rattle.recovery_units.specs.unit_entries.Opening.{AreAlike, AreFilesAt}
+use Rattle.recovery_units.specs.unit_entries.Reading.{AreInOrder, placed}
+use Rattle.recovery_units.specs.unit_entries.Reading as entries
 use Rattle.unit_laws.specs.Journal.{JournalEntry, ChangeEntry, PreparedEntry, SettledEntry, RecoveryUnit, active_units, entries_size, entry_size, find_unit, is_settled_in, owed, units_in}
 use Rattle.unit_table.specs.Units.{OpenUnit, earlier, earliest}
-use Rattle.run_model.specs.Answers.{left_active, unit_key}
-use Rattle.run_model.specs.Locks.{Lock}
-use Rattle.run_model.specs.World.{Act, Node, Settlement, Volatile, acted, booted, fallen, next_moment, prepared_left, relocked, settlement}
-use Rattle.world_laws.specs.Nodes.{AreKept, IsKeptDisk}
-use Rattle.world_laws.proofs.BootLemmas.{branch_in, left_reordered}
-use Rattle.world_laws.proofs.FewLemmas.{few_in}
-use Rattle.world_laws.proofs.LeftLemmas.{left_by}
-use Rattle.world_laws.proofs.UndoLemmas.{boot_kept, unsettled_left}
-use Rattle.world_laws.proofs.UnsettledLemmas.{units_are_unsettled}
-use Rattle.world_laws.specs.Running.{Each}
+use Rattle.recovery_units.specs.run_model.Answers.{left_active, unit_key}
+use Rattle.recovery_units.specs.run_model.Locks.{Lock}
+use Rattle.recovery_units.specs.run_model.World.{Act, Node, Settlement, Volatile, acted, booted, fallen, next_moment, prepared_left, relocked, settlement}
+use Rattle.recovery_units.specs.world_laws.Nodes.{AreKept, IsKeptDisk}
+use Rattle.recovery_units.proofs.world_laws.BootLemmas.{branch_in, left_reordered}
+use Rattle.recovery_units.proofs.world_laws.FewLemmas.{few_in}
+use Rattle.recovery_units.proofs.world_laws.LeftLemmas.{left_by}
+use Rattle.recovery_units.proofs.world_laws.UndoLemmas.{boot_kept, unsettled_left}
+use Rattle.recovery_units.proofs.world_laws.UnsettledLemmas.{units_are_unsettled}
+use Rattle.recovery_units.specs.world_laws.Running.{Each}
 use Rattle.undo_laws.proofs.FallenLemmas.{has_disk, volume_left_fallen}
-use Rattle.volume_model.specs.Volumes.{HasDisk, IsLeftBy}
-use Rattle.volume_model.specs.Entries.{AreEntries}
-use Rattle.unit_journal.specs.Groups.{LeavesOld}
-use Rattle.unit_journal.specs.Settling.{next_moment as moment_next}
-use Rattle.unit_restarts.specs.Restarting.{RestartsNot, returning, undoing}
+use Rattle.recovery_units.specs.volume_model.Volumes.{HasDisk, IsLeftBy}
+use Rattle.recovery_units.specs.volume_model.Entries.{AreEntries}
+use Rattle.rms_units.specs.unit_journal.Groups.{LeavesOld}
+use Rattle.rms_units.specs.unit_journal.Settling.{next_moment as moment_next}
+use Rattle.rms_units.specs.unit_restarts.Restarting.{RestartsNot, returning, undoing}
 use Rattle.recovery_units.specs.Calls.{IsRestarting, after_undone, settlements_of, told_in, told_settlement, undone_act, undone_next}
 use Rattle.recovery_units.specs.State.{IsEarly, changed_at, is_change_by, positions_of}
 use Rattle.recovery_units.specs.declared.settled.SettledUnit.{SettledUnit}

@@ -3,28 +3,28 @@ use Rattle.std.proofs.Common.{◌≡◌, ℕ, ◌+◌, ◌-◌, ◌<◌, ◌≤�
 use Rattle.std.specs.Option.{option_map}
 use Rattle.file_base.specs.declared.head.FileHead.{FileHead}
 use Rattle.file_base.specs.declared.head.Span.{Span}
-use Rattle.file_images.specs.Images.{entry_by}
-use Rattle.image_appends.specs.declared.side.Side.{Side}
-use Rattle.image_appends.specs.declared.side.Side.TheVariants.{After, Before}
-use Rattle.image_appends.specs.Images.{is_kept, span_of}
-use Rattle.image_groups.specs.Groups.{AreToldBy, HaveRoom, IsToldBy, MayEnter, outcome_of}
-use Rattle.image_room.specs.Room.{ImagesAreLow}
+use Rattle.unit_world.specs.file_images.Images.{entry_by}
+use Rattle.recovery_units.specs.image_appends.declared.side.Side.{Side}
+use Rattle.recovery_units.specs.image_appends.declared.side.Side.TheVariants.{After, Before}
+use Rattle.recovery_units.specs.image_appends.Images.{is_kept, span_of}
+use Rattle.undo_laws.specs.image_groups.Groups.{AreToldBy, HaveRoom, IsToldBy, MayEnter, outcome_of}
+use Rattle.recovery_units.specs.image_room.Room.{ImagesAreLow}
 use Rattle.journal_format.proofs.Decoding.{total_is}
 use Rattle.journal_model.specs.Entries.{Entry, IsEntry, spelling}
 use Rattle.journal_model.specs.Ring.{ring_size}
 use Rattle.recovery_model.specs.File.{ImageJournal, all_of}
 use Rattle.recovery_model.specs.Room.{HasRoom, unsettled_in}
 use Rattle.records_model.specs.History.{LiveChanges, changed_it, changes_by}
-use Rattle.unit_journal.specs.Entries.{settled_entry}
-use Rattle.unit_journal.proofs.EntryLemmas.{settled_is}
-use Rattle.unit_undo.specs.Undoing.{journals_of}
+use Rattle.rms_units.specs.unit_journal.Entries.{settled_entry}
+use Rattle.rms_units.proofs.unit_journal.EntryLemmas.{settled_is}
+use Rattle.undo_laws.specs.unit_undo.Undoing.{journals_of}
 use Rattle.vms_model.specs.Ids.{Id, IsId}
-use Rattle.run_model.specs.World.{AreUnitsOf, File, KeepsImages, Node, Settlement}
-use Rattle.world_laws.specs.Nodes.{FileKeepsImages}
-use Rattle.world_laws.specs.Running.{AllFound}
-use Rattle.directory_model.specs.Files.{IsCarried, file_at, head_at}
-use Rattle.directory_model.specs.Laws.{spelled_entry}
-use Rattle.directory_model.specs.Restoring.{AreLeft, IsPlaceLeft}
+use Rattle.recovery_units.specs.run_model.World.{AreUnitsOf, File, KeepsImages, Node, Settlement}
+use Rattle.recovery_units.specs.world_laws.Nodes.{FileKeepsImages}
+use Rattle.recovery_units.specs.world_laws.Running.{AllFound}
+use Rattle.unit_world.specs.directory_model.Files.{IsCarried, file_at, head_at}
+use Rattle.unit_world.specs.directory_model.Laws.{spelled_entry}
+use Rattle.unit_world.specs.directory_model.Restoring.{AreLeft, IsPlaceLeft}
 use Rattle.recovery_units.specs.State.{changed_at}
 use Rattle.unit_world.proofs.Found.{found_by}
 use Rattle.node_units.proofs.Imaging.{KeepsJournals, had_journals, kept_by, low_by, outcome_entry, span_by}

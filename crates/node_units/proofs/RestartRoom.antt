@@ -4,10 +4,10 @@ use Rattle.std.specs.Prelude.{is_some}
 use Rattle.std.specs.List.{AllByRecursion}
 use Rattle.file_base.specs.declared.head.FileHead.{FileHead}
 use Rattle.file_base.specs.declared.head.Span.{Span}
-use Rattle.image_appends.specs.declared.side.Side.{Side}
-use Rattle.image_appends.specs.declared.side.Side.TheVariants.{After, Before}
-use Rattle.image_appends.specs.Images.{is_kept, span_of}
-use Rattle.image_room.specs.Room.{AllSettlementsFit, IsTooFull, SettlementsFit}
+use Rattle.recovery_units.specs.image_appends.declared.side.Side.{Side}
+use Rattle.recovery_units.specs.image_appends.declared.side.Side.TheVariants.{After, Before}
+use Rattle.recovery_units.specs.image_appends.Images.{is_kept, span_of}
+use Rattle.recovery_units.specs.image_room.Room.{AllSettlementsFit, IsTooFull, SettlementsFit}
 use Rattle.journal_model.specs.Ring.{ring_size}
 use Rattle.recovery_model.specs.File.{ImageJournal, all_of}
 use Rattle.recovery_model.specs.Room.{HasRoom, unsettled_in}
@@ -15,21 +15,21 @@ use Rattle.records_model.specs.History.{LiveChanges, changes_by, same_id}
 use Rattle.vms_model.specs.Ids.{Id}
 use Rattle.commit_protocol.specs.World.{In}
 use Rattle.ru_journal.specs.Told.{UnitTold, find_unit as find_told}
-use Rattle.run_model.specs.World.{File, KeepsImages, Node}
-use Rattle.directory_model.specs.Files.{IsCarried, file_at, head_at}
-use Rattle.directory_model.specs.Restoring.{IsPlaceLeft}
-use Rattle.unit_aborts.specs.Reopening.{AreFoundIn}
-use Rattle.unit_entries.specs.Opening.{AreAlike, AreFiledIn}
+use Rattle.recovery_units.specs.run_model.World.{File, KeepsImages, Node}
+use Rattle.unit_world.specs.directory_model.Files.{IsCarried, file_at, head_at}
+use Rattle.unit_world.specs.directory_model.Restoring.{IsPlaceLeft}
+use Rattle.rms_units.specs.unit_aborts.Reopening.{AreFoundIn}
+use Rattle.recovery_units.specs.unit_entries.Opening.{AreAlike, AreFiledIn}
 use Rattle.unit_laws.specs.Journal.{RecoveryUnit, find_unit, is_settled_in}
 use Rattle.unit_laws.specs.JournalLaws.{is_unit}
 use Rattle.unit_table.specs.Units.{OpenUnit, changers, has_changed}
 use Rattle.unit_world.proofs.Found.{found_by}
 use Rattle.volume.specs.State.{VolumeState}
-use Rattle.volume_model.specs.Volumes.{LeavesVolume}
-use Rattle.world_laws.specs.Nodes.{FileKeepsImages}
-use Rattle.world_laws.specs.Running.{AllFound, Each}
-use Rattle.world_laws.proofs.IdLemmas.{id_is}
-use Rattle.world_laws.proofs.UnsettledLemmas.{units_are_unsettled}
+use Rattle.recovery_units.specs.volume_model.Volumes.{LeavesVolume}
+use Rattle.recovery_units.specs.world_laws.Nodes.{FileKeepsImages}
+use Rattle.recovery_units.specs.world_laws.Running.{AllFound, Each}
+use Rattle.recovery_units.proofs.world_laws.IdLemmas.{id_is}
+use Rattle.recovery_units.proofs.world_laws.UnsettledLemmas.{units_are_unsettled}
 use Rattle.recovery_units.specs.State.{changed_at}
 use Rattle.node_units.proofs.Branches.{Apart, Distinct, serials}
 use Rattle.node_units.proofs.ImagesAlike.{AllOwned, after_count, before_count, changed_is, differ, has_live, live_count, some, units_count}

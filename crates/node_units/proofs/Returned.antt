@@ -12,24 +12,24 @@ use Rattle.file_base.specs.declared.head.FileHead.{FileHead}
 use Rattle.file_base.specs.declared.head.Organization.{Organization as Kept}
 use Rattle.file_base.specs.declared.head.Organization.TheVariants as kept
 use Rattle.journal_model.specs.Entries.{Entry, has_image, spelling}
-use Rattle.record_files.specs.Any.{LaidOutBy, map_by, map_of}
+use Rattle.volume_files.specs.record_files.Any.{LaidOutBy, map_by, map_of}
 use Rattle.record_locks.specs.Locks as table
-use Rattle.run_model.specs.Locks as world
-use Rattle.run_model.specs.World.{Durable, File, find_file}
-use Rattle.run_model.specs.World as model
-use Rattle.seq_file.specs.Layout as sequential
-use Rattle.seq_file.specs.Records.{record_at}
-use Rattle.directory_model.specs.Files.{AreFiles, IsFile, file_at, head_at, organized_by}
-use Rattle.directory_model.proofs.Finding.{found_at}
-use Rattle.directory_model.proofs.Places.{file_there}
-use Rattle.unit_entries.specs.Keys.{key_in}
-use Rattle.unit_entries.specs.Reading.{changes_of, is_change_of, placed}
+use Rattle.recovery_units.specs.run_model.Locks as world
+use Rattle.recovery_units.specs.run_model.World.{Durable, File, find_file}
+use Rattle.recovery_units.specs.run_model.World as model
+use Rattle.volume_files.specs.seq_file.Layout as sequential
+use Rattle.volume_files.specs.seq_file.Records.{record_at}
+use Rattle.unit_world.specs.directory_model.Files.{AreFiles, IsFile, file_at, head_at, organized_by}
+use Rattle.unit_world.proofs.directory_model.Finding.{found_at}
+use Rattle.unit_world.proofs.directory_model.Places.{file_there}
+use Rattle.recovery_units.specs.unit_entries.Keys.{key_in}
+use Rattle.recovery_units.specs.unit_entries.Reading.{changes_of, is_change_of, placed}
 use Rattle.unit_laws.specs.Journal.{ChangeEntry, JournalEntry, PreparedEntry, SettledEntry}
-use Rattle.unit_returns.specs.Locking as locking
-use Rattle.unit_returns.specs.Locking.{keys_with_end, moves_end}
-use Rattle.file_images.specs.Images.{key_bytes}
-use Rattle.volume_model.specs.Entries.{AreEntries, IsFileOf, entry_for}
-use Rattle.world_laws.specs.Ordered.{IsKeyOf, Suits}
+use Rattle.rms_units.specs.unit_returns.Locking as locking
+use Rattle.rms_units.specs.unit_returns.Locking.{keys_with_end, moves_end}
+use Rattle.unit_world.specs.file_images.Images.{key_bytes}
+use Rattle.recovery_units.specs.volume_model.Entries.{AreEntries, IsFileOf, entry_for}
+use Rattle.recovery_units.specs.world_laws.Ordered.{IsKeyOf, Suits}
 use Rattle.recovery_units.specs.State.{AreLocks}
 use Rattle.node_units.proofs.Locking.{AreOnce, locks_more}
 

@@ -7,10 +7,10 @@ use Rattle.std.proofs.lemmas.List.Elements.{All-cons, All-nil}
 use Rattle.volume.specs.State.{VolumeState}
 use Rattle.volume.specs.declared.catalog.Catalog.{Catalog}
 use Rattle.file_base.specs.declared.head.FileHead.{FileHead}
-use Rattle.image_appends.specs.declared.side.Side.{Side}
-use Rattle.image_appends.specs.declared.side.Side.TheVariants.{After, Before}
-use Rattle.image_appends.specs.Images.{span_of}
-use Rattle.image_room.specs.Room.{AllSettlementsFit, ImagesAreLow, SettlementsFit, images_end}
+use Rattle.recovery_units.specs.image_appends.declared.side.Side.{Side}
+use Rattle.recovery_units.specs.image_appends.declared.side.Side.TheVariants.{After, Before}
+use Rattle.recovery_units.specs.image_appends.Images.{span_of}
+use Rattle.recovery_units.specs.image_room.Room.{AllSettlementsFit, ImagesAreLow, SettlementsFit, images_end}
 use Rattle.volume.specs.Catalogs.{head_at}
 use Rattle.log_laws.specs.Slots.{Slots}
 use Rattle.journal_model.specs.Ring.{ring_size}

@@ -13,18 +13,18 @@ use Rattle.volume.specs.Catalogs.{IsSound, TellsCatalog}
 use Rattle.volume.specs.State.{Holds, VolumeState}
 use Rattle.volume_files.specs.Staging.{SetsKey, StagesFile, is_of_file}
 use Rattle.records_model.specs.Records.{Change}
-use Rattle.run_model.specs.Locks.{is_locked}
-use Rattle.run_model.specs.World.{Node}
-use Rattle.directory_model.specs.Files.{AgreesOnCarried, head_at}
-use Rattle.directory_model.specs.Laws.{IsChanged, SameBut}
-use Rattle.volume_model.specs.Homes.{HasHome}
-use Rattle.volume_model.specs.Laws.{KeepsNames}
-use Rattle.volume_model.specs.Volumes.{HasJournal, HasLog}
+use Rattle.recovery_units.specs.run_model.Locks.{is_locked}
+use Rattle.recovery_units.specs.run_model.World.{Node}
+use Rattle.unit_world.specs.directory_model.Files.{AgreesOnCarried, head_at}
+use Rattle.unit_world.specs.directory_model.Laws.{IsChanged, SameBut}
+use Rattle.recovery_units.specs.volume_model.Homes.{HasHome}
+use Rattle.recovery_units.specs.volume_model.Laws.{KeepsNames}
+use Rattle.recovery_units.specs.volume_model.Volumes.{HasJournal, HasLog}
 use Rattle.lmcp_log.specs.Keeping.{SameSlots}
-use Rattle.volume_laws.proofs.ToldLemmas.{logs_follow}
-use Rattle.file_images.specs.Files.{SameRing}
-use Rattle.volume_laws.proofs.FollowLemmas.{follow}
-use Rattle.unit_undo.proofs.ApartLemmas.{carried_keep, journal_off, others_keep}
+use Rattle.unit_world.proofs.volume_laws.ToldLemmas.{logs_follow}
+use Rattle.unit_world.specs.file_images.Files.{SameRing}
+use Rattle.unit_world.proofs.volume_laws.FollowLemmas.{follow}
+use Rattle.undo_laws.proofs.unit_undo.ApartLemmas.{carried_keep, journal_off, others_keep}
 use Rattle.unit_world.proofs.Staying.{names_set}
 use Rattle.recovery_units.specs.State.{AreLocks}
 use Rattle.node_units.proofs.Locking.{AreOnce, locked_alike}

@@ -16,20 +16,20 @@ use Rattle.commit_protocol.specs.Messages.{LogRecord}
 use Rattle.commit_protocol.specs.Table.{Branch, Key, Settles, find}
 use Rattle.commit_protocol.proofs.Lists.{find-key}
 use Rattle.log_laws.specs.Slots.{settled_in}
-use Rattle.run_model.specs.World.{File, Node, Settlement, Tables, acted, settled_file, settlement, tid_in}
-use Rattle.world_laws.specs.Nodes.{IsUp}
-use Rattle.world_laws.specs.Running.{AreEntriesOf, Each}
-use Rattle.world_laws.proofs.EntryLemmas.{all_settled}
-use Rattle.world_laws.proofs.HistoryLemmas.{by_settled}
-use Rattle.world_laws.proofs.IdLemmas.{id_is, id_other}
-use Rattle.world_laws.proofs.TableLemmas.{found_in}
-use Rattle.directory_model.specs.Files.{file_at}
-use Rattle.directory_model.proofs.Places.{file_mapped}
-use Rattle.restart_laws.proofs.ListLemmas.{both_as}
-use Rattle.settlement_laws.specs.Settled.{MaySettle}
+use Rattle.recovery_units.specs.run_model.World.{File, Node, Settlement, Tables, acted, settled_file, settlement, tid_in}
+use Rattle.recovery_units.specs.world_laws.Nodes.{IsUp}
+use Rattle.recovery_units.specs.world_laws.Running.{AreEntriesOf, Each}
+use Rattle.recovery_units.proofs.world_laws.EntryLemmas.{all_settled}
+use Rattle.recovery_units.proofs.world_laws.HistoryLemmas.{by_settled}
+use Rattle.recovery_units.proofs.world_laws.IdLemmas.{id_is, id_other}
+use Rattle.recovery_units.proofs.world_laws.TableLemmas.{found_in}
+use Rattle.unit_world.specs.directory_model.Files.{file_at}
+use Rattle.unit_world.proofs.directory_model.Places.{file_mapped}
+use Rattle.unit_world.proofs.restart_laws.ListLemmas.{both_as}
+use Rattle.undo_laws.specs.settlement_laws.Settled.{MaySettle}
 use Rattle.unit_world.proofs.Staying.{locks_stay}
-use Rattle.volume_model.specs.Laws.{KeepsNames}
-use Rattle.volume_model.specs.Volumes.{HasVolume}
+use Rattle.recovery_units.specs.volume_model.Laws.{KeepsNames}
+use Rattle.recovery_units.specs.volume_model.Volumes.{HasVolume}
 use Rattle.recovery_units.specs.State.{IsKept, IsUnitOf, UnitsState, changed_at, committed, without_unit}
 use Rattle.node_units.proofs.Branches.{Apart, Distinct, serials, units_differ}
 use Rattle.node_units.proofs.Earliest.{first_is, none_settled}

@@ -13,18 +13,18 @@ use Rattle.vms_model.specs.Transactions.{Outcome}
 use Rattle.records_model.specs.History.{same_id}
 use Rattle.journal_model.specs.Entries.{Entry, IsEntry, spelling}
 use Rattle.ru_journal.specs.Told.{JournalScan, UnitTold, after, find_unit, first_told, is_out_of_order, more_told, nothing_told, unit_refuses, with_unit}
-use Rattle.unit_entries.specs.Reading as reading
-use Rattle.unit_entries.specs.Reading.{placed}
+use Rattle.recovery_units.specs.unit_entries.Reading as reading
+use Rattle.recovery_units.specs.unit_entries.Reading.{placed}
 use Rattle.unit_laws.specs.Journal as journal
 use Rattle.unit_laws.specs.Journal.{ChangeEntry, JournalEntry, PreparedEntry, RecoveryUnit, SettledEntry, entry_size, is_settling, serial_in, units_after, with_one_change}
 use Rattle.unit_laws.specs.JournalLaws.{unit_or_new, with_more}
 use Rattle.unit_laws.proofs.Tests.{picked}
 use Rattle.unit_laws.proofs.UnitLemmas.{found_changed}
-use Rattle.world_laws.specs.Ordered.{AreFew, AreFewOver, AreInOrder, MayFollow}
-use Rattle.run_model.specs.World.{tid_in}
-use Rattle.world_laws.proofs.IdLemmas.{id_is, id_itself}
-use Rattle.directory_model.proofs.Places.{within_list}
-use Rattle.volume_model.specs.Entries.{AreEntries, IsFileOf, entry_for}
+use Rattle.recovery_units.specs.world_laws.Ordered.{AreFew, AreFewOver, AreInOrder, MayFollow}
+use Rattle.recovery_units.specs.run_model.World.{tid_in}
+use Rattle.recovery_units.proofs.world_laws.IdLemmas.{id_is, id_itself}
+use Rattle.unit_world.proofs.directory_model.Places.{within_list}
+use Rattle.recovery_units.specs.volume_model.Entries.{AreEntries, IsFileOf, entry_for}
 use Rattle.node_units.proofs.Alike.{entry_long}
 use Rattle.node_units.proofs.Telling.{Tells, all_own, all_push, all_told, all_with, all_without, first_after, shown_push, tells_next, unit_shown}
 

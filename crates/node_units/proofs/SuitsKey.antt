@@ -12,17 +12,17 @@ use Rattle.vms_base.specs.Keys.{key_of}
 use Rattle.vms_base.specs.declared.keys.Key.{Key as VmsKey}
 use Rattle.records_model.specs.Records.{key_cmp}
 use Rattle.records_model.proofs.RecordsLemmas.{same_key}
-use Rattle.record_files.specs.Any.{FormBy, IsFile, Suits, SuitsBy, Takes, TakesBy, asks, asks_by, map_by, map_of}
+use Rattle.volume_files.specs.record_files.Any.{FormBy, IsFile, Suits, SuitsBy, Takes, TakesBy, asks, asks_by, map_by, map_of}
 use Rattle.record_operations.specs.Asking.{is_of_key, written}
 use Rattle.record_operations.specs.Causes.{BadParameter, BadRecordNumber, BadRecordSize, FileFull, KeyChanged}
 use Rattle.record_operations.specs.Forms as form
 use Rattle.record_operations.specs.declared.ops.RecordOp.{RecordOp}
 use Rattle.record_operations.specs.declared.ops.RecordOp.TheVariants as op
 use Rattle.recovery_units.specs.Calls.{IsNumber, IsNumbered}
-use Rattle.key_changes.specs.declared.asked.KeyChange.TheVariants as how
-use Rattle.key_changes.specs.Changing as rms
-use Rattle.key_changes.specs.Changing.{after_change, found_refused, key_within}
-use Rattle.key_changes.specs.Keys.{change_in, key_in, key_put}
+use Rattle.rms_units.specs.key_changes.declared.asked.KeyChange.TheVariants as how
+use Rattle.rms_units.specs.key_changes.Changing as rms
+use Rattle.rms_units.specs.key_changes.Changing.{after_change, found_refused, key_within}
+use Rattle.rms_units.specs.key_changes.Keys.{change_in, key_in, key_put}
 use Rattle.rms_units.proofs.RoomLemmas.{not_refused}
 use Rattle.node_units.proofs.AskedKey.{Content, behind_last}
 use Rattle.node_units.proofs.ReadLemmas.{first_none}

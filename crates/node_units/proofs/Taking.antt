@@ -4,8 +4,8 @@ use Rattle.std.specs.Option.{IfSome}
 use Rattle.lmcp_log.specs.Log.{OnlyRead}
 use Rattle.log_laws.specs.Slots.{Slots}
 use Rattle.ru_journal.specs.Told.{UnitTold}
-use Rattle.unit_aborts.specs.Reopening.{HasTaken, Reopens, broken, full, taken}
-use Rattle.unit_aborts.specs.declared.reopening.AbortedUnit.{AbortedUnit}
+use Rattle.rms_units.specs.unit_aborts.Reopening.{HasTaken, Reopens, broken, full, taken}
+use Rattle.rms_units.specs.unit_aborts.declared.reopening.AbortedUnit.{AbortedUnit}
 use Rattle.unit_table.specs.Places.{AreInOrder}
 use Rattle.unit_table.specs.Units.{OpenUnit}
 use Rattle.volume.specs.State.{VolumeState}

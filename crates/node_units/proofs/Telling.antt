@@ -11,12 +11,12 @@ use Rattle.vms_model.specs.Transactions.{Outcome}
 use Rattle.records_model.specs.History.{same_id}
 use Rattle.journal_model.specs.Entries.{Entry, IsEntry}
 use Rattle.ru_journal.specs.Told.{JournalScan, UnitTold, after, find_unit, first_told, is_out_of_order, more_told, nothing_told, told_by, told_onto, with_unit, without_unit}
-use Rattle.unit_entries.specs.Reading.{AreInOrder, placed}
+use Rattle.recovery_units.specs.unit_entries.Reading.{AreInOrder, placed}
 use Rattle.unit_laws.specs.Journal as journal
 use Rattle.unit_laws.specs.Journal.{ChangeEntry, JournalEntry, PreparedEntry, RecoveryUnit, SettledEntry, entry_size, units_after, units_in, units_onto, with_one_change}
 use Rattle.unit_laws.proofs.Tests.{or_first, passed}
-use Rattle.world_laws.proofs.IdLemmas.{id_is, id_itself, id_other}
-use Rattle.volume_model.specs.Entries.{AreEntries, entry_for}
+use Rattle.recovery_units.proofs.world_laws.IdLemmas.{id_is, id_itself, id_other}
+use Rattle.recovery_units.specs.volume_model.Entries.{AreEntries, entry_for}
 use Rattle.recovery_units.specs.State.{is_change_by}
 use Rattle.node_units.proofs.Alike.{entry_long}
 use Rattle.node_units.proofs.Earliest.{first_by}

@@ -10,9 +10,9 @@ use Rattle.std.proofs.lemmas.List.{get_or-map, length-map, map-append}
 use Rattle.std.proofs.lemmas.List.Quantifiers.{position-Some}
 use Rattle.vms_model.specs.Ids.{Id}
 use Rattle.records_model.specs.History.{same_id}
-use Rattle.world_laws.proofs.EntryLemmas.{all_append}
-use Rattle.world_laws.proofs.FindLemmas.{some_is}
-use Rattle.world_laws.proofs.IdLemmas.{id_is}
+use Rattle.recovery_units.proofs.world_laws.EntryLemmas.{all_append}
+use Rattle.recovery_units.proofs.world_laws.FindLemmas.{some_is}
+use Rattle.recovery_units.proofs.world_laws.IdLemmas.{id_is}
 use Rattle.record_locks.specs.Locks.{Lock, released}
 use Rattle.vms_base.specs.Ids.{serial_of, tid_of}
 use Rattle.unit_table.specs.Places.{AreInOrder, count_at, occurrences}
@@ -28,7 +28,7 @@ use Rattle.record_operations.specs.declared.ops.RecordOp.TheVariants as op
 use Rattle.volume.specs.State.{VolumeState}
 use Rattle.rms_units.specs.Calls.{ChangesOk}
 use Rattle.rms_units.specs.Truncating.{with_positions}
-use Rattle.unit_cuts.specs.Truncating.{begins_at}
+use Rattle.rms_units.specs.unit_cuts.Truncating.{begins_at}
 use Rattle.rms_units.specs.State as rms
 use Rattle.rms_units.specs.State.{unit_of}
 use Rattle.node_units.specs.declared.begun.BegunUnit.{BegunUnit}

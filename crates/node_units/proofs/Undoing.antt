@@ -26,61 +26,61 @@ use Rattle.volume.specs.Catalogs.{IsSound, TellsCatalog}
 use Rattle.volume.specs.State.{Holds, SameVolume, VolumeState}
 use Rattle.volume_format.specs.declared.home.Ending.TheVariants as ending
 use Rattle.volume_format.specs.declared.home.Home.{Home}
-use Rattle.unit_aborts.specs.Aborting.{MakesAbort, has_changes}
-use Rattle.unit_aborts.specs.Reopening.{but_next, failed_at, next_of}
+use Rattle.rms_units.specs.unit_aborts.Aborting.{MakesAbort, has_changes}
+use Rattle.rms_units.specs.unit_aborts.Reopening.{but_next, failed_at, next_of}
 use Rattle.unit_laws.specs.Journal.{ChangeEntry, Journal, JournalEntry, PreparedEntry, RecoveryUnit, SettledEntry, active_units, end_of, find_unit, is_settled_in, owed, serial_in, trimmed, units_after, units_in, units_onto, with_entries, with_settled, without_unit}
 use Rattle.unit_laws.specs.JournalLaws.{is_unit, unit_or_new, with_more}
 use Rattle.unit_laws.proofs.Tests.{passed, picked}
 use Rattle.unit_laws.proofs.TrimLemmas.{settles_unit, trim_keeps_units}
 use Rattle.unit_laws.proofs.UnitLemmas.{found_changed, found_prepared, found_settled, is_prepared, units_follow}
 use Rattle.unit_table.specs.Units.{OpenUnit, earlier, earliest, first_of}
-use Rattle.unit_journal.specs.Entries.{settled_entry}
-use Rattle.unit_journal.specs.Groups.{LeavesOld}
-use Rattle.unit_journal.specs.Settling as settling
-use Rattle.unit_journal.specs.Settling.{MakesSettlement, content_with, entry_if, from_earliest, span_with, with_front}
-use Rattle.unit_journal.proofs.EntryLemmas.{settled_is}
-use Rattle.unit_undo.specs.Undoing.{GoesOn}
-use Rattle.unit_undo.specs.Way.{FailsOnTheWay, IsUndone, Undoes}
-use Rattle.run_model.specs.Answers.{table_rows, unit_key}
-use Rattle.world_laws.specs.Ordered.{AreInOrder, IsJournalInOrder, MayFollow}
-use Rattle.run_model.specs.World.{tid_in}
+use Rattle.rms_units.specs.unit_journal.Entries.{settled_entry}
+use Rattle.rms_units.specs.unit_journal.Groups.{LeavesOld}
+use Rattle.rms_units.specs.unit_journal.Settling as settling
+use Rattle.rms_units.specs.unit_journal.Settling.{MakesSettlement, content_with, entry_if, from_earliest, span_with, with_front}
+use Rattle.rms_units.proofs.unit_journal.EntryLemmas.{settled_is}
+use Rattle.undo_laws.specs.unit_undo.Undoing.{GoesOn}
+use Rattle.undo_laws.specs.unit_undo.Way.{FailsOnTheWay, IsUndone, Undoes}
+use Rattle.recovery_units.specs.run_model.Answers.{table_rows, unit_key}
+use Rattle.recovery_units.specs.world_laws.Ordered.{AreInOrder, IsJournalInOrder, MayFollow}
+use Rattle.recovery_units.specs.run_model.World.{tid_in}
 use Rattle.commit_protocol.specs.World.{In, undo_all}
 use Rattle.commit_protocol.specs.Messages.{LogRecord}
 use Rattle.commit_protocol.specs.Table as table
 use Rattle.commit_protocol.specs.Table.{Branch, Undoes as UndoesUnit, cut}
 use Rattle.commit_protocol.proofs.Lists.{told_key}
 use Rattle.log_laws.specs.Slots.{prepared_of, records_in}
-use Rattle.world_laws.specs.Nodes.{AreKept, IsKeptDisk}
-use Rattle.world_laws.specs.Running.{Each}
-use Rattle.run_model.specs.Locks.{Lock, released}
-use Rattle.run_model.specs.Answers.{Row}
-use Rattle.world_laws.proofs.UndoLemmas.{each_in}
-use Rattle.run_model.specs.World.{Act, File, IsLogInOrder, IsReached, Node, Settlement, Shared, Tables, Volatile, acted, fallen, next_moment, relocked, relocked_by, settled_file, settlement}
-use Rattle.world_laws.proofs.HistoryLemmas.{by_settled}
-use Rattle.world_laws.proofs.IdLemmas.{id_is, id_itself, id_other}
-use Rattle.world_laws.proofs.OrderedLemmas.{tables_keep_order}
-use Rattle.world_laws.proofs.UnsettledLemmas.{units_are_unsettled}
-use Rattle.settlement_laws.specs.Settled.{IsSettled, Makes, MaySettle}
-use Rattle.settlement_laws.proofs.MadeLemmas.{settlements_are_made}
-use Rattle.file_settlements.specs.Settling.{EntersSettled}
-use Rattle.image_appends.specs.declared.side.Side.TheVariants.{After, Before}
-use Rattle.image_appends.specs.Images.{span_of}
-use Rattle.image_appends.specs.Settling.{heads_from}
-use Rattle.image_groups.specs.Groups.{AreToldBy, HaveRoom, outcome_of}
-use Rattle.image_room.specs.Room.{ImagesAreLow}
-use Rattle.directory_model.specs.Laws.{spelled_entry}
-use Rattle.run_model.specs.World.{AreUnitsOf}
-use Rattle.restart_laws.proofs.UnitLemmas.{keeps_units}
+use Rattle.recovery_units.specs.world_laws.Nodes.{AreKept, IsKeptDisk}
+use Rattle.recovery_units.specs.world_laws.Running.{Each}
+use Rattle.recovery_units.specs.run_model.Locks.{Lock, released}
+use Rattle.recovery_units.specs.run_model.Answers.{Row}
+use Rattle.recovery_units.proofs.world_laws.UndoLemmas.{each_in}
+use Rattle.recovery_units.specs.run_model.World.{Act, File, IsLogInOrder, IsReached, Node, Settlement, Shared, Tables, Volatile, acted, fallen, next_moment, relocked, relocked_by, settled_file, settlement}
+use Rattle.recovery_units.proofs.world_laws.HistoryLemmas.{by_settled}
+use Rattle.recovery_units.proofs.world_laws.IdLemmas.{id_is, id_itself, id_other}
+use Rattle.recovery_units.proofs.world_laws.OrderedLemmas.{tables_keep_order}
+use Rattle.recovery_units.proofs.world_laws.UnsettledLemmas.{units_are_unsettled}
+use Rattle.undo_laws.specs.settlement_laws.Settled.{IsSettled, Makes, MaySettle}
+use Rattle.undo_laws.proofs.settlement_laws.MadeLemmas.{settlements_are_made}
+use Rattle.rms_units.specs.file_settlements.Settling.{EntersSettled}
+use Rattle.recovery_units.specs.image_appends.declared.side.Side.TheVariants.{After, Before}
+use Rattle.recovery_units.specs.image_appends.Images.{span_of}
+use Rattle.recovery_units.specs.image_appends.Settling.{heads_from}
+use Rattle.undo_laws.specs.image_groups.Groups.{AreToldBy, HaveRoom, outcome_of}
+use Rattle.recovery_units.specs.image_room.Room.{ImagesAreLow}
+use Rattle.unit_world.specs.directory_model.Laws.{spelled_entry}
+use Rattle.recovery_units.specs.run_model.World.{AreUnitsOf}
+use Rattle.unit_world.proofs.restart_laws.UnitLemmas.{keeps_units}
 use Rattle.undo_laws.specs.Aborted.{PutsOutcome}
 use Rattle.undo_laws.specs.Undone as undo
 use Rattle.undo_laws.specs.Undone.{IsToldIn}
 use Rattle.undo_laws.proofs.SettledLemmas.{undone_settle}
-use Rattle.unit_undo.specs.Undoing.{journals_of}
+use Rattle.undo_laws.specs.unit_undo.Undoing.{journals_of}
 use Rattle.recovery_units.specs.State.{changed_at}
-use Rattle.world_laws.specs.Nodes.{FileKeepsImages}
-use Rattle.world_laws.specs.Running.{AllFound}
-use Rattle.directory_model.specs.Files.{file_at, head_at}
-use Rattle.directory_model.proofs.Places.{file_mapped}
+use Rattle.recovery_units.specs.world_laws.Nodes.{FileKeepsImages}
+use Rattle.recovery_units.specs.world_laws.Running.{AllFound}
+use Rattle.unit_world.specs.directory_model.Files.{file_at, head_at}
+use Rattle.unit_world.proofs.directory_model.Places.{file_mapped}
 use Rattle.node_units.proofs.DirectImages.{low_from}
 use Rattle.node_units.proofs.ImagedVolume.{stands_same}
 use Rattle.node_units.proofs.Imaging.{fits, had_journals, imaged, imaged_catalog, imaged_current, imaged_home, imaged_ru, imaged_told, outcome_entry, span_by, told_heads, told_in}
@@ -92,8 +92,8 @@ use Rattle.undo_laws.proofs.AbortLemmas.{aborts_fail, aborts_settle}
 use Rattle.undo_laws.proofs.FallenLemmas.{undos_fail}
 use Rattle.undo_laws.proofs.UndoableLemmas.{units_are_undoable}
 use Rattle.undo_laws.proofs.WayLemmas.{far_off, undos_keep_journal, ways_keep_others}
-use Rattle.volume_model.specs.Homes.{HasHome}
-use Rattle.volume_model.specs.Volumes.{HasDisk, HasJournal, LeavesVolume}
+use Rattle.recovery_units.specs.volume_model.Homes.{HasHome}
+use Rattle.recovery_units.specs.volume_model.Volumes.{HasDisk, HasJournal, LeavesVolume}
 use Rattle.recovery_units.specs.State.{is_change_by, positions_of}
 use Rattle.node_units.proofs.Alike.{next_alike, positions_alike}
 use Rattle.node_units.proofs.Earliest.{first_by, first_change, first_either, first_never, first_of_these, is_change_in}

@@ -3,7 +3,7 @@ use Rattle.std.proofs.Common.{◌≡◌, ℕ, List, [], true, false, Option, Som
 use Rattle.std.specs.Prelude.{is_some}
 use Rattle.vms_model.specs.Ids.{Id}
 use Rattle.volume.specs.State.{VolumeState}
-use Rattle.unit_journal.specs.Room.{free_bytes}
+use Rattle.rms_units.specs.unit_journal.Room.{free_bytes}
 use Rattle.unit_laws.specs.Journal as journal
 use Rattle.unit_laws.specs.Journal.{RecoveryUnit, find_unit, is_settled_in, units_in}
 use Rattle.unit_table.specs.Places.{AreInOrder, count_at, occurrences}
@@ -13,13 +13,13 @@ use Rattle.commit_protocol.specs.Allowed.{is_prepared}
 use Rattle.commit_protocol.specs.Table.{Branch}
 use Rattle.commit_protocol.specs.World.{In}
 use Rattle.log_laws.specs.Slots.{Slots}
-use Rattle.run_model.specs.Answers.{free_journal}
-use Rattle.run_model.specs.World.{Node, changes_made, find_branch, serials_of}
-use Rattle.world_laws.specs.Nodes.{IsUp}
-use Rattle.world_laws.proofs.IdLemmas.{in_map}
-use Rattle.world_laws.proofs.TableLemmas.{one_branch}
-use Rattle.world_laws.proofs.UnitSets as sets
-use Rattle.world_laws.proofs.UpLemmas.{differ}
+use Rattle.recovery_units.specs.run_model.Answers.{free_journal}
+use Rattle.recovery_units.specs.run_model.World.{Node, changes_made, find_branch, serials_of}
+use Rattle.recovery_units.specs.world_laws.Nodes.{IsUp}
+use Rattle.recovery_units.proofs.world_laws.IdLemmas.{in_map}
+use Rattle.recovery_units.proofs.world_laws.TableLemmas.{one_branch}
+use Rattle.recovery_units.proofs.world_laws.UnitSets as sets
+use Rattle.recovery_units.proofs.world_laws.UpLemmas.{differ}
 use Rattle.recovery_units.specs.State.{IsKept, IsOfBranch, IsUnitOf, are_there}
 use Rattle.rms_units.specs.State as state
 use Rattle.rms_units.specs.State.{IsInOrder}

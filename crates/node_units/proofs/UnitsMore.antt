@@ -10,8 +10,8 @@ use Rattle.unit_table.specs.Units.{OpenUnit, unit_at, units_of}
 use Rattle.unit_table.proofs.OrderLemmas.{more_here, more_there}
 use Rattle.commit_protocol.specs.World.{In}
 use Rattle.commit_protocol.specs.Table.{Branch}
-use Rattle.run_model.specs.World.{with_changed}
-use Rattle.world_laws.proofs.IdLemmas.{each_at, id_itself, id_other}
+use Rattle.recovery_units.specs.run_model.World.{with_changed}
+use Rattle.recovery_units.proofs.world_laws.IdLemmas.{each_at, id_itself, id_other}
 use Rattle.recovery_units.specs.State.{AreOfBranches, IsOfBranch, are_there, is_change_by, positions_of}
 use Rattle.node_units.proofs.Branches.{Distinct, serial_among, serials}
 use Rattle.unit_table.proofs.BegunLemmas.{units_other}

@@ -2,18 +2,18 @@
 use Rattle.std.proofs.Common.{◌≡◌, ◌∙◌, ◌<◌, ℕ, List, Option, Some, IfSome, length, get_or, ap, sym, subst, refl}
 use Rattle.std.specs.List.{position}
 use Rattle.std.proofs.lemmas.List.Quantifiers.{position-Some}
-use Rattle.unit_cuts.proofs.Outcomes.{of_some}
+use Rattle.rms_units.proofs.unit_cuts.Outcomes.{of_some}
 use Rattle.commit_protocol.specs.Messages.{Name}
 use Rattle.lmcp_log.specs.Slot.{IsParts}
 use Rattle.log_laws.specs.Slots.{Slots, put_in}
 use Rattle.unit_table.specs.Places.{AreInOrder}
 use Rattle.unit_table.specs.Units as table
 use Rattle.unit_table.specs.Units.{OpenUnit, begun, prepared_unit}
-use Rattle.unit_votes.specs.Voting.{vote_record}
+use Rattle.rms_units.specs.unit_votes.Voting.{vote_record}
 use Rattle.vms_base.specs.Ids.{serial_of, tid_of}
 use Rattle.vms_model.specs.Ids.{Id, IsId}
 use Rattle.volume.specs.State.{VolumeState}
-use Rattle.world_laws.proofs.IdLemmas.{id_is}
+use Rattle.recovery_units.proofs.world_laws.IdLemmas.{id_is}
 use Rattle.recovery_units.specs.State as calls
 use Rattle.recovery_units.specs.State.{MayVote, UnitsState, voted, with_prepared}
 use Rattle.rms_units.specs.State as rms

@@ -18,10 +18,10 @@ use Rattle.unit_laws.proofs.TrimLemmas.{size_append}
 use Rattle.unit_table.specs.Places.{AreInOrder}
 use Rattle.unit_table.specs.Units as units
 use Rattle.unit_table.specs.Units.{OpenUnit, begun, prepared_unit}
-use Rattle.unit_journal.specs.Entries.{prepared_entry}
-use Rattle.unit_journal.specs.Settling.{content_with, entry_if, span_with}
-use Rattle.unit_journal.proofs.EntryLemmas.{prepared_is}
-use Rattle.unit_votes.specs.Voting.{vote_entry, vote_record}
+use Rattle.rms_units.specs.unit_journal.Entries.{prepared_entry}
+use Rattle.rms_units.specs.unit_journal.Settling.{content_with, entry_if, span_with}
+use Rattle.rms_units.proofs.unit_journal.EntryLemmas.{prepared_is}
+use Rattle.rms_units.specs.unit_votes.Voting.{vote_entry, vote_record}
 use Rattle.commit_protocol.specs.Allowed.{is_prepared}
 use Rattle.commit_protocol.specs.Effects.{PrepareEffect}
 use Rattle.commit_protocol.specs.Messages.{LogRecord, Name, PreparedRecord}
@@ -34,23 +34,23 @@ use Rattle.log_laws.proofs.RowSlots.{length_slots}
 use Rattle.lmcp_log.specs.Keeping.{IsWhole, Keeps, SameSlots}
 use Rattle.lmcp_log.proofs.Keepings.{keeps_beside}
 use Rattle.lmcp_log.proofs.Whole.{beside_whole}
-use Rattle.run_model.specs.World.{Node, Tables, acted, fallen, next_moment, tid_in}
-use Rattle.world_laws.specs.Nodes.{IsUp}
-use Rattle.world_laws.specs.Ordered.{MayPrepare}
-use Rattle.world_laws.proofs.EntryLemmas.{all_append}
-use Rattle.world_laws.proofs.IdLemmas.{each_at, id_is, id_itself, id_other}
-use Rattle.world_laws.proofs.LogLemmas.{told_log}
-use Rattle.world_laws.proofs.OrderedLemmas.{tables_keep_order}
-use Rattle.world_laws.proofs.TableLemmas.{found_in, one_branch}
-use Rattle.world_laws.proofs.UpLemmas.{differ}
-use Rattle.directory_model.specs.Files.{AgreesOnFile, head_at}
+use Rattle.recovery_units.specs.run_model.World.{Node, Tables, acted, fallen, next_moment, tid_in}
+use Rattle.recovery_units.specs.world_laws.Nodes.{IsUp}
+use Rattle.recovery_units.specs.world_laws.Ordered.{MayPrepare}
+use Rattle.recovery_units.proofs.world_laws.EntryLemmas.{all_append}
+use Rattle.recovery_units.proofs.world_laws.IdLemmas.{each_at, id_is, id_itself, id_other}
+use Rattle.recovery_units.proofs.world_laws.LogLemmas.{told_log}
+use Rattle.recovery_units.proofs.world_laws.OrderedLemmas.{tables_keep_order}
+use Rattle.recovery_units.proofs.world_laws.TableLemmas.{found_in, one_branch}
+use Rattle.recovery_units.proofs.world_laws.UpLemmas.{differ}
+use Rattle.unit_world.specs.directory_model.Files.{AgreesOnFile, head_at}
 use Rattle.node_units.proofs.ImagedVolume.{stands_on, stands_same}
-use Rattle.directory_model.proofs.Standing.{stands_on_extents}
-use Rattle.restart_laws.proofs.ListLemmas.{both_as}
-use Rattle.restart_laws.proofs.StayLemmas.{keeps_restorable}
-use Rattle.restart_laws.proofs.UnitLemmas.{keeps_units}
-use Rattle.volume_laws.proofs.FollowLemmas.{follow}
-use Rattle.volume_model.specs.Volumes.{HasJournal, HasVolume, IsLeftBy}
+use Rattle.unit_world.proofs.directory_model.Standing.{stands_on_extents}
+use Rattle.unit_world.proofs.restart_laws.ListLemmas.{both_as}
+use Rattle.unit_world.proofs.restart_laws.StayLemmas.{keeps_restorable}
+use Rattle.unit_world.proofs.restart_laws.UnitLemmas.{keeps_units}
+use Rattle.unit_world.proofs.volume_laws.FollowLemmas.{follow}
+use Rattle.recovery_units.specs.volume_model.Volumes.{HasJournal, HasVolume, IsLeftBy}
 use Rattle.rms_units.specs.Calls.{is_some_change}
 use Rattle.rms_units.specs.State as rms
 use Rattle.rms_units.specs.Voting.{MakesVoteOf, Prepares as PreparesUnit, VotesNot}

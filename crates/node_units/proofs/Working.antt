@@ -13,8 +13,8 @@ use Rattle.record_operations.specs.declared.ops.RecordOp.TheVariants as op
 use Rattle.unit_table.specs.Units.{OpenUnit, begun, unit_at, units_of, with_position}
 use Rattle.unit_table.specs.Units as table
 use Rattle.unit_table.proofs.OrderLemmas.{at_below}
-use Rattle.unit_cuts.specs.Truncating.{begins_at}
-use Rattle.world_laws.proofs.IdLemmas.{id_itself}
+use Rattle.rms_units.specs.unit_cuts.Truncating.{begins_at}
+use Rattle.recovery_units.proofs.world_laws.IdLemmas.{id_itself}
 use Rattle.rms_units.specs.Calls.{ChangesOk}
 use Rattle.rms_units.specs.State.{UnitsState, unit_of}
 use Rattle.rms_units.specs.Truncating.{cut_asked, with_positions}

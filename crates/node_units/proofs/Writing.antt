@@ -9,10 +9,10 @@ use Rattle.file_base.specs.declared.head.Span.{Span}
 use Rattle.journal_model.specs.Entries.{Entry}
 use Rattle.lmcp_log.specs.Slot.{IsParts, IsRecord}
 use Rattle.log_laws.specs.Slots.{Slots}
-use Rattle.unit_aborts.specs.Aborting.{Abortion, Aborts, abort_entry}
-use Rattle.unit_journal.specs.Settling.{span_with}
-use Rattle.unit_votes.specs.Logging.{MayPut, SetsRecord, nothing, written}
-use Rattle.unit_votes.specs.Voting.{AbortsLogged, MakesLogged, MakesVote, Settlement, abort_settlement}
+use Rattle.rms_units.specs.unit_aborts.Aborting.{Abortion, Aborts, abort_entry}
+use Rattle.rms_units.specs.unit_journal.Settling.{span_with}
+use Rattle.rms_units.specs.unit_votes.Logging.{MayPut, SetsRecord, nothing, written}
+use Rattle.rms_units.specs.unit_votes.Voting.{AbortsLogged, MakesLogged, MakesVote, Settlement, abort_settlement}
 use Rattle.vms_base.specs.Ids.{serial_of}
 use Rattle.vms_model.specs.Ids.{Id}
 use Rattle.volume.specs.declared.catalog.Catalog.{Catalog}

@@ -8,10 +8,10 @@ ghost use Rattle.vms_base.specs.declared.outcomes.Outcome.TheVariants as outcome
 ghost use Rattle.lmcp_log.specs.Log.{slot_of};
 ghost use Rattle.record_operations.specs.Asking.{file_in, read_file_in};
 ghost use Rattle.record_operations.specs.Causes.{down_in};
-ghost use Rattle.unit_journal.specs.Groups.{Caused, DiskAdvances, Grows};
+ghost use Rattle.rms_units.specs.unit_journal.Groups.{Caused, DiskAdvances, Grows};
 ghost use Rattle.recovery_units.specs.Uses.{ImagesGrow};
 ghost use Rattle.unit_table.specs.Units.{OpenUnit};
-ghost use Rattle.unit_votes.specs.Logging.{HasLog, MayHave};
+ghost use Rattle.rms_units.specs.unit_votes.Logging.{HasLog, MayHave};
 ghost use Rattle.volume.specs.Catalogs.{head_at};
 ghost use Rattle.rms_units.specs.Aborting.{AbortsNot, AbortsUnit};
 ghost use Rattle.rms_units.specs.Calls.{ChangesErr, ChangesOk, ReadsErr, ReadsFew, ReadsOk};

@@ -2,8 +2,8 @@
 ghost use Rattle.std.specs.Prelude.{◌≡◌, [], IfSome, option_copied};
 ghost use Rattle.lmcp_log.specs.Log.{slot_of};
 ghost use Rattle.lmcp_log.specs.Slot.{IsParts};
-ghost use Rattle.tm_types.specs.Parts.{log_record_of};
-ghost use Rattle.unit_votes.specs.Voting.{vote_record};
+ghost use Rattle.lmcp_log.specs.tm_types.Parts.{log_record_of};
+ghost use Rattle.rms_units.specs.unit_votes.Voting.{vote_record};
 ghost use Rattle.vms_base.specs.Ids.{serial_of, tid_of};
 
 use lmcp_log::write_slot;

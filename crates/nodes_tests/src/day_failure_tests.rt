@@ -1,5 +1,5 @@
 //! Days over disks that fail or stop. Each ends at the answer of the statement in which that comes; which one it is, the transcript of the day's script tells.
-ghost use Rattle.dtm_run.specs.Racks.{IsRack};
+ghost use Rattle.test_scripts.specs.dtm_run.Racks.{IsRack};
 
 use crate::day_tests::ended;
 use crate::plain_day_tests::script_of;

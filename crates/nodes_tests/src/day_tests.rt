@@ -1,6 +1,6 @@
 //! Days of transactions by `run`: what they show, and which words ask for them.
 ghost use Rattle.std.specs.Prelude.{IfOk};
-ghost use Rattle.dtm_run.specs.Racks.{IsRack};
+ghost use Rattle.test_scripts.specs.dtm_run.Racks.{IsRack};
 
 use block_disk::{CrashDisk, Disk, MemPlatter};
 use std::alloc::Global;

@@ -5,12 +5,12 @@ use Rattle.std.specs.List.{list_any}
 use Rattle.std.proofs.lemmas.Bool.{and_from, leb-false, lt-ltb}
 use Rattle.vms_model.specs.Ids.{Id}
 use Rattle.vms_model.specs.Limits.{manager_limit}
-use Rattle.transcript_model.specs.Lines as line
-use Rattle.transcript_model.specs.Lines.{Line}
-use Rattle.commit_protocol.specs.Messages.{CommitEvent, LogRecord, Name, Reply, same_id, same_name}
-use Rattle.commit_protocol.specs.Table.{Branch, Tm, find_serial, holds}
-use Rattle.commit_protocol.specs.Rows.{JoinRm, Replied}
-use Rattle.commit_protocol.specs.Allowed.{allowed, answers, is_working, may_join, may_reply, reply_allowed, there_is}
+use Rattle.run_model.specs.transcript_model.Lines as line
+use Rattle.run_model.specs.transcript_model.Lines.{Line}
+use Rattle.run_model.specs.commit_protocol.Messages.{CommitEvent, LogRecord, Name, Reply, same_id, same_name}
+use Rattle.run_model.specs.commit_protocol.Table.{Branch, Tm, find_serial, holds}
+use Rattle.run_model.specs.commit_protocol.Rows.{JoinRm, Replied}
+use Rattle.run_model.specs.commit_protocol.Allowed.{allowed, answers, is_working, may_join, may_reply, reply_allowed, there_is}
 use Rattle.run_model.specs.Answers.{Known, Unsettled, Recorded, has_joined, is_joinable}
 use Rattle.run_model.specs.Operations.{first_of, refused_if}
 use Rattle.tm_table.specs.Restarts.{record_of}

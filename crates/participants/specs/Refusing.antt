@@ -4,10 +4,10 @@ use Rattle.std.specs.List.{list_any}
 use Rattle.std.specs.Option.{option_and_then}
 use Rattle.vms_model.specs.Ids.{Id}
 use Rattle.vms_model.specs.Limits.{declared_limit}
-use Rattle.transcript_model.specs.Lines as line
-use Rattle.transcript_model.specs.Lines.{Line, Quota}
-use Rattle.commit_protocol.specs.Messages.{Name, Reply, same_name}
-use Rattle.commit_protocol.specs.Table.{Branch, Tm, find_serial}
+use Rattle.run_model.specs.transcript_model.Lines as line
+use Rattle.run_model.specs.transcript_model.Lines.{Line, Quota}
+use Rattle.run_model.specs.commit_protocol.Messages.{Name, Reply, same_name}
+use Rattle.run_model.specs.commit_protocol.Table.{Branch, Tm, find_serial}
 use Rattle.run_model.specs.Answers.{Known, Unsettled, Recorded, Unheard, awaited_reply, has_joined, in_state, is_joinable, known_branch, known_manager, more_managers, unsettled}
 use Rattle.run_model.specs.Operations.{first_of, refused_if}
 use Rattle.tm_table.specs.Restarts.{record_of}

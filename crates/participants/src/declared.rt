@@ -1,13 +1,13 @@
 // The resource managers that are declared at a node.
 ghost use Rattle.std.specs.Prelude.{◌≡◌, ◌≤◌, ◌++◌, ◌∷◌, [], None, Some, true, IfErr, IfOk, OnErr, OnOk, length, vec_capacity};
-ghost use Rattle.commit_protocol.specs.Allowed.{allowed};
-ghost use Rattle.commit_protocol.specs.Rows.{JoinRm, Replied};
-ghost use Rattle.commit_protocol.specs.Table.{find_serial, without_rm};
+ghost use Rattle.run_model.specs.commit_protocol.Allowed.{allowed};
+ghost use Rattle.run_model.specs.commit_protocol.Rows.{JoinRm, Replied};
+ghost use Rattle.run_model.specs.commit_protocol.Table.{find_serial, without_rm};
 ghost use Rattle.run_model.specs.Answers.{Recorded, Unsettled};
 ghost use Rattle.tm_types.specs.Branches.{branch_of};
 ghost use Rattle.tm_types.specs.Events.{event_of};
 ghost use Rattle.tm_types.specs.Parts.{log_record_of, reply_of};
-ghost use Rattle.transcript_model.specs.Lines as line;
+ghost use Rattle.run_model.specs.transcript_model.Lines as line;
 ghost use Rattle.vms_base.specs.Ids.{serial_of};
 ghost use Rattle.participants.specs.Refusing.{is_among, known_in, refusal_line, refused_declaration, refused_forgetting, refused_joining, refused_reply};
 
@@ -30,7 +30,7 @@ pub struct Rms {
 impl Model for Rms {
     ghost use Rattle.std.specs.Prelude.{◌≤◌, List, length, vec_capacity};
     ghost use Rattle.vms_model.specs.Limits.{declared_limit};
-    ghost use Rattle.commit_protocol.specs.Messages.{Name};
+    ghost use Rattle.run_model.specs.commit_protocol.Messages.{Name};
 
     ghost Value = { List Name };
 

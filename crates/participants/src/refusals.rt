@@ -2,7 +2,7 @@
 ghost use Rattle.std.specs.Prelude.{◌≡◌, length, nat_le, slice_get};
 ghost use Rattle.std.specs.List.{list_any};
 ghost use Rattle.vms_model.specs.Limits.{manager_limit};
-ghost use Rattle.commit_protocol.specs.Allowed.{may_reply, there_is};
+ghost use Rattle.run_model.specs.commit_protocol.Allowed.{may_reply, there_is};
 ghost use Rattle.run_model.specs.Answers.{has_joined as has_joined_said, is_joinable as is_joinable_said};
 ghost use Rattle.tm_types.specs.Branches.{branch_of};
 ghost use Rattle.tm_types.specs.Parts.{reply_of};

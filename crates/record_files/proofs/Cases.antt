@@ -2,11 +2,11 @@
 use Rattle.std.proofs.Common.{◌≡◌, ◌≤◌, ℕ, Bool, true, List, Option, Some, Result, Ok, Err, OnOk, IfSome, option_map, sym, ap, subst}
 use Rattle.file_base.specs.declared.head.FileHead.{FileHead}
 use Rattle.file_base.specs.declared.head.Organization.{Organization}
-use Rattle.vms_model.specs.Keys.{Key}
-use Rattle.tree_model.specs.Layouts.{Sizes}
-use Rattle.tree_model.specs.Setting.{layout_set, layout_back}
-use Rattle.change_set.specs.Maps.{set_key}
-use Rattle.change_set.specs.Files.{SameFile}
+use Rattle.vms_base.specs.vms_model.Keys.{Key}
+use Rattle.relative_file.specs.tree_model.Layouts.{Sizes}
+use Rattle.relative_file.specs.tree_model.Setting.{layout_set, layout_back}
+use Rattle.relative_file.specs.change_set.Maps.{set_key}
+use Rattle.relative_file.specs.change_set.Files.{SameFile}
 use Rattle.seq_file.specs.Records.{cut_from}
 use Rattle.seq_file.specs.Layout.{capacity, UsedBefore}
 use Rattle.record_files.specs.Any.{map_by, FormBy, LaidOutBy, TakesBy, RestoresBy, room_by, used_by, layout_by, map_of, IsFile, IsLaidOut, Takes, Restores, room_at, used_after, layout_of}

@@ -3,13 +3,13 @@ use Rattle.std.specs.Prelude.{◌≡◌, ℕ, ◌*◌, Bool, List, Option, Some}
 use Rattle.file_base.specs.declared.head.FileHead.{FileHead}
 use Rattle.file_base.specs.declared.head.Organization.{Organization}
 use Rattle.file_base.specs.declared.head.Organization.TheVariants.{Sequential, Relative, Indexed}
-use Rattle.vms_model.specs.Keys.{Key}
-use Rattle.tree_model.specs.Layouts.{Layout, no_layout}
-use Rattle.change_set.specs.Maps.{Map}
-use Rattle.change_set.specs.declared.walk.Place.{Place}
+use Rattle.vms_base.specs.vms_model.Keys.{Key}
+use Rattle.relative_file.specs.tree_model.Layouts.{Layout, no_layout}
+use Rattle.relative_file.specs.change_set.Maps.{Map}
+use Rattle.relative_file.specs.change_set.declared.walk.Place.{Place}
 use Rattle.relative_file.specs.Cells as relative
 use Rattle.seq_file.specs.Layout as sequential
-use Rattle.indexed_file.specs.Chain as slots
+use Rattle.indexed_tree.specs.indexed_file.Chain as slots
 use Rattle.indexed_tree.specs.Files as indexed
 use Rattle.indexed_tree.specs.Rooted as rooted
 

@@ -1,8 +1,8 @@
 -- The laws of an indexed file: its map, that it is laid out, its rooms and its layout rest on the file's extent alone.
 use Rattle.std.specs.Prelude.{◌≡◌, ℕ, List}
 use Rattle.file_base.specs.declared.head.FileHead.{FileHead}
-use Rattle.vms_model.specs.Keys.{Key}
-use Rattle.change_set.specs.Files.{AgreesOn}
+use Rattle.vms_base.specs.vms_model.Keys.{Key}
+use Rattle.relative_file.specs.change_set.Files.{AgreesOn}
 use Rattle.indexed_tree.specs.Files.{IsTreeHead, map_of, room_at}
 use Rattle.indexed_tree.specs.Rooted.{layout_in, IsRooted}
 use Rattle.indexed_tree.proofs.FileLaws.{map_stays, valid_stays, rooms_stay, layout_stays}

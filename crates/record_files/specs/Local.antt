@@ -3,8 +3,8 @@ use Rattle.std.specs.Prelude.{◌≡◌, List, ℕ, Option, refl}
 use Rattle.file_base.specs.declared.head.FileHead.{FileHead}
 use Rattle.file_base.specs.declared.head.Organization.{Organization}
 use Rattle.file_base.specs.declared.head.Organization.TheVariants.{Sequential, Relative, Indexed}
-use Rattle.vms_model.specs.Keys.{Key}
-use Rattle.change_set.specs.Files.{AgreesOn, first_place}
+use Rattle.vms_base.specs.vms_model.Keys.{Key}
+use Rattle.relative_file.specs.change_set.Files.{AgreesOn, first_place}
 use Rattle.relative_file.specs.Local as relative
 use Rattle.seq_file.specs.Local as sequential
 use Rattle.record_files.specs.Indexed as indexed

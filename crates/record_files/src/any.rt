@@ -4,9 +4,9 @@ ghost use Rattle.std.specs.Option.{option_copied};
 ghost use Rattle.careful_write.specs.Sizes.{staged_limit};
 ghost use Rattle.file_base.specs.declared.head.Organization.TheVariants.{Sequential};
 ghost use Rattle.vms_base.specs.Keys.{key_of};
-ghost use Rattle.vms_model.specs.Keys.{Number};
+ghost use Rattle.vms_base.specs.vms_model.Keys.{Number};
 ghost use Rattle.careful_write.specs.Reads.{SameButReads};
-ghost use Rattle.change_set.specs.Files.{IsPlaced, free_frames, fell, StagesIn, SameFile};
+ghost use Rattle.relative_file.specs.change_set.Files.{IsPlaced, free_frames, fell, StagesIn, SameFile};
 ghost use Rattle.seq_file.specs.Records.{cut_from};
 ghost use Rattle.seq_file.specs.Layout.{capacity, UsedBefore};
 ghost use Rattle.record_files.specs.Any.{map_of, Begins, IsFile, IsLaidOut, Suits};
@@ -18,9 +18,8 @@ use crate::checks::{
 use crate::indexed::IndexedFile;
 use block_disk::Disk;
 use careful_write::{Down, Store};
-use change_set::{Held, Place, RecordFile};
 use file_base::{FileHead, Organization};
-use relative_file::RelativeFile;
+use relative_file::{Held, Place, RecordFile, RelativeFile};
 use seq_file::SeqFile;
 use vms_base::{Key, Record};
 

@@ -9,7 +9,7 @@ ghost use Rattle.seq_file.specs.Layout.{IsSequential};
 ghost use Rattle.indexed_tree.specs.Files.{IsTreeHead};
 ghost use Rattle.relative_file.specs.Cells as relative;
 ghost use Rattle.seq_file.specs.Layout as sequential;
-ghost use Rattle.indexed_file.specs.Chain as leaf;
+ghost use Rattle.indexed_tree.specs.indexed_file.Chain as leaf;
 
 use file_base::FileHead;
 use vms_base::{Key, Record};

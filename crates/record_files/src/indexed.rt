@@ -1,9 +1,9 @@
 //! An indexed file as `RecordFile` has it.
 use block_disk::Disk;
 use careful_write::{Down, Store};
-use change_set::{Held, Place, RecordFile};
 use file_base::FileHead;
 use indexed_tree::TreeFile;
+use relative_file::{Held, Place, RecordFile};
 use vms_base::{Key, Record};
 
 /// Files whose records are found by a key that is a part of them. The slots of the records stand in leaves, in the order of their keys, and buckets of
@@ -12,7 +12,7 @@ pub struct IndexedFile;
 
 impl RecordFile for IndexedFile {
     ghost use Rattle.std.specs.Prelude.{◌*◌};
-    ghost use Rattle.indexed_file.specs.Chain.{StandsAt, Suits};
+    ghost use Rattle.indexed_tree.specs.indexed_file.Chain.{StandsAt, Suits};
     ghost use Rattle.indexed_tree.specs.Files.{map_of, IsTreeHead, IsNewHead, Takes, Restores, room_at, asks, used_after, first_layout_of};
     ghost use Rattle.indexed_tree.specs.Rooted.{IsRooted, layout_in};
     ghost use Rattle.relative_file.specs.Cells.{Anything};

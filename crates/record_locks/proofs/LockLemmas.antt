@@ -5,14 +5,14 @@ use Rattle.std.proofs.lemmas.Bool.Decides.{nat_tests}
 use Rattle.std.proofs.lemmas.List.{length-append}
 use Rattle.std.specs.List.{AllByRecursion, IsDistinct}
 use Rattle.std.specs.Map.{keys_of, lookup}
-use Rattle.vms_model.specs.Ids.{Id}
-use Rattle.vms_model.specs.Keys.{Key, Number, Text, End}
+use Rattle.vms_base.specs.vms_model.Ids.{Id}
+use Rattle.vms_base.specs.vms_model.Keys.{Key, Number, Text, End}
 use Rattle.vms_base.specs.Ids.{serial_of}
 use Rattle.vms_base.specs.Keys.{key_of}
 use Rattle.vms_base.specs.declared.ids.Serial.{Serial}
 use Rattle.vms_base.specs.declared.keys.Key as code
 use Rattle.vms_base.specs.declared.keys.Key.TheVariants as key_made
-use Rattle.records_model.specs.History.{same_id}
+use Rattle.table_keys.specs.records_model.History.{same_id}
 use Rattle.table_keys.specs.declared.place.Place.{Place}
 use Rattle.table_keys.specs.Spots.{spot_congr, spot_turned}
 use Rattle.record_locks.specs.Locks.{Lock, holder, is_lock_of, is_locked, not_locked, with_locks, released, held_by_other, lock_refused, Full}

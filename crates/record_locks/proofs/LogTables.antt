@@ -7,7 +7,7 @@ use Rattle.indexmap.specs.IndexMap.{IndexMap, IsUnique, get, spare}
 use Rattle.table_keys.specs.declared.key.BranchKey.{BranchKey}
 use Rattle.vms_base.specs.Ids.{serial_of}
 use Rattle.vms_base.specs.declared.ids.Serial.{Serial}
-use Rattle.records_model.specs.History.{same_id}
+use Rattle.table_keys.specs.records_model.History.{same_id}
 use Rattle.table_keys.specs.declared.place.Place.{Place}
 use Rattle.record_locks.specs.declared.turns.Turn.{Turn}
 use Rattle.record_locks.specs.declared.turns.Hold.{Hold}

@@ -2,10 +2,10 @@
 use Rattle.std.specs.Prelude.{ℕ, ◌==◌, ◌&&◌, Bool, List, [], ◌∷◌, ◌++◌, Option, Some, None, map, nat_le, if◌then◌else◌}
 use Rattle.std.specs.List.{list_any}
 use Rattle.std.specs.Ordering.{eq_by_cmp}
-use Rattle.vms_model.specs.Ids.{Id}
-use Rattle.vms_model.specs.Keys.{Key}
-use Rattle.records_model.specs.Records.{key_cmp}
-use Rattle.records_model.specs.History.{same_id}
+use Rattle.vms_base.specs.vms_model.Ids.{Id}
+use Rattle.vms_base.specs.vms_model.Keys.{Key}
+use Rattle.table_keys.specs.records_model.Records.{key_cmp}
+use Rattle.table_keys.specs.records_model.History.{same_id}
 
 -- a key of a file, or a sequential file's end, which this branch holds
 pub record Lock : Type 0 where

@@ -1,7 +1,7 @@
 -- Keys with the branches that hold them, as locks.
 use Rattle.std.specs.Prelude.{List, [], ◌∷◌, ◌++◌, if◌then◌else◌}
-use Rattle.vms_model.specs.Ids.{Id}
-use Rattle.records_model.specs.History.{same_id}
+use Rattle.vms_base.specs.vms_model.Ids.{Id}
+use Rattle.table_keys.specs.records_model.History.{same_id}
 use Rattle.vms_base.specs.Ids.{serial_of}
 use Rattle.vms_base.specs.Keys.{key_of}
 use Rattle.vms_base.specs.declared.ids.Serial.{Serial}

@@ -4,10 +4,10 @@ use Rattle.std.specs.List.{AllByRecursion, IsDistinct}
 use Rattle.std.specs.Map.{lookup, keys_of}
 use Rattle.indexmap.specs.IndexMap.{IndexMap, IsUnique, get, spare}
 use Rattle.table_keys.specs.declared.key.BranchKey.{BranchKey}
-use Rattle.vms_model.specs.Ids.{Id}
+use Rattle.vms_base.specs.vms_model.Ids.{Id}
 use Rattle.vms_base.specs.Ids.{serial_of}
 use Rattle.vms_base.specs.declared.ids.Serial.{Serial}
-use Rattle.records_model.specs.History.{same_id}
+use Rattle.table_keys.specs.records_model.History.{same_id}
 use Rattle.table_keys.specs.declared.place.Place.{Place}
 use Rattle.record_locks.specs.declared.turns.Turn.{Turn}
 use Rattle.record_locks.specs.declared.turns.Hold.{Hold}

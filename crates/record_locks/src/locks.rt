@@ -1,9 +1,9 @@
 // Keys of files and the branches that hold them.
 ghost use Rattle.std.specs.Prelude.{◌≡◌, ◌≤◌, ◌+◌, ◌<◌, ℕ, List, [], ◌∷◌, ◌++◌, if◌then◌else◌, Option, Some, None, Result, Ok, Err, length, map, option_map, IfOk, OnOk, OnErr};
-ghost use Rattle.vms_model.specs.Keys.{Key as KeySaid};
+ghost use Rattle.vms_base.specs.vms_model.Keys.{Key as KeySaid};
 ghost use Rattle.vms_base.specs.Ids.{serial_of};
 ghost use Rattle.vms_base.specs.Keys.{key_of};
-ghost use Rattle.records_model.specs.History.{same_id};
+ghost use Rattle.table_keys.specs.records_model.History.{same_id};
 ghost use Rattle.record_locks.specs.Locks.{holder, not_locked, with_locks, released, lock_refused, held_by_other};
 ghost use Rattle.record_locks.specs.Refusals.{refusal_of};
 

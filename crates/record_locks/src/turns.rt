@@ -1,7 +1,7 @@
 // The turns of branches. A turn begins by a branch's first lock and ends as the branch lets go of all its keys, so that these need not be looked for.
 ghost use Rattle.std.specs.Prelude.{◌≡◌, ◌≤◌, ◌<◌, ◌+◌, ◌^◌, None, Some, length, is_some, cond, if◌then◌else◌};
 ghost use Rattle.indexmap.specs.IndexMap.{get, spare, IsUnique};
-ghost use Rattle.records_model.specs.History.{same_id};
+ghost use Rattle.table_keys.specs.records_model.History.{same_id};
 ghost use Rattle.vms_base.specs.Ids.{serial_of};
 ghost use Rattle.vms_base.specs.declared.ids.Serial.{Serial as SerialSaid};
 ghost use Rattle.table_keys.specs.declared.place.Place.{Place as PlaceSaid};

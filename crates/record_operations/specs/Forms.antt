@@ -3,7 +3,7 @@ use Rattle.std.specs.Prelude.{ℕ, ◌+◌, ◌==◌, ◌||◌, not, List, lengt
 use Rattle.file_base.specs.declared.head.FileHead.{FileHead}
 use Rattle.file_base.specs.declared.head.Organization.{Organization}
 use Rattle.file_base.specs.declared.head.Organization.TheVariants.{Sequential, Relative, Indexed}
-use Rattle.vms_model.specs.Keys.{Key, Number, Text, End}
+use Rattle.vms_base.specs.vms_model.Keys.{Key, Number, Text, End}
 use Rattle.vms_base.specs.Keys.{key_of}
 use Rattle.record_operations.specs.declared.ops.RecordOp.{RecordOp}
 use Rattle.record_operations.specs.declared.ops.RecordOp.TheVariants.{Put, Update, Delete, Truncate}

@@ -6,3 +6,4 @@ pub mod Chain
 pub mod Layout
 pub mod Placing
 pub mod Laws
+pub use Rattle.vms_model.specs as vms_model

@@ -9,11 +9,11 @@ use Rattle.careful_write.specs.State.{IsIdle, OneContent, StoreState}
 use Rattle.careful_write.specs.Steps.{AgreesOff}
 use Rattle.careful_write.specs.declared.down.Down.{Down}
 use Rattle.file_base.specs.declared.head.FileHead.{FileHead}
-use Rattle.journal_store.specs.Refusing.{Stays}
-use Rattle.load_laws.specs.Records.{Keyed}
+use Rattle.image_entries.specs.journal_store.Refusing.{Stays}
+use Rattle.load_pages.specs.load_laws.Records.{Keyed}
 use Rattle.records_model.specs.Records.{Records}
-use Rattle.recovery_model.specs.File.{FileState}
-use Rattle.recovery_model.specs.Recovery.{rolled}
+use Rattle.image_entries.specs.recovery_model.File.{FileState}
+use Rattle.image_entries.specs.recovery_model.Recovery.{rolled}
 use Rattle.save_sets.proofs.CopyLaws.{answer_leaves}
 use Rattle.vms_base.specs.declared.ids.Serial.{Serial}
 use Rattle.volume.specs.declared.catalog.Catalog.{Catalog}

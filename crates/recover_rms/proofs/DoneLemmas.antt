@@ -11,8 +11,8 @@ use Rattle.careful_write.specs.declared.down.Down.{Down}
 use Rattle.change_set.specs.Files.{AgreesOut, IsPlaced, LeavesOut, in_extent}
 use Rattle.file_base.specs.declared.head.FileHead.{FileHead}
 use Rattle.file_loads.specs.Failing.{FellIn, Wrote}
-use Rattle.load_laws.specs.Loads.{AreLoadable, IsLoaded, loaded_head}
-use Rattle.load_laws.specs.Records.{Keyed}
+use Rattle.load_pages.specs.load_laws.Loads.{AreLoadable, IsLoaded, loaded_head}
+use Rattle.load_pages.specs.load_laws.Records.{Keyed}
 use Rattle.record_files.specs.Any.{IsFile}
 use Rattle.vms_base.specs.declared.times.Moment.{Moment}
 use Rattle.volume.specs.declared.catalog.Catalog.{Catalog}

@@ -5,3 +5,4 @@ pub mod ReadableLemmas
 pub mod CallLemmas
 pub mod CauseLemmas
 pub mod DoneLemmas
+pub mod file_recoveries

@@ -12,8 +12,8 @@ use Rattle.records_model.proofs.KeyLemmas.{key_cmp-IsAntisymmetric, key_cmp_tota
 use Rattle.file_base.specs.declared.head.FileHead.{FileHead}
 use Rattle.file_base.specs.declared.head.Organization.{Organization}
 use Rattle.file_base.specs.declared.head.Organization.TheVariants.{Sequential, Relative, Indexed}
-use Rattle.load_laws.specs.Loads.{AllSuitBy, AreNumbered, NumberedBy}
-use Rattle.load_laws.specs.Records.{Keyed}
+use Rattle.load_pages.specs.load_laws.Loads.{AllSuitBy, AreNumbered, NumberedBy}
+use Rattle.load_pages.specs.load_laws.Records.{Keyed}
 use Rattle.load_pages.specs.Given.{keyed}
 use Rattle.load_pages.specs.declared.records.KeyedRecord.{KeyedRecord}
 use Rattle.vms_base.specs.Keys.{key_of}

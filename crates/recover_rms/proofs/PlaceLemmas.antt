@@ -5,21 +5,21 @@ use Rattle.std.proofs.lemmas.Nat.{mod_below, div-add-mod'}
 use Rattle.std.proofs.lemmas.Bool.Decides.{nat_tests}
 use Rattle.block_disk.specs.Disk.{DiskState}
 use Rattle.change_set.specs.Files.{IsPlaced, in_extent}
-use Rattle.extents.specs.Extents.{is_free, all_extents, covers}
-use Rattle.extents.proofs.Used.{covered, free_is}
+use Rattle.volume.specs.extents.Extents.{is_free, all_extents, covers}
+use Rattle.volume.proofs.extents.Used.{covered, free_is}
 use Rattle.file_base.specs.declared.head.FileHead.{FileHead}
 use Rattle.file_base.specs.declared.head.Organization.{Organization}
 use Rattle.file_base.specs.declared.head.Organization.TheVariants.{Sequential, Relative, Indexed}
-use Rattle.indexed_file.specs.Chain as leaf
-use Rattle.load_laws.specs.Loads.{AllSuitBy, AreLoadable, HeadBy, head_by, buckets_by, loaded_buckets, loaded_head}
-use Rattle.load_laws.specs.Records.{Keyed}
-use Rattle.relative_file.specs.Cells as relative
+use Rattle.record_files.specs.indexed_file.Chain as leaf
+use Rattle.load_pages.specs.load_laws.Loads.{AllSuitBy, AreLoadable, HeadBy, head_by, buckets_by, loaded_buckets, loaded_head}
+use Rattle.load_pages.specs.load_laws.Records.{Keyed}
+use Rattle.record_files.specs.relative_file.Cells as relative
 use Rattle.vms_base.specs.declared.times.Moment.{Moment}
 use Rattle.vms_model.specs.Keys.{Key, Number, Text, End}
 use Rattle.volume.specs.declared.catalog.Catalog.{Catalog}
 use Rattle.volume.specs.Catalogs.{IsSound}
 use Rattle.volume.specs.Limits.{BucketFits, FileFits, KeysFit, RootFits, buckets_of, cells_of, data_area, file_buckets}
-use Rattle.volume_format.specs.Home.{sizes_of}
+use Rattle.volume.specs.volume_format.Home.{sizes_of}
 use Rattle.recover_rms.specs.Loading.{AreKept}
 use Rattle.recover_rms.specs.Replacing.{IsRun, is_unused, moved_head, wanted_buckets}
 

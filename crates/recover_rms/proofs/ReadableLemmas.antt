@@ -2,18 +2,18 @@
 use Rattle.std.proofs.Common.{◌≡◌, ◌<◌, ◌≤◌, ◌+◌, ◌-◌, ◌*◌, ℕ, zero, suc, Bool, true, false, List, [], ◌∷◌, length, Option, Some, None, nat_le, nat_lt, slice_index_or, refl, ap, subst, ◌∙◌, arith}
 use Rattle.block_disk.specs.Disk.{DiskState}
 use Rattle.change_set.specs.Files.{IsPlaced}
-use Rattle.extents.specs.declared.extent.Extent.{Extent}
-use Rattle.extents.specs.Extents.{FitsAt, all_extents, covers, extent, nowhere}
-use Rattle.extents.proofs.Used.{covered, covering}
+use Rattle.volume.specs.extents.declared.extent.Extent.{Extent}
+use Rattle.volume.specs.extents.Extents.{FitsAt, all_extents, covers, extent, nowhere}
+use Rattle.volume.proofs.extents.Used.{covered, covering}
 use Rattle.file_base.specs.declared.head.FileHead.{FileHead}
 use Rattle.file_base.specs.declared.head.Span.{Span}
 use Rattle.journal_model.specs.Ring.{ring_size}
-use Rattle.journal_store.specs.Rings.{IsRing}
-use Rattle.save_laws.specs.Saves.{save_head}
+use Rattle.image_entries.specs.journal_store.Rings.{IsRing}
+use Rattle.file_recoveries.specs.save_laws.Saves.{save_head}
 use Rattle.volume.specs.declared.catalog.Catalog.{Catalog}
 use Rattle.volume.specs.Catalogs.{IsSound, head_at}
 use Rattle.volume.specs.Limits.{BlocksFit, CopyFits, FileFits, SaveFits, SpanFits, data_area}
-use Rattle.volume_format.specs.Home.{sizes_of}
+use Rattle.volume.specs.volume_format.Home.{sizes_of}
 use Rattle.volume_files.proofs.Places.{Fit, fit_of, fits_at, four_more, head_below, placed}
 use Rattle.file_recoveries.specs.Rolling.{IsReadable}
 use Rattle.recover_rms.specs.Calls.{AreInRings}

@@ -8,8 +8,8 @@ use Rattle.careful_write.specs.State.{IsEither, Leaves}
 use Rattle.careful_write.specs.Steps.{AgreesOff}
 use Rattle.change_set.specs.Files.{AgreesOn, AgreesOut, LeavesOut, in_extent}
 use Rattle.file_base.specs.declared.head.FileHead.{FileHead}
-use Rattle.load_laws.specs.Loads.{IsLoaded, loaded_head}
-use Rattle.load_laws.specs.Records.{Keyed}
+use Rattle.load_pages.specs.load_laws.Loads.{IsLoaded, loaded_head}
+use Rattle.load_pages.specs.load_laws.Records.{Keyed}
 use Rattle.record_files.specs.Any.{IsFile, IsLaidOut, layout_of, map_of}
 use Rattle.record_files.specs.Local.{layout_local_law, local_law, valid_local_law}
 use Rattle.volume.specs.declared.catalog.Catalog.{Catalog}

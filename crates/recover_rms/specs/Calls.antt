@@ -5,11 +5,11 @@ use Rattle.careful_write.specs.State.{Leaves}
 use Rattle.careful_write.specs.declared.down.Down.{Down}
 use Rattle.file_base.specs.declared.head.FileHead.{FileHead}
 use Rattle.journal_model.specs.Ring.{ring_size}
-use Rattle.journal_store.specs.Leaving.{Fell}
-use Rattle.load_laws.specs.Records.{Keyed}
+use Rattle.image_entries.specs.journal_store.Leaving.{Fell}
+use Rattle.load_pages.specs.load_laws.Records.{Keyed}
 use Rattle.records_model.specs.History.{current}
-use Rattle.recovery_model.specs.File.{FileState}
-use Rattle.recovery_model.specs.Recovery.{rolled}
+use Rattle.image_entries.specs.recovery_model.File.{FileState}
+use Rattle.image_entries.specs.recovery_model.Recovery.{rolled}
 use Rattle.vms_base.specs.declared.ids.Serial.{Serial}
 use Rattle.volume.specs.Catalogs.{head_at}
 use Rattle.volume.specs.State.{VolumeState, SameVolume}

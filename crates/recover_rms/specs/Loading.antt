@@ -5,8 +5,8 @@ use Rattle.std.specs.FinMap.Entries.{is_sorted}
 use Rattle.file_base.specs.declared.head.FileHead.{FileHead}
 use Rattle.file_base.specs.declared.head.Organization.{Organization}
 use Rattle.file_base.specs.declared.head.Organization.TheVariants.{Sequential, Relative, Indexed}
-use Rattle.load_laws.specs.Loads.{AllSuitBy, NumberedBy}
-use Rattle.load_laws.specs.Records.{Keyed}
+use Rattle.load_pages.specs.load_laws.Loads.{AllSuitBy, NumberedBy}
+use Rattle.load_pages.specs.load_laws.Records.{Keyed}
 use Rattle.record_files.specs.Any.{Suits}
 use Rattle.records_model.specs.Records.{Records, key_cmp}
 use Rattle.vms_model.specs.Keys.{Key, Number}

@@ -6,19 +6,19 @@ use Rattle.careful_write.specs.State.{IsIdle, Leaves, StoreState}
 use Rattle.careful_write.specs.Steps.{AgreesOff, Quiet}
 use Rattle.careful_write.specs.declared.down.Down.{Down}
 use Rattle.change_set.specs.Files.{in_extent}
-use Rattle.extents.specs.Extents.{IsFreeRun, all_extents, is_free}
-use Rattle.extents.specs.declared.extent.Extent.{Extent}
+use Rattle.volume.specs.extents.Extents.{IsFreeRun, all_extents, is_free}
+use Rattle.volume.specs.extents.declared.extent.Extent.{Extent}
 use Rattle.file_base.specs.declared.head.FileHead.{FileHead}
 use Rattle.file_loads.specs.Failing.{FellIn}
-use Rattle.load_laws.specs.Loads.{IsLoaded, loaded_buckets, loaded_head}
-use Rattle.load_laws.specs.Records.{Keyed}
+use Rattle.load_pages.specs.load_laws.Loads.{IsLoaded, loaded_buckets, loaded_head}
+use Rattle.load_pages.specs.load_laws.Records.{Keyed}
 use Rattle.record_files.specs.Any.{IsFile}
 use Rattle.vms_base.specs.declared.times.Moment.{Moment}
 use Rattle.volume.specs.Catalogs.{TellsCatalog}
 use Rattle.volume.specs.Limits.{data_area}
 use Rattle.volume.specs.State.{VolumeState, Holds}
 use Rattle.volume.specs.declared.catalog.Catalog.{Catalog}
-use Rattle.volume_format.specs.Home.{sizes_of}
+use Rattle.volume.specs.volume_format.Home.{sizes_of}
 use Rattle.file_recoveries.specs.Heads.{with_new_journals}
 use Rattle.file_recoveries.specs.declared.errors.RecoverErr.{RecoverErr}
 use Rattle.file_recoveries.specs.declared.errors.RecoverErr.TheVariants as err

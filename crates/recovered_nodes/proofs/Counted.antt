@@ -2,16 +2,16 @@
 use Rattle.std.proofs.Common.{◌≡◌, ◌*◌, ℕ, List, length, sym, ◌∙◌, ap, subst}
 use Rattle.std.specs.FinMap.{entries}
 use Rattle.file_base.specs.declared.head.FileHead.{FileHead}
-use Rattle.file_recoveries.specs.Suiting.{MayHave}
-use Rattle.file_recoveries.specs.declared.causes.Way.{Way}
+use Rattle.recover_rms.specs.file_recoveries.Suiting.{MayHave}
+use Rattle.recover_rms.specs.file_recoveries.declared.causes.Way.{Way}
 use Rattle.recover_rms.specs.Replacing.{wanted_buckets}
-use Rattle.recovery_model.specs.Recovery.{rolled}
-use Rattle.script_model.specs.Statements.{Recovery}
-use Rattle.volume.specs.State.{VolumeState}
-use Rattle.run_model.specs.Answers.{blocks_recovered, records_recovered, way_of}
-use Rattle.run_model.specs.World.{File, Node, buckets_loaded, state_of}
+use Rattle.world_laws.specs.recovery_model.Recovery.{rolled}
+use Rattle.world_laws.specs.script_model.Statements.{Recovery}
+use Rattle.unit_world.specs.volume.State.{VolumeState}
+use Rattle.world_laws.specs.run_model.Answers.{blocks_recovered, records_recovered, way_of}
+use Rattle.world_laws.specs.run_model.World.{File, Node, buckets_loaded, state_of}
 use Rattle.recovered_nodes.proofs.Rows.{loads_rows}
-use Rattle.recovery_units.specs.State.{UnitsState}
+use Rattle.unit_world.specs.recovery_units.State.{UnitsState}
 use Rattle.recovered_nodes.specs.Laws.{IsAllowed, StandsThere, records_made}
 use Rattle.recovered_nodes.proofs.Known.{is_file, may_made}
 

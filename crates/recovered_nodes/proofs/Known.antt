@@ -2,29 +2,29 @@
 use Rattle.std.proofs.Common.{◌≡◌, ◌+◌, ◌-◌, ◌*◌, ◌<◌, ◌≤◌, ℕ, zero, suc, List, Bool, true, false, Option, Some, length, refl, sym, ◌∙◌, ap, subst, arith}
 use Rattle.std.specs.Option.{option_map}
 use Rattle.file_base.specs.declared.head.FileHead.{FileHead}
-use Rattle.file_recoveries.specs.Causes as causes
-use Rattle.file_recoveries.specs.Causes.{cause_of, refusal_by}
-use Rattle.file_recoveries.specs.Files.{HasFile}
-use Rattle.file_recoveries.specs.Suiting.{MayHave}
-use Rattle.file_recoveries.specs.declared.causes.Way.{Way}
-use Rattle.file_recoveries.proofs.CauseLemmas.{causes_are_refusals}
+use Rattle.recover_rms.specs.file_recoveries.Causes as causes
+use Rattle.recover_rms.specs.file_recoveries.Causes.{cause_of, refusal_by}
+use Rattle.recover_rms.specs.file_recoveries.Files.{HasFile}
+use Rattle.recover_rms.specs.file_recoveries.Suiting.{MayHave}
+use Rattle.recover_rms.specs.file_recoveries.declared.causes.Way.{Way}
+use Rattle.recover_rms.proofs.file_recoveries.CauseLemmas.{causes_are_refusals}
 use Rattle.records_model.specs.History as history
 use Rattle.records_model.specs.History.{current}
 use Rattle.recover_rms.specs.Calls.{IsAsked}
-use Rattle.recovery_model.specs.Recovery.{refusal, rolled}
-use Rattle.save_laws.specs.Saves.{save_head}
-use Rattle.script_model.specs.Statements.{Recovery}
+use Rattle.world_laws.specs.recovery_model.Recovery.{refusal, rolled}
+use Rattle.recover_rms.specs.save_laws.Saves.{save_head}
+use Rattle.world_laws.specs.script_model.Statements.{Recovery}
 use Rattle.vms_base.specs.Ids.{serial_of}
 use Rattle.vms_base.specs.declared.ids.Serial.{Serial}
-use Rattle.volume.specs.Limits.{CopyFits, EntryFits, FileFits, SaveFits, data_area}
-use Rattle.volume.specs.State.{VolumeState}
+use Rattle.unit_world.specs.volume.Limits.{CopyFits, EntryFits, FileFits, SaveFits, data_area}
+use Rattle.unit_world.specs.volume.State.{VolumeState}
 use Rattle.volume_format.specs.Home.{sizes_of}
-use Rattle.run_model.specs.Answers.{recovery_refused, refusal_line, way_of}
-use Rattle.run_model.specs.World.{File, Node, serials_of, state_of}
-use Rattle.directory_model.specs.Files.{AreFiles, Fit, IsCarried, IsFile, IsFoundAt, IsWithin}
-use Rattle.directory_model.proofs.Apart.{holds_extent, in_area, lie_apart, number_low, save_is}
-use Rattle.directory_model.proofs.Finding.{finds_files}
-use Rattle.recovery_units.specs.State.{UnitsState}
+use Rattle.world_laws.specs.run_model.Answers.{recovery_refused, refusal_line, way_of}
+use Rattle.world_laws.specs.run_model.World.{File, Node, serials_of, state_of}
+use Rattle.unit_world.specs.directory_model.Files.{AreFiles, Fit, IsCarried, IsFile, IsFoundAt, IsWithin}
+use Rattle.unit_world.proofs.directory_model.Apart.{holds_extent, in_area, lie_apart, number_low, save_is}
+use Rattle.unit_world.proofs.directory_model.Finding.{finds_files}
+use Rattle.unit_world.specs.recovery_units.State.{UnitsState}
 use Rattle.recovered_nodes.proofs.KnownFiles.{files_known}
 use Rattle.recovered_nodes.proofs.Suits.{records_may}
 use Rattle.unit_world.proofs.Blocks.{fit}

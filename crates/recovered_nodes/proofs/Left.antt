@@ -3,19 +3,19 @@ use Rattle.std.proofs.Common.{◌≡◌, ◌+◌, ◌<◌, ◌⊎◌, ℕ, List,
 use Rattle.block_disk.specs.Blocks.{block_at}
 use Rattle.careful_write.specs.Steps.{AgreesOff}
 use Rattle.file_base.specs.declared.head.FileHead.{FileHead}
-use Rattle.file_recoveries.specs.declared.causes.Way.{Way}
+use Rattle.recover_rms.specs.file_recoveries.declared.causes.Way.{Way}
 use Rattle.recover_rms.specs.Calls.{AreInRings}
 use Rattle.recover_rms.specs.Replacing.{IsOldOrNew, ReplacesIn, is_unused, with_head}
-use Rattle.script_model.specs.Statements.{Recovery}
+use Rattle.world_laws.specs.script_model.Statements.{Recovery}
 use Rattle.unit_table.specs.Units.{first_to_change}
-use Rattle.volume.specs.declared.catalog.Catalog.{Catalog}
-use Rattle.volume.specs.Catalogs.{IsSound, TellsCatalog, TellsEntry, head_at}
-use Rattle.volume.specs.State.{VolumeState}
+use Rattle.unit_world.specs.volume.declared.catalog.Catalog.{Catalog}
+use Rattle.unit_world.specs.volume.Catalogs.{IsSound, TellsCatalog, TellsEntry, head_at}
+use Rattle.unit_world.specs.volume.State.{VolumeState}
 use Rattle.volume_format.specs.Home.{HasHome, HasRu}
-use Rattle.run_model.specs.World.{Act, File, Node, acted, fallen}
-use Rattle.volume_model.specs.Volumes.{HasVolume, IsEitherOf, IsLeftBy}
-use Rattle.volume_laws.proofs.WholeLemmas.{volume_falls}
-use Rattle.recovery_units.specs.State.{IsInOrder, IsKept, UnitsState}
+use Rattle.world_laws.specs.run_model.World.{Act, File, Node, acted, fallen}
+use Rattle.unit_world.specs.volume_model.Volumes.{HasVolume, IsEitherOf, IsLeftBy}
+use Rattle.unit_world.proofs.volume_laws.WholeLemmas.{volume_falls}
+use Rattle.unit_world.specs.recovery_units.State.{IsInOrder, IsKept, UnitsState}
 use Rattle.unit_world.proofs.Leaving.{down}
 use Rattle.recovered_nodes.specs.Laws.{IsAllowed, StandsThere, records_made, recovery_act}
 use Rattle.recovered_nodes.proofs.Recovered.{recovers_so}

@@ -2,15 +2,15 @@
 use Rattle.std.proofs.Common.{◌≡◌, ◌+◌, ◌*◌, ◌≤◌, ℕ, List, Some, sym, ◌∙◌, subst}
 use Rattle.extents.specs.Extents.{IsFreeRun, all_extents}
 use Rattle.file_base.specs.declared.head.FileHead.{FileHead}
-use Rattle.load_laws.specs.Records.{Keyed}
+use Rattle.recover_rms.specs.load_laws.Records.{Keyed}
 use Rattle.recover_rms.specs.Replacing.{IsHeadWith, IsLongest}
-use Rattle.volume.specs.Limits.{data_area}
-use Rattle.volume.specs.State.{VolumeState}
+use Rattle.unit_world.specs.volume.Limits.{data_area}
+use Rattle.unit_world.specs.volume.State.{VolumeState}
 use Rattle.volume_format.specs.Home.{sizes_of}
-use Rattle.run_model.specs.World.{Node, longest_free, lowest_free}
-use Rattle.directory_model.specs.Laws.{area_of}
-use Rattle.directory_model.proofs.Runs.{finds_runs, run_enough}
-use Rattle.recovery_units.specs.State.{IsInOrder, IsKept, UnitsState}
+use Rattle.world_laws.specs.run_model.World.{Node, longest_free, lowest_free}
+use Rattle.unit_world.specs.directory_model.Laws.{area_of}
+use Rattle.unit_world.proofs.directory_model.Runs.{finds_runs, run_enough}
+use Rattle.unit_world.specs.recovery_units.State.{IsInOrder, IsKept, UnitsState}
 
 -- the volume's area for files is the node's
 pub area_so : (s : UnitsState) (v : VolumeState) (n : Node) → IsKept s v n → IsInOrder s v → data_area (sizes_of v.catalog.home) ≡ area_of n

@@ -6,42 +6,42 @@ use Rattle.std.proofs.lemmas.Bool.Decides.{nat_tests}
 use Rattle.block_disk.specs.Blocks.{block_at}
 use Rattle.careful_write.specs.State.{EachWhole}
 use Rattle.careful_write.specs.Steps.{AgreesOff}
-use Rattle.change_set.specs.Files.{in_extent}
+use Rattle.relative_file.specs.change_set.Files.{in_extent}
 use Rattle.extents.specs.Extents.{IsFreeRun, all_extents}
 use Rattle.file_base.specs.declared.head.FileHead.{FileHead}
-use Rattle.file_images.specs.Files.{SameRing}
-use Rattle.file_recoveries.specs.Suiting.{MayHave}
-use Rattle.file_recoveries.specs.declared.causes.Way.{Way}
-use Rattle.lmcp_log.specs.Keeping.{SameSlots}
-use Rattle.load_laws.specs.Loads.{loaded_buckets}
+use Rattle.unit_world.specs.file_images.Files.{SameRing}
+use Rattle.recover_rms.specs.file_recoveries.Suiting.{MayHave}
+use Rattle.recover_rms.specs.file_recoveries.declared.causes.Way.{Way}
+use Rattle.unit_world.specs.lmcp_log.Keeping.{SameSlots}
+use Rattle.recover_rms.specs.load_laws.Loads.{loaded_buckets}
 use Rattle.recover_rms.specs.Replacing.{ReplacesIn, with_head}
-use Rattle.recovery_model.specs.Recovery.{rolled}
+use Rattle.world_laws.specs.recovery_model.Recovery.{rolled}
 use Rattle.records_model.specs.Records.{Records}
-use Rattle.script_model.specs.Statements.{Recovery}
+use Rattle.world_laws.specs.script_model.Statements.{Recovery}
 use Rattle.unit_table.specs.Units.{OpenUnit, first_to_change}
-use Rattle.volume.specs.declared.catalog.Catalog.{Catalog}
-use Rattle.volume.specs.Limits.{data_area}
-use Rattle.volume.specs.State.{VolumeState}
+use Rattle.unit_world.specs.volume.declared.catalog.Catalog.{Catalog}
+use Rattle.unit_world.specs.volume.Limits.{data_area}
+use Rattle.unit_world.specs.volume.State.{VolumeState}
 use Rattle.volume_format.specs.Home.{sizes_of}
-use Rattle.run_model.specs.Answers.{blocks_recovered, records_recovered, start_of, way_of}
-use Rattle.run_model.specs.World.{File, Node, Recovers, acted, buckets_loaded, lowest_free, recovered_file, state_of}
+use Rattle.world_laws.specs.run_model.Answers.{blocks_recovered, records_recovered, start_of, way_of}
+use Rattle.world_laws.specs.run_model.World.{File, Node, Recovers, acted, buckets_loaded, lowest_free, recovered_file, state_of}
 use Rattle.world_laws.proofs.OrderedLemmas.{recovers_keep_order}
-use Rattle.directory_model.specs.Files.{AgreesOnFile, AreFiles, file_at, head_at}
-use Rattle.directory_model.specs.Laws.{in_blocks}
-use Rattle.directory_model.specs.Restoring.{AreRestorable, CanRestore}
-use Rattle.directory_model.proofs.Apart.{extent_holds, lie_apart, number_low, writes_apart}
-use Rattle.directory_model.proofs.Places.{within_list}
-use Rattle.directory_model.proofs.Standing.{stands_on_extents}
-use Rattle.restart_laws.proofs.ListLemmas.{all_as}
-use Rattle.restart_laws.proofs.StayLemmas.{keeps_restorable, restorable_set}
-use Rattle.restart_laws.proofs.UnitLemmas.{keeps_units}
-use Rattle.volume_model.specs.Volumes.{HasVolume}
-use Rattle.volume_laws.proofs.FollowLemmas.{follow}
-use Rattle.volume_laws.proofs.LogLemmas.{stays as log_stays, told}
+use Rattle.unit_world.specs.directory_model.Files.{AgreesOnFile, AreFiles, file_at, head_at}
+use Rattle.unit_world.specs.directory_model.Laws.{in_blocks}
+use Rattle.unit_world.specs.directory_model.Restoring.{AreRestorable, CanRestore}
+use Rattle.unit_world.proofs.directory_model.Apart.{extent_holds, lie_apart, number_low, writes_apart}
+use Rattle.unit_world.proofs.directory_model.Places.{within_list}
+use Rattle.unit_world.proofs.directory_model.Standing.{stands_on_extents}
+use Rattle.unit_world.proofs.restart_laws.ListLemmas.{all_as}
+use Rattle.unit_world.proofs.restart_laws.StayLemmas.{keeps_restorable, restorable_set}
+use Rattle.unit_world.proofs.restart_laws.UnitLemmas.{keeps_units}
+use Rattle.unit_world.specs.volume_model.Volumes.{HasVolume}
+use Rattle.unit_world.proofs.volume_laws.FollowLemmas.{follow}
+use Rattle.unit_world.proofs.volume_laws.LogLemmas.{stays as log_stays, told}
 use Rattle.recovered_nodes.specs.Recovering.{IsRecoveredHead}
 use Rattle.recovered_nodes.proofs.Recovering.{recoveries_keep}
 use Rattle.recovered_nodes.proofs.Rows.{loads_rows}
-use Rattle.recovery_units.specs.State.{AreLocks, IsKept, IsUnitOf, UnitsState, changed_at}
+use Rattle.unit_world.specs.recovery_units.State.{AreLocks, IsKept, IsUnitOf, UnitsState, changed_at}
 use Rattle.unit_world.proofs.Blocks.{extents_behind, other_block, whole_set}
 use Rattle.unit_world.proofs.Marking.{rests_by}
 use Rattle.unit_world.proofs.Staying.{changed_set, locks_stay, names_set}

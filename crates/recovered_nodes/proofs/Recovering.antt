@@ -7,18 +7,18 @@ use Rattle.file_base.specs.declared.head.Organization.{Organization as Kept}
 use Rattle.file_base.specs.declared.head.Organization.TheVariants.{Sequential, Relative, Indexed}
 use Rattle.file_base.specs.declared.head.Span.{Span}
 use Rattle.vms_base.specs.declared.times.Moment.{Moment}
-use Rattle.file_images.specs.Files.{HasSave, HasSide, SameRing, form_of}
-use Rattle.file_images.proofs.Sides.{saves_follow, sides_follow}
+use Rattle.unit_world.specs.file_images.Files.{HasSave, HasSide, SameRing, form_of}
+use Rattle.unit_world.proofs.file_images.Sides.{saves_follow, sides_follow}
 use Rattle.journal_model.specs.Ring.{HasRing}
 use Rattle.records_model.specs.Records.{Records}
 use Rattle.records_model.specs.History.{LiveChanges, current}
-use Rattle.recovery_model.specs.File.{ImageJournal, next_span, renewed, renewed_if_on}
-use Rattle.run_model.specs.World.{Node, Carried, File, Recovers, acted, carried_recovered, recovered_file}
-use Rattle.directory_model.specs.Files.{AgreesOnCarried, AreFiles, IsCarried, IsFile, IsHeadOf, IsNamed, file_at, organized_by}
-use Rattle.directory_model.specs.Laws.{SameBut}
-use Rattle.directory_model.proofs.Acts.{same_there}
-use Rattle.directory_model.proofs.Finding.{finds_files}
-use Rattle.directory_model.proofs.Moving.{places_moved}
+use Rattle.world_laws.specs.recovery_model.File.{ImageJournal, next_span, renewed, renewed_if_on}
+use Rattle.world_laws.specs.run_model.World.{Node, Carried, File, Recovers, acted, carried_recovered, recovered_file}
+use Rattle.unit_world.specs.directory_model.Files.{AgreesOnCarried, AreFiles, IsCarried, IsFile, IsHeadOf, IsNamed, file_at, organized_by}
+use Rattle.unit_world.specs.directory_model.Laws.{SameBut}
+use Rattle.unit_world.proofs.directory_model.Acts.{same_there}
+use Rattle.unit_world.proofs.directory_model.Finding.{finds_files}
+use Rattle.unit_world.proofs.directory_model.Moving.{places_moved}
 use Rattle.recovered_nodes.specs.Recovering.{IsLoadedWith, IsRecoveredHead, IsRenewed, IsSince, RecoveriesKeepFiles}
 
 -- Journals that begin anew.

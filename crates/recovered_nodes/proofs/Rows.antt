@@ -11,21 +11,21 @@ use Rattle.file_base.specs.declared.head.Organization.TheVariants as kept
 use Rattle.file_base.specs.declared.head.Span.{Span}
 use Rattle.vms_base.specs.declared.times.Moment.{Moment}
 use Rattle.vms_model.specs.Keys.{End, Key, Number, Text}
-use Rattle.load_laws.specs.Loads.{AllSuitBy, IsLoaded, buckets_by, head_by, layout_by, loaded_layout}
-use Rattle.load_laws.specs.Records.{Keyed, texts_of, values_of}
+use Rattle.recover_rms.specs.load_laws.Loads.{AllSuitBy, IsLoaded, buckets_by, head_by, layout_by, loaded_layout}
+use Rattle.recover_rms.specs.load_laws.Records.{Keyed, texts_of, values_of}
 use Rattle.records_model.specs.Records.{Records, key_cmp}
 use Rattle.records_model.proofs.KeyLemmas.{key_cmp_total}
 use Rattle.records_model.specs.Placing.{filled_by, first_bucket}
-use Rattle.run_model.proofs.EntryLemmas.{no_entries}
-use Rattle.run_model.specs.World.{File, Indexed, Organization, Relative, Sequential, buckets_loaded, buckets_taken, key_size_of, layout_loaded, loaded_map, records_from, sizes_of, slots_loaded}
+use Rattle.world_laws.proofs.run_model.EntryLemmas.{no_entries}
+use Rattle.world_laws.specs.run_model.World.{File, Indexed, Organization, Relative, Sequential, buckets_loaded, buckets_taken, key_size_of, layout_loaded, loaded_map, records_from, sizes_of, slots_loaded}
 use Rattle.seq_file.specs.Records.{slot_sizes}
-use Rattle.tree_model.specs.Layouts.{Layout, Sizes, used_of}
-use Rattle.tree_model.specs.Loads.{loaded, slot_for}
-use Rattle.volume.specs.declared.catalog.Catalog.{Catalog}
-use Rattle.directory_model.specs.Files.{IsHeadOf, organized_by}
+use Rattle.index_model.specs.tree_model.Layouts.{Layout, Sizes, used_of}
+use Rattle.index_model.specs.tree_model.Loads.{loaded, slot_for}
+use Rattle.unit_world.specs.volume.declared.catalog.Catalog.{Catalog}
+use Rattle.unit_world.specs.directory_model.Files.{IsHeadOf, organized_by}
 use Rattle.recovered_nodes.specs.Recovering.{IsLoadedWith, IsRecoveredHead, IsRenewed, IsSince}
-use Rattle.file_recoveries.specs.Heads.{renewed_span}
-use Rattle.file_recoveries.specs.Suiting.{MayHave}
+use Rattle.recover_rms.specs.file_recoveries.Heads.{renewed_span}
+use Rattle.recover_rms.specs.file_recoveries.Suiting.{MayHave}
 use Rattle.recover_rms.specs.Loading.{as_loaded, at_positions, loaded_behind}
 use Rattle.recover_rms.specs.Replacing.{IsHeadWith, moved_head, wanted_buckets}
 use Rattle.recover_rms.proofs.LoadLemmas.{all_listed}

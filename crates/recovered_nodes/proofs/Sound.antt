@@ -8,19 +8,19 @@ use Rattle.file_base.specs.declared.head.FileHead.{FileHead}
 use Rattle.file_base.specs.declared.head.Organization.{Organization as Kept}
 use Rattle.file_base.specs.declared.head.Organization.TheVariants as kept
 use Rattle.file_base.specs.declared.head.Span.{Span}
-use Rattle.load_laws.specs.Loads.{buckets_by, loaded_buckets}
-use Rattle.load_laws.specs.Records.{Keyed}
-use Rattle.record_files.specs.Any.{FormBy, IsFile}
+use Rattle.recover_rms.specs.load_laws.Loads.{buckets_by, loaded_buckets}
+use Rattle.recover_rms.specs.load_laws.Records.{Keyed}
+use Rattle.recover_rms.specs.record_files.Any.{FormBy, IsFile}
 use Rattle.recover_rms.specs.Calls.{AreInRings}
 use Rattle.recover_rms.specs.Replacing.{IsHeadWith, with_head}
 use Rattle.vms_base.specs.declared.times.Moment.{Moment}
-use Rattle.volume.specs.declared.catalog.Catalog.{Catalog}
-use Rattle.volume.specs.Catalogs.{IsNew, IsSound}
-use Rattle.volume.specs.Limits.{EntryFits, FileFits, KeysFit, RootFits, SaveFits, SpanFits, data_area, file_buckets, save_buckets}
+use Rattle.unit_world.specs.volume.declared.catalog.Catalog.{Catalog}
+use Rattle.unit_world.specs.volume.Catalogs.{IsNew, IsSound}
+use Rattle.unit_world.specs.volume.Limits.{EntryFits, FileFits, KeysFit, RootFits, SaveFits, SpanFits, data_area, file_buckets, save_buckets}
 use Rattle.volume_format.specs.Home.{sizes_of}
-use Rattle.directory_model.specs.Files.{AreNamedOnce, Fit, head_at}
-use Rattle.directory_model.proofs.Heads.{keeps_heads}
-use Rattle.directory_model.proofs.Places.{within_list}
+use Rattle.unit_world.specs.directory_model.Files.{AreNamedOnce, Fit, head_at}
+use Rattle.unit_world.proofs.directory_model.Heads.{keeps_heads}
+use Rattle.unit_world.proofs.directory_model.Places.{within_list}
 use Rattle.recovered_nodes.specs.Recovering.{IsRecoveredHead, IsRenewed, IsSince}
 use Rattle.recovered_nodes.proofs.Rows.{loads_rows}
 

@@ -7,7 +7,7 @@ use Rattle.file_base.specs.Bytes.{piece_at}
 use Rattle.file_base.specs.declared.head.FileHead.{FileHead}
 use Rattle.file_base.specs.declared.head.Organization.{Organization as Kept}
 use Rattle.file_base.specs.declared.head.Organization.TheVariants as kept
-use Rattle.bucket_page.specs.Pages.{all_suit, key_in, suits, u16_at}
+use Rattle.seq_file.specs.bucket_page.Pages.{all_suit, key_in, suits, u16_at}
 use Rattle.vms_model.specs.Ids.{Id}
 use Rattle.vms_model.specs.Keys.{End, Key, Number, Text}
 use Rattle.records_model.specs.History.{current}
@@ -19,30 +19,30 @@ use Rattle.seq_file.specs.Layout.{IsRecord}
 use Rattle.seq_file.specs.Records.{record_at}
 use Rattle.relative_file.specs.Cells as relative
 use Rattle.relative_file.specs.Cells.{has_cell}
-use Rattle.tree_model.specs.Layouts.{slots_along}
+use Rattle.index_model.specs.tree_model.Layouts.{slots_along}
 use Rattle.index_model.specs.Indexes.{Entry}
 use Rattle.index_model.specs.Trees.{child_of, leaf_at}
-use Rattle.index_blocks.specs.Buckets.{bucket_at as leaf_bytes}
-use Rattle.index_blocks.specs.Levels.{AllAre, leaf_entries}
+use Rattle.recover_rms.specs.index_blocks.Buckets.{bucket_at as leaf_bytes}
+use Rattle.recover_rms.specs.index_blocks.Levels.{AllAre, leaf_entries}
 use Rattle.indexed_file.specs.Chain.{IsLeaf, kind_of, slot_of, slots_in}
 use Rattle.indexed_file.proofs.LeafLaws.{data_tells}
-use Rattle.indexed_tree.specs.Files as indexed
-use Rattle.indexed_tree.specs.Maps.{all_slots}
-use Rattle.indexed_tree.specs.Rooted.{IsRooted}
-use Rattle.record_files.specs.Any.{FormBy, IsFile, IsLaidOut, LaidOutBy, Suits, SuitsBy, map_by, map_of}
-use Rattle.recovery_model.specs.File.{FileState, Save}
-use Rattle.recovery_model.specs.Journal.{Changed}
-use Rattle.recovery_model.specs.Recovery.{rolled}
-use Rattle.save_laws.specs.Saves.{save_head}
-use Rattle.directory_model.specs.Files.{IsWithin}
-use Rattle.restart_laws.proofs.FoundLemmas.{Keeps, cell_suits, record_is, slot_suits}
-use Rattle.file_images.specs.Files.{HasSave, SavedIn}
-use Rattle.file_images.proofs.Forms.{suited_by_form, suited_by_head}
-use Rattle.file_recoveries.specs.Causes.{cause_of, way_of}
-use Rattle.file_recoveries.specs.Files.{HasFile}
-use Rattle.file_recoveries.specs.Suiting.{MayHave}
-use Rattle.file_recoveries.specs.declared.causes.Way.{Way}
-use Rattle.file_recoveries.proofs.SuitLemmas.{records_suit}
+use Rattle.recover_rms.specs.indexed_tree.Files as indexed
+use Rattle.recover_rms.specs.indexed_tree.Maps.{all_slots}
+use Rattle.recover_rms.specs.indexed_tree.Rooted.{IsRooted}
+use Rattle.recover_rms.specs.record_files.Any.{FormBy, IsFile, IsLaidOut, LaidOutBy, Suits, SuitsBy, map_by, map_of}
+use Rattle.world_laws.specs.recovery_model.File.{FileState, Save}
+use Rattle.world_laws.specs.recovery_model.Journal.{Changed}
+use Rattle.world_laws.specs.recovery_model.Recovery.{rolled}
+use Rattle.recover_rms.specs.save_laws.Saves.{save_head}
+use Rattle.unit_world.specs.directory_model.Files.{IsWithin}
+use Rattle.unit_world.proofs.restart_laws.FoundLemmas.{Keeps, cell_suits, record_is, slot_suits}
+use Rattle.unit_world.specs.file_images.Files.{HasSave, SavedIn}
+use Rattle.unit_world.proofs.file_images.Forms.{suited_by_form, suited_by_head}
+use Rattle.recover_rms.specs.file_recoveries.Causes.{cause_of, way_of}
+use Rattle.recover_rms.specs.file_recoveries.Files.{HasFile}
+use Rattle.recover_rms.specs.file_recoveries.Suiting.{MayHave}
+use Rattle.recover_rms.specs.file_recoveries.declared.causes.Way.{Way}
+use Rattle.recover_rms.proofs.file_recoveries.SuitLemmas.{records_suit}
 use Rattle.recovered_nodes.specs.Rows.{RecordsMayStand}
 
 -- The keys of an indexed file have their size.

@@ -5,23 +5,23 @@ use Rattle.careful_write.specs.Steps.{AgreesOff}
 use Rattle.extents.specs.Extents.{all_extents, extent, is_used, nowhere}
 use Rattle.extents.proofs.Used.{covered, free_is, not_both, used_at}
 use Rattle.file_base.specs.declared.head.FileHead.{FileHead}
-use Rattle.file_images.specs.Files.{SameRing}
-use Rattle.lmcp_log.specs.Keeping.{SameSlots}
+use Rattle.unit_world.specs.file_images.Files.{SameRing}
+use Rattle.unit_world.specs.lmcp_log.Keeping.{SameSlots}
 use Rattle.recover_rms.specs.Replacing.{is_unused}
-use Rattle.volume.specs.declared.catalog.Catalog.{Catalog}
-use Rattle.volume.specs.Limits.{data_area}
-use Rattle.volume.specs.State.{VolumeState}
+use Rattle.unit_world.specs.volume.declared.catalog.Catalog.{Catalog}
+use Rattle.unit_world.specs.volume.Limits.{data_area}
+use Rattle.unit_world.specs.volume.State.{VolumeState}
 use Rattle.volume_format.specs.Home.{sizes_of}
-use Rattle.run_model.specs.World.{Node}
-use Rattle.directory_model.specs.Files.{AgreesOnFile, Fit, head_at}
-use Rattle.directory_model.specs.Laws.{in_blocks}
-use Rattle.directory_model.proofs.Apart.{file_stands_in, long, number_low, on_disk}
-use Rattle.directory_model.proofs.Standing.{stands_on_extents}
-use Rattle.restart_laws.proofs.StayLemmas.{keeps_restorable}
-use Rattle.volume_model.specs.Volumes.{HasVolume}
-use Rattle.volume_laws.proofs.FollowLemmas.{follow}
-use Rattle.volume_laws.proofs.LogLemmas.{stays as log_stays}
-use Rattle.recovery_units.specs.State.{AreLocks, IsInOrder, IsKept, UnitsState}
+use Rattle.world_laws.specs.run_model.World.{Node}
+use Rattle.unit_world.specs.directory_model.Files.{AgreesOnFile, Fit, head_at}
+use Rattle.unit_world.specs.directory_model.Laws.{in_blocks}
+use Rattle.unit_world.proofs.directory_model.Apart.{file_stands_in, long, number_low, on_disk}
+use Rattle.unit_world.proofs.directory_model.Standing.{stands_on_extents}
+use Rattle.unit_world.proofs.restart_laws.StayLemmas.{keeps_restorable}
+use Rattle.unit_world.specs.volume_model.Volumes.{HasVolume}
+use Rattle.unit_world.proofs.volume_laws.FollowLemmas.{follow}
+use Rattle.unit_world.proofs.volume_laws.LogLemmas.{stays as log_stays}
+use Rattle.unit_world.specs.recovery_units.State.{AreLocks, IsInOrder, IsKept, UnitsState}
 use Rattle.unit_world.proofs.Blocks.{fit, same_names}
 
 pub some_is : {A : Type 0} {a b : A} → ◌≡◌ {A = Option A} (Some a) (Some b) → a ≡ b

@@ -6,31 +6,31 @@ use Rattle.vms_model.specs.Limits.{file_limit}
 use Rattle.careful_write.specs.State.{EachWhole}
 use Rattle.careful_write.specs.Steps.{AgreesOff}
 use Rattle.file_base.specs.declared.head.FileHead.{FileHead}
-use Rattle.file_recoveries.specs.Causes as causes
-use Rattle.file_recoveries.specs.Causes.{cause_of, refusal_by}
-use Rattle.file_recoveries.specs.Files.{HasFile}
-use Rattle.file_recoveries.specs.declared.causes.Way.{Way}
-use Rattle.load_laws.specs.Records.{Keyed}
+use Rattle.recover_rms.specs.file_recoveries.Causes as causes
+use Rattle.recover_rms.specs.file_recoveries.Causes.{cause_of, refusal_by}
+use Rattle.recover_rms.specs.file_recoveries.Files.{HasFile}
+use Rattle.recover_rms.specs.file_recoveries.declared.causes.Way.{Way}
+use Rattle.recover_rms.specs.load_laws.Records.{Keyed}
 use Rattle.recover_rms.specs.Calls.{AreInRings, IsAsked}
 use Rattle.recover_rms.specs.Loading.{as_loaded}
 use Rattle.recover_rms.specs.Replacing.{IsHeadWith, IsLongest, IsOldOrNew, ReplacesIn, is_unused, wanted_buckets, with_head}
 use Rattle.records_model.specs.History as history
 use Rattle.records_model.specs.History.{current}
-use Rattle.recovery_model.specs.Recovery.{rolled}
-use Rattle.script_model.specs.Statements.{Recovery}
+use Rattle.world_laws.specs.recovery_model.Recovery.{rolled}
+use Rattle.world_laws.specs.script_model.Statements.{Recovery}
 use Rattle.unit_table.specs.Units.{first_to_change}
 use Rattle.vms_base.specs.Ids.{serial_of}
 use Rattle.vms_base.specs.declared.ids.Serial.{Serial}
-use Rattle.volume.specs.declared.catalog.Catalog.{Catalog}
-use Rattle.volume.specs.Catalogs.{IsSound}
-use Rattle.volume.specs.State.{VolumeState}
+use Rattle.unit_world.specs.volume.declared.catalog.Catalog.{Catalog}
+use Rattle.unit_world.specs.volume.Catalogs.{IsSound}
+use Rattle.unit_world.specs.volume.State.{VolumeState}
 use Rattle.world_laws.specs.Nodes.{IsUp}
-use Rattle.run_model.specs.Answers.{blocks_recovered, records_recovered, recovery_refused, refusal_line, start_of, way_of}
-use Rattle.run_model.specs.World.{Act, File, Node, Recovers, acted, buckets_loaded, fallen, find_file, longest_free, lowest_free, serials_of, state_of}
-use Rattle.directory_model.specs.Files.{IsNamed, head_at}
+use Rattle.world_laws.specs.run_model.Answers.{blocks_recovered, records_recovered, recovery_refused, refusal_line, start_of, way_of}
+use Rattle.world_laws.specs.run_model.World.{Act, File, Node, Recovers, acted, buckets_loaded, fallen, find_file, longest_free, lowest_free, serials_of, state_of}
+use Rattle.unit_world.specs.directory_model.Files.{IsNamed, head_at}
 use Rattle.recovered_nodes.specs.Recovering.{IsRecoveredHead}
-use Rattle.volume_model.specs.Volumes.{IsEitherOf, IsLeftBy}
-use Rattle.recovery_units.specs.State.{UnitsState, IsKept, IsInOrder}
+use Rattle.unit_world.specs.volume_model.Volumes.{IsEitherOf, IsLeftBy}
+use Rattle.unit_world.specs.recovery_units.State.{UnitsState, IsKept, IsInOrder}
 
 -- A node that is up is these units and this volume, of which the disk tells this content; and its file of this name is that of a number and its head.
 pub record StandsThere (s : UnitsState) (v : VolumeState) (n : Node) (f : ℕ) (h : FileHead) (name : List ℕ) (file : File) (content : List (List ℕ)) : Type 0 where

@@ -5,13 +5,13 @@ use Rattle.file_base.specs.declared.head.FileHead.{FileHead}
 use Rattle.file_base.specs.declared.head.Span.{Span}
 use Rattle.vms_base.specs.declared.times.Moment.{Moment}
 use Rattle.vms_model.specs.Keys.{Key}
-use Rattle.record_files.specs.Any as any
-use Rattle.record_files.specs.Any.{map_of, IsLaidOut}
+use Rattle.recover_rms.specs.record_files.Any as any
+use Rattle.recover_rms.specs.record_files.Any.{map_of, IsLaidOut}
 use Rattle.records_model.specs.Records.{Records}
-use Rattle.recovery_model.specs.File.{next_span}
-use Rattle.run_model.specs.World.{Node, File, Recovers, acted, layout_loaded, sizes_of}
-use Rattle.directory_model.specs.Files.{AgreesOnCarried, AreFiles, IsNamed, file_at, layout_of}
-use Rattle.directory_model.specs.Laws.{SameBut}
+use Rattle.world_laws.specs.recovery_model.File.{next_span}
+use Rattle.world_laws.specs.run_model.World.{Node, File, Recovers, acted, layout_loaded, sizes_of}
+use Rattle.unit_world.specs.directory_model.Files.{AgreesOnCarried, AreFiles, IsNamed, file_at, layout_of}
+use Rattle.unit_world.specs.directory_model.Laws.{SameBut}
 
 -- a journal begins anew in its ring, at a whole block behind its end, where the file has it
 abbrev pub IsRenewed : Bool → Span → Span → Type 0

@@ -2,21 +2,21 @@
 use Rattle.std.specs.Prelude.{◌≡◌, ℕ, true, List, None, length}
 use Rattle.std.specs.FinMap.{entries}
 use Rattle.file_base.specs.declared.head.FileHead.{FileHead}
-use Rattle.load_laws.specs.Loads.{IsLoaded}
-use Rattle.load_laws.specs.Records.{Keyed}
-use Rattle.recovery_model.specs.File.{FileState}
-use Rattle.recovery_model.specs.Recovery.{rolled}
-use Rattle.save_laws.specs.Saves.{save_head}
+use Rattle.recover_rms.specs.load_laws.Loads.{IsLoaded}
+use Rattle.recover_rms.specs.load_laws.Records.{Keyed}
+use Rattle.world_laws.specs.recovery_model.File.{FileState}
+use Rattle.world_laws.specs.recovery_model.Recovery.{rolled}
+use Rattle.recover_rms.specs.save_laws.Saves.{save_head}
 use Rattle.records_model.specs.Records.{Records}
 use Rattle.records_model.specs.History.{current}
-use Rattle.run_model.specs.World.{File, KeepsImages, buckets_loaded, loaded_map, state_of}
-use Rattle.volume.specs.declared.catalog.Catalog.{Catalog}
-use Rattle.directory_model.specs.Files.{IsCarried, IsFile, IsHeadOf, IsWithin}
+use Rattle.world_laws.specs.run_model.World.{File, KeepsImages, buckets_loaded, loaded_map, state_of}
+use Rattle.unit_world.specs.volume.declared.catalog.Catalog.{Catalog}
+use Rattle.unit_world.specs.directory_model.Files.{IsCarried, IsFile, IsHeadOf, IsWithin}
 use Rattle.recovered_nodes.specs.Recovering.{IsLoadedWith, IsRecoveredHead}
-use Rattle.file_recoveries.specs.Causes.{cause_of, way_of}
-use Rattle.file_recoveries.specs.Files.{HasFile}
-use Rattle.file_recoveries.specs.declared.causes.Way.{Way}
-use Rattle.file_recoveries.specs.Suiting.{MayHave}
+use Rattle.recover_rms.specs.file_recoveries.Causes.{cause_of, way_of}
+use Rattle.recover_rms.specs.file_recoveries.Files.{HasFile}
+use Rattle.recover_rms.specs.file_recoveries.declared.causes.Way.{Way}
+use Rattle.recover_rms.specs.file_recoveries.Suiting.{MayHave}
 use Rattle.recover_rms.specs.Loading.{as_loaded}
 use Rattle.recover_rms.specs.Replacing.{IsHeadWith, wanted_buckets}
 

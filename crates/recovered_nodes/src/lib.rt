@@ -7,6 +7,9 @@ ghost use Rattle.recovered_nodes.specs.Laws.{RecoversNodes};
 ghost use Rattle.recovered_nodes.specs.Recovering.{RecoveriesKeepFiles};
 ghost use Rattle.recovered_nodes.specs.Rows.{FilesAreKnown, LoadsAreRows, RecordsMayStand};
 
+pub use recover_rms::recover;
+pub use unit_world::nodes_are_kept;
+
 /// Once the records of a recovery are loaded into other buckets, and each journal of the file begins anew, the volume's files are those of the world.
 pub fn recoveries_keep_files()
     ensures { RecoveriesKeepFiles }

@@ -15,15 +15,15 @@ use Rattle.commit_protocol.proofs.Opened.{good_opened}
 use Rattle.commit_protocol.proofs.Running.{goes_run, never_both}
 use Rattle.commit_protocol.proofs.Settling.{not_gone_ready}
 use Rattle.log_laws.specs.Slots.{prepared_of, records_in}
-use Rattle.run_model.specs.World.{Node, Settlement, World, find_node, prepared_left, prepared_serials}
-use Rattle.run_model.specs.Transcript.{Entry}
-use Rattle.run_agreement.specs.Following.{Shows, opening_of}
-use Rattle.run_agreement.specs.Laws.{IsReachedBy, IsRun, image_after, next_opening}
-use Rattle.run_agreement.specs.Seen.{Face, IsFace, Resolution, has_volume, image_of, landed, outcome_of}
-use Rattle.run_agreement.proofs.Booting.{quiet_lands}
-use Rattle.run_agreement.proofs.Images.{SameImage, after_in, face_image}
-use Rattle.run_agreement.proofs.Openings.{reached_by, told_settled}
-use Rattle.run_agreement.proofs.Resting.{found_of}
+use Rattle.world_laws.specs.run_model.World.{Node, Settlement, World, find_node, prepared_left, prepared_serials}
+use Rattle.world_laws.specs.run_model.Transcript.{Entry}
+use Rattle.run_laws.specs.run_agreement.Following.{Shows, opening_of}
+use Rattle.run_laws.specs.run_agreement.Laws.{IsReachedBy, IsRun, image_after, next_opening}
+use Rattle.run_laws.specs.run_agreement.Seen.{Face, IsFace, Resolution, has_volume, image_of, landed, outcome_of}
+use Rattle.run_laws.proofs.run_agreement.Booting.{quiet_lands}
+use Rattle.run_laws.proofs.run_agreement.Images.{SameImage, after_in, face_image}
+use Rattle.run_laws.proofs.run_agreement.Openings.{reached_by, told_settled}
+use Rattle.run_laws.proofs.run_agreement.Resting.{found_of}
 use Rattle.world_laws.proofs.LogLemmas.{prepared_branch}
 use Rattle.run_laws.proofs.OneBranch.{IsDisk, in_order}
 use Rattle.run_laws.proofs.ToldImages.{in_base}

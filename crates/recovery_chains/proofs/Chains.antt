@@ -13,15 +13,15 @@ use Rattle.commit_protocol.proofs.Gathered.{is_shown}
 use Rattle.commit_protocol.proofs.Lists.{same_id-refl, same_id-true}
 use Rattle.recovery_model.specs.Journal.{is_commit}
 use Rattle.recovery_model.specs.Opening.{IsOpening}
-use Rattle.run_model.specs.World.{Act, DiskCounts, File, Node, Settlement, Sound, World, acted, find_node, opened, state_of}
-use Rattle.run_model.specs.Transcript.{Entry, Legal}
-use Rattle.run_model.proofs.NodeLists.{found_name, some_is}
+use Rattle.world_laws.specs.run_model.World.{Act, DiskCounts, File, Node, Settlement, Sound, World, acted, find_node, opened, state_of}
+use Rattle.world_laws.specs.run_model.Transcript.{Entry, Legal}
+use Rattle.world_laws.proofs.run_model.NodeLists.{found_name, some_is}
 use Rattle.world_laws.specs.Running.{AllFound}
 use Rattle.world_laws.proofs.NodeLemmas.{acted_name}
-use Rattle.run_agreement.specs.Following.{opening_of}
-use Rattle.run_agreement.specs.Laws.{next_opening, opening_told}
-use Rattle.run_agreement.specs.Seen.{Resolution, has_volume, image_of, landed}
-use Rattle.run_agreement.proofs.Openings.{reached_by, sound_of}
+use Rattle.run_laws.specs.run_agreement.Following.{opening_of}
+use Rattle.run_laws.specs.run_agreement.Laws.{next_opening, opening_told}
+use Rattle.run_laws.specs.run_agreement.Seen.{Resolution, has_volume, image_of, landed}
+use Rattle.run_laws.proofs.run_agreement.Openings.{reached_by, sound_of}
 use Rattle.run_laws.specs.Laws.{AgreedPromises, AgreedPromisesAreKept}
 use Rattle.run_laws.specs.Promises.{left_at, settlements_of}
 use Rattle.run_laws.proofs.Deciding.{any_in, in_any}
@@ -29,11 +29,11 @@ use Rattle.run_laws.proofs.LastSettled.{left_found}
 use Rattle.run_laws.proofs.SoundWorlds.{legal_sound, opening_sound}
 use Rattle.run_laws.proofs.Staying.{after_grows, found_settled}
 use Rattle.run_laws.proofs.Undecided.{home, used}
-use Rattle.run_chains.specs.Chains.{AreNext, Follow, LeftSo, MadeAreNew, MayAgree, RunOf}
-use Rattle.run_chains.specs.Reopenings.{IsReopened}
-use Rattle.run_chains.proofs.Anew.{Turns, prepared_before, shows_in}
-use Rattle.run_chains.proofs.Names.{Both, Nowhere, Place, place}
-use Rattle.run_chains.proofs.Next.{Lands, chains_agree, next_runs_agree, turned, turns}
+use Rattle.recovery_runs.specs.run_chains.Chains.{AreNext, Follow, LeftSo, MadeAreNew, MayAgree, RunOf}
+use Rattle.recovery_runs.specs.run_chains.Reopenings.{IsReopened}
+use Rattle.recovery_runs.proofs.run_chains.Anew.{Turns, prepared_before, shows_in}
+use Rattle.recovery_runs.proofs.run_chains.Names.{Both, Nowhere, Place, place}
+use Rattle.recovery_runs.proofs.run_chains.Next.{Lands, chains_agree, next_runs_agree, turned, turns}
 use Rattle.recovery_runs.specs.LastImages.{LastImagesStand}
 use Rattle.recovery_runs.specs.Promises.{FilesAgree, LastImagesAgree, may_yet_commit}
 use Rattle.recovery_runs.specs.Runs.{AreLawful, EndMay, HasNoGaps, MayOnly}

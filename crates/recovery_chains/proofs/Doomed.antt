@@ -8,12 +8,12 @@ use Rattle.commit_protocol.specs.Opening.{IsAgreeing}
 use Rattle.commit_protocol.specs.Table.{Key as BranchKey, child}
 use Rattle.commit_protocol.specs.World.{In}
 use Rattle.log_laws.specs.Slots.{prepared_of, records_in}
-use Rattle.run_model.specs.World.{DiskCounts, Node, World, find_node, opened}
-use Rattle.run_model.specs.Transcript.{AreOpening, Entry, Legal}
-use Rattle.run_agreement.specs.Following.{opening_of}
-use Rattle.run_agreement.specs.Laws.{IsRun, NamesApart}
-use Rattle.run_agreement.specs.Seen.{Resolution}
-use Rattle.run_said.specs.Said.{Said}
+use Rattle.world_laws.specs.run_model.World.{DiskCounts, Node, World, find_node, opened}
+use Rattle.world_laws.specs.run_model.Transcript.{AreOpening, Entry, Legal}
+use Rattle.run_laws.specs.run_agreement.Following.{opening_of}
+use Rattle.run_laws.specs.run_agreement.Laws.{IsRun, NamesApart}
+use Rattle.run_laws.specs.run_agreement.Seen.{Resolution}
+use Rattle.run_laws.specs.run_said.Said.{Said}
 use Rattle.run_laws.specs.Anew.{IsMadeAnew, IsMadeIn}
 use Rattle.run_laws.specs.Laws.{AllAgree}
 use Rattle.run_laws.proofs.AbortsStand.{Bare, Dead, Fate, IsDoomed, agreed_doomed, legal_parts, told_agree}
@@ -24,7 +24,7 @@ use Rattle.run_laws.proofs.Falling.{aborting}
 use Rattle.run_laws.proofs.OneBranch.{one, one_keeps}
 use Rattle.run_laws.proofs.TurnsTell.{legal_told}
 use Rattle.run_laws.proofs.Undecided.{Known, down, is_known, known_on, used}
-use Rattle.run_chains.specs.Chains.{MayAgree}
+use Rattle.recovery_runs.specs.run_chains.Chains.{MayAgree}
 use Rattle.recovery_runs.proofs.Awaited.{landed_known}
 use Rattle.recovery_chains.proofs.Bound.{IsBound, bound_commits, bound_known}
 

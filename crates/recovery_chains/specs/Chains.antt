@@ -1,11 +1,11 @@
 -- Files that agree with their journals and saves, from run to run.
 use Rattle.std.specs.Prelude.{◌≡◌, ℕ, List, [], ◌∷◌, false, Some}
-use Rattle.run_model.specs.World.{DiskCounts, Node, World, opened}
-use Rattle.run_model.specs.Transcript.{Entry, Legal}
+use Rattle.world_laws.specs.run_model.World.{DiskCounts, Node, World, opened}
+use Rattle.world_laws.specs.run_model.Transcript.{Entry, Legal}
 use Rattle.world_laws.specs.Running.{AllFound}
-use Rattle.run_agreement.specs.Seen.{has_volume}
+use Rattle.run_laws.specs.run_agreement.Seen.{has_volume}
 use Rattle.run_laws.specs.Promises.{left_at}
-use Rattle.run_chains.specs.Chains.{AreNext, Follow, MadeAreNew, MayAgree, RunOf}
+use Rattle.recovery_runs.specs.run_chains.Chains.{AreNext, Follow, MadeAreNew, MayAgree, RunOf}
 use Rattle.recovery_runs.specs.Promises.{FilesAgree, LastImagesAgree, RecoveriesGiven}
 
 -- A disk without a volume has no files, unless these entries make its volume anew.

@@ -4,23 +4,23 @@ use Rattle.std.specs.FinMap.{empty}
 use Rattle.std.specs.Option.{option_and_then, option_map}
 use Rattle.vms_model.specs.Ids.{Id}
 use Rattle.vms_model.specs.Transactions.{Aborted}
-use Rattle.transcript_model.specs.Lines as line
-use Rattle.transcript_model.specs.Lines.{Line}
-use Rattle.script_model.specs.Statements.{Operation, Recovery, Request, Init, Boot, Create, SetFile, StartTrans, AddBranch, StartBranch, Records, Direct, EndBranch, EndTrans, AbortTrans, Inquire, DeclareRm, JoinRm, AckEvent, ForgetRm, GetDti, LmcpShow, LmcpDump, Dump, DumpJournal, DumpImages, Backup, Recover, Fuse, Crash, Clock}
-use Rattle.records_model.specs.Records.{Change}
+use Rattle.world_laws.specs.transcript_model.Lines as line
+use Rattle.world_laws.specs.transcript_model.Lines.{Line}
+use Rattle.world_laws.specs.script_model.Statements.{Operation, Recovery, Request, Init, Boot, Create, SetFile, StartTrans, AddBranch, StartBranch, Records, Direct, EndBranch, EndTrans, AbortTrans, Inquire, DeclareRm, JoinRm, AckEvent, ForgetRm, GetDti, LmcpShow, LmcpDump, Dump, DumpJournal, DumpImages, Backup, Recover, Fuse, Crash, Clock}
+use Rattle.unit_laws.specs.records_model.Records.{Change}
 use Rattle.unit_laws.specs.Units.{has_changes}
-use Rattle.recovery_model.specs.File as recovery
-use Rattle.recovery_model.specs.File.{IsOpenIn}
-use Rattle.recovery_model.specs.Recovery.{rolled}
-use Rattle.commit_protocol.specs.Allowed.{is_working}
-use Rattle.commit_protocol.specs.Table as table
-use Rattle.commit_protocol.specs.Table.{Branch}
-use Rattle.commit_protocol.specs.Rows as rows
-use Rattle.commit_protocol.specs.Rows.{row}
-use Rattle.log_laws.specs.Slots.{slot_records}
-use Rattle.run_model.specs.World.{Creates, Draws, File, Label, Node, Numbers, Shared, Tables, acted, find_file, free_place, labelled, lowest_free, next_id, next_moment, serial_labelled, shared_after, state_of, tm_of}
-use Rattle.run_model.specs.Operations.{changes_of, data_refused, form_refused, keys_asked, keys_held, refused_if}
-use Rattle.run_model.specs.Answers.{Row, Service, Task, Serves, Ticks, Takes, Hears, LosesLink, RunsDown, Restarts, Telling, adds, all_acted, all_shared, begins, branch_labelled, branch_named, changes_at, creates, direct_refused, directed, entry_lines, found_refused, images_full, in_state, is_marked, just, keys_at, keys_refused, log_line, made_label, more_locks, needs_unit, new_file, of_file, operated, operation_act, operation_refused, powers, records_of, refused_before_reading, serial_named, service, setting_refused, silent, starts, table_rows, task_service, there_is_file, to_branch, told_if, told_rows, unchanged_file, unsettled_label, records_recovered, recovers, way_of, to_file}
+use Rattle.world_laws.specs.recovery_model.File as recovery
+use Rattle.world_laws.specs.recovery_model.File.{IsOpenIn}
+use Rattle.world_laws.specs.recovery_model.Recovery.{rolled}
+use Rattle.world_laws.specs.commit_protocol.Allowed.{is_working}
+use Rattle.world_laws.specs.commit_protocol.Table as table
+use Rattle.world_laws.specs.commit_protocol.Table.{Branch}
+use Rattle.world_laws.specs.commit_protocol.Rows as rows
+use Rattle.world_laws.specs.commit_protocol.Rows.{row}
+use Rattle.world_laws.specs.log_laws.Slots.{slot_records}
+use Rattle.world_laws.specs.run_model.World.{Creates, Draws, File, Label, Node, Numbers, Shared, Tables, acted, find_file, free_place, labelled, lowest_free, next_id, next_moment, serial_labelled, shared_after, state_of, tm_of}
+use Rattle.world_laws.specs.run_model.Operations.{changes_of, data_refused, form_refused, keys_asked, keys_held, refused_if}
+use Rattle.world_laws.specs.run_model.Answers.{Row, Service, Task, Serves, Ticks, Takes, Hears, LosesLink, RunsDown, Restarts, Telling, adds, all_acted, all_shared, begins, branch_labelled, branch_named, changes_at, creates, direct_refused, directed, entry_lines, found_refused, images_full, in_state, is_marked, just, keys_at, keys_refused, log_line, made_label, more_locks, needs_unit, new_file, of_file, operated, operation_act, operation_refused, powers, records_of, refused_before_reading, serial_named, service, setting_refused, silent, starts, table_rows, task_service, there_is_file, to_branch, told_if, told_rows, unchanged_file, unsettled_label, records_recovered, recovers, way_of, to_file}
 use Rattle.world_laws.specs.Nodes.{IsKeptNode, IsRoomy, IsUp}
 use Rattle.world_laws.proofs.AnswerLemmas.{neither}
 use Rattle.world_laws.proofs.FindLemmas.{some_is}

@@ -8,16 +8,16 @@ use Rattle.std.specs.FinMap.{get}
 use Rattle.vms_model.specs.Ids.{Id}
 use Rattle.vms_model.specs.Keys.{Key}
 use Rattle.vms_model.specs.Transactions.{Abort, Commit, Outcome}
-use Rattle.records_model.specs.Records.{Change, Found, Records, applied, key_cmp}
-use Rattle.records_model.specs.History.{History, LiveChanges, changed_with, changes_by, changes_key, current, on_top, records, same_id, settled_at, settled_with, without}
-use Rattle.records_model.proofs.RecordsLemmas.{alike, get-set_key, same_key}
+use Rattle.unit_laws.specs.records_model.Records.{Change, Found, Records, applied, key_cmp}
+use Rattle.unit_laws.specs.records_model.History.{History, LiveChanges, changed_with, changes_by, changes_key, current, on_top, records, same_id, settled_at, settled_with, without}
+use Rattle.unit_laws.proofs.records_model.RecordsLemmas.{alike, get-set_key, same_key}
 use Rattle.unit_laws.specs.Laws.{Aborted, Committed}
 use Rattle.unit_laws.specs.Units.{Apart, HasImages, IsImage, IsOrderly, Map, OneMovesEnd, earliest_before, is_changed, is_free, is_of, latest_after, map_in, moves_end, restored}
 use Rattle.unit_laws.proofs.HistoryLaws.{aborts_one, changes_more, commits_one}
 use Rattle.unit_laws.proofs.LiveLemmas.{clash}
 use Rattle.unit_laws.proofs.RestoredLemmas.{changed_of}
 use Rattle.unit_laws.proofs.Tests.{or_first, or_second}
-use Rattle.run_model.specs.World.{File, Indexed, IsKept, OneMovesEndOf, Organization, Relative, Sequential, half_undone, recovered_file}
+use Rattle.world_laws.specs.run_model.World.{File, Indexed, IsKept, OneMovesEndOf, Organization, Relative, Sequential, half_undone, recovered_file}
 use Rattle.world_laws.proofs.PlainLemmas.{end_changed}
 use Rattle.recovery_laws.specs.Loading.{HasNoGap}
 use Rattle.recovery_laws.specs.Gaps.{FilesStayGapless, IsGapless, MayChangeOn}

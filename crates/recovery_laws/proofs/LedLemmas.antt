@@ -2,18 +2,18 @@
 use Rattle.std.proofs.Common.{◌≡◌, ◌⊎◌, ◌<◌, inl, inr, ℕ, List, [], ◌∷◌, Bool, true, Option, None, refl, sym, subst}
 use Rattle.vms_model.specs.Ids.{Id}
 use Rattle.vms_model.specs.Keys.{Key}
-use Rattle.script_model.specs.Statements.{AfterImages, BeforeImages}
-use Rattle.records_model.specs.Records.{Change, Records}
-use Rattle.records_model.specs.History.{changes_by, records}
+use Rattle.world_laws.specs.script_model.Statements.{AfterImages, BeforeImages}
+use Rattle.unit_laws.specs.records_model.Records.{Change, Records}
+use Rattle.unit_laws.specs.records_model.History.{changes_by, records}
 use Rattle.unit_laws.specs.Units.{Map}
-use Rattle.recovery_model.specs.File.{FileState, IsStill}
-use Rattle.recovery_model.specs.Acts as act
-use Rattle.recovery_model.specs.Acts.{Act, MayDo, MayHalfAbort, file_after, greatest_after}
-use Rattle.recovery_model.specs.Laws.{RoomSuffices, all_changed}
-use Rattle.recovery_model.specs.Opening.{IsOpening, as_found}
-use Rattle.recovery_model.specs.Recovery.{IsUser, Way, records_by, refusal, rolled}
-use Rattle.recovery_model.proofs.Recoveries.{created_has_room, created_is_found, created_recovers, found_has_room, found_recovers, left_is_found}
-use Rattle.run_model.specs.World.{BeginsImages, EndsImages, File, ForUnits, Mark, Settlement, changed_file, directly_changed, half_undone, leaving, marked_file, recovered_file, saved_file, settled_file, state_of}
+use Rattle.world_laws.specs.recovery_model.File.{FileState, IsStill}
+use Rattle.world_laws.specs.recovery_model.Acts as act
+use Rattle.world_laws.specs.recovery_model.Acts.{Act, MayDo, MayHalfAbort, file_after, greatest_after}
+use Rattle.world_laws.specs.recovery_model.Laws.{RoomSuffices, all_changed}
+use Rattle.world_laws.specs.recovery_model.Opening.{IsOpening, as_found}
+use Rattle.world_laws.specs.recovery_model.Recovery.{IsUser, Way, records_by, refusal, rolled}
+use Rattle.world_laws.proofs.recovery_model.Recoveries.{created_has_room, created_is_found, created_recovers, found_has_room, found_recovers, left_is_found}
+use Rattle.world_laws.specs.run_model.World.{BeginsImages, EndsImages, File, ForUnits, Mark, Settlement, changed_file, directly_changed, half_undone, leaving, marked_file, recovered_file, saved_file, settled_file, state_of}
 use Rattle.world_laws.specs.Entering.{MayEnterImages}
 use Rattle.world_laws.proofs.StateLemmas.{changes_keep}
 use Rattle.recovery_laws.specs.Led.{ActsKeepTold, MayBeSettled, ToldAgree, ToldRecover, WasFound, WasMade}

@@ -9,3 +9,5 @@ pub mod EnteringLemmas
 mod StayingLemmas
 pub mod RecoveringLemmas
 mod RowLemmas
+pub mod run_model
+pub mod world_laws

@@ -5,10 +5,10 @@ use Rattle.std.specs.Cmp.{nat_cmp_is}
 use Rattle.std.specs.FinMap.Entries.{by_order, put}
 use Rattle.std.specs.declared.cmp.Ordering.TheVariants.{Less}
 use Rattle.vms_model.specs.Keys.{Key, Number}
-use Rattle.records_model.specs.Records.{key_cmp}
-use Rattle.records_model.proofs.KeyLemmas.{key_cmp_total}
-use Rattle.run_model.specs.World.{Indexed, Relative, Sequential, numbered, records_from}
-use Rattle.run_model.proofs.EntryLemmas.{no_entries}
+use Rattle.unit_laws.specs.records_model.Records.{key_cmp}
+use Rattle.unit_laws.proofs.records_model.KeyLemmas.{key_cmp_total}
+use Rattle.world_laws.specs.run_model.World.{Indexed, Relative, Sequential, numbered, records_from}
+use Rattle.world_laws.proofs.run_model.EntryLemmas.{no_entries}
 use Rattle.recovery_laws.specs.Loading.{LoadsAsItIs, LoadsLeaveNoGap}
 
 put_first : (first : ℕ) (v : List ℕ) (es : List (Key × List ℕ)) → map (λ e. e.0) es ≡ numbered (first + 1) (length es) → put key_cmp (Number first) v es ≡ (Number first, v) ∷ es

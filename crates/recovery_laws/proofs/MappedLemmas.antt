@@ -4,18 +4,18 @@ use Rattle.std.specs.Prelude.{◌&&◌, ◌==◌}
 use Rattle.std.specs.FinMap.{entries}
 use Rattle.vms_model.specs.Ids.{Id}
 use Rattle.vms_model.specs.Keys.{End, Key, Number, Text}
-use Rattle.records_model.specs.Records.{Records}
-use Rattle.records_model.specs.History.{records}
+use Rattle.unit_laws.specs.records_model.Records.{Records}
+use Rattle.unit_laws.specs.records_model.History.{records}
 use Rattle.unit_laws.proofs.Tests.{and_first, and_second}
-use Rattle.recovery_model.specs.File as recovery
-use Rattle.recovery_model.specs.File.{FileState}
-use Rattle.recovery_model.specs.Acts.{Act, Leads, MayDo, file_after, greatest_after}
-use Rattle.recovery_model.specs.Laws.{EachRecords, GivesMaps, Passes, RoomSuffices, StaysTold}
-use Rattle.recovery_model.specs.Opening.{as_found}
-use Rattle.recovery_model.specs.Recovery.{Backward, Covers, Forward, Way, records_by}
-use Rattle.recovery_model.proofs.MapLemmas.{created_maps_stay, maps_stay}
-use Rattle.recovery_model.proofs.Recoveries.{created_stays_told, found_stays_told}
-use Rattle.run_model.specs.World.{Indexed, Organization, Relative, Sequential, numbered, state_of}
+use Rattle.world_laws.specs.recovery_model.File as recovery
+use Rattle.world_laws.specs.recovery_model.File.{FileState}
+use Rattle.world_laws.specs.recovery_model.Acts.{Act, Leads, MayDo, file_after, greatest_after}
+use Rattle.world_laws.specs.recovery_model.Laws.{EachRecords, GivesMaps, Passes, RoomSuffices, StaysTold}
+use Rattle.world_laws.specs.recovery_model.Opening.{as_found}
+use Rattle.world_laws.specs.recovery_model.Recovery.{Backward, Covers, Forward, Way, records_by}
+use Rattle.world_laws.proofs.recovery_model.MapLemmas.{created_maps_stay, maps_stay}
+use Rattle.world_laws.proofs.recovery_model.Recoveries.{created_stays_told, found_stays_told}
+use Rattle.world_laws.specs.run_model.World.{Indexed, Organization, Relative, Sequential, numbered, state_of}
 use Rattle.recovery_laws.specs.Loading.{HasNoGap}
 use Rattle.recovery_laws.specs.Mapped.{ActsKeepMapped, MappedGive, WasFoundSo, WasMadeSo}
 use Rattle.recovery_laws.proofs.LedLemmas.{changes_lead, directs_lead, halves_lead, has_room, marks_lead, recovers_lead, saves_lead, settles_lead}

@@ -2,15 +2,15 @@
 use Rattle.std.proofs.Common.{◌≡◌, ℕ, ◌+◌, ◌-◌, List, [], ◌∷◌, true, false, Option, Some, None, drop, map, take, take-append-drop, refl, sym, ap, subst, inl}
 use Rattle.vms_model.specs.Ids.{Id}
 use Rattle.vms_model.specs.Keys.{End, Key, Number}
-use Rattle.script_model.specs.Statements.{Operation, Put, Update, Delete, Truncate, Get, Next}
-use Rattle.records_model.specs.Records.{Change, applied}
-use Rattle.records_model.specs.History.{current}
+use Rattle.world_laws.specs.script_model.Statements.{Operation, Put, Update, Delete, Truncate, Get, Next}
+use Rattle.unit_laws.specs.records_model.Records.{Change, applied}
+use Rattle.unit_laws.specs.records_model.History.{current}
 use Rattle.unit_laws.specs.Units.{end_is_free, moves_end}
 use Rattle.unit_laws.proofs.LiveLemmas.{clash}
-use Rattle.commit_protocol.specs.World.{In}
-use Rattle.run_model.specs.World.{File, Indexed, Node, Organization, Relative, Sequential, find_file}
-use Rattle.run_model.specs.Operations.{changes_of, count_of, data_refused, delete_refused, form_refused, in_order, key_put, key_refused, keys_asked, place_refused, put_keys, record_in, removed, set_in, size_refused, update_refused}
-use Rattle.run_model.specs.Answers.{keys_refused}
+use Rattle.world_laws.specs.commit_protocol.World.{In}
+use Rattle.world_laws.specs.run_model.World.{File, Indexed, Node, Organization, Relative, Sequential, find_file}
+use Rattle.world_laws.specs.run_model.Operations.{changes_of, count_of, data_refused, delete_refused, form_refused, in_order, key_put, key_refused, keys_asked, place_refused, put_keys, record_in, removed, set_in, size_refused, update_refused}
+use Rattle.world_laws.specs.run_model.Answers.{keys_refused}
 use Rattle.world_laws.specs.Nodes.{IsUp}
 use Rattle.world_laws.proofs.AnswerLemmas.{neither}
 use Rattle.world_laws.proofs.FoundLemmas.{changes_found}

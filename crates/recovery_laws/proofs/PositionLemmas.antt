@@ -7,12 +7,12 @@ use Rattle.std.specs.declared.cmp.Ordering.TheVariants.{Greater}
 use Rattle.std.specs.FinMap.{empty, entries, entries-insert, entries_sorted, find, get, get-entries, get-remove, insert, is_sorted, remove}
 use Rattle.std.specs.FinMap.Entries.{below_all, by_order, find-append, put, same_entries}
 use Rattle.vms_model.specs.Keys.{Key, Number}
-use Rattle.records_model.specs.Records.{Records, applied, key_cmp}
-use Rattle.records_model.proofs.KeyLemmas.{key_cmp_total, key_cmp-IsAntisymmetric}
-use Rattle.records_model.proofs.RecordsLemmas.{same_key}
-use Rattle.run_model.specs.World.{Indexed, Organization, Relative, Sequential, numbered}
-use Rattle.run_model.specs.Operations.{removed}
-use Rattle.run_model.proofs.EntryLemmas.{no_entries}
+use Rattle.unit_laws.specs.records_model.Records.{Records, applied, key_cmp}
+use Rattle.unit_laws.proofs.records_model.KeyLemmas.{key_cmp_total, key_cmp-IsAntisymmetric}
+use Rattle.unit_laws.proofs.records_model.RecordsLemmas.{same_key}
+use Rattle.world_laws.specs.run_model.World.{Indexed, Organization, Relative, Sequential, numbered}
+use Rattle.world_laws.specs.run_model.Operations.{removed}
+use Rattle.world_laws.proofs.run_model.EntryLemmas.{no_entries}
 use Rattle.recovery_laws.specs.Loading.{HasNoGap}
 
 abbrev Entries : Type 0

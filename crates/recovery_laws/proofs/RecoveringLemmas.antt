@@ -2,16 +2,16 @@
 use Rattle.std.proofs.Common.{◌≡◌, List, [], ◌∷◌, Bool, true, false, not, ◌||◌, Some, None, length, refl, sym, ◌∙◌, ap, subst}
 use Rattle.std.specs.FinMap.{entries}
 use Rattle.std.specs.Option.{option_map}
-use Rattle.transcript_model.specs.Lines as line
-use Rattle.transcript_model.specs.Lines.{Line}
-use Rattle.records_model.specs.Records.{Records}
-use Rattle.records_model.specs.History.{LiveChanges, changes_by, first_to_change, on_top}
-use Rattle.recovery_model.specs.File.{IsStill}
-use Rattle.recovery_model.specs.Recovery.{refusal}
-use Rattle.run_model.specs.World.{File, buckets_loaded, find_file, lowest_free, recovered_file, serials_of, state_of}
-use Rattle.run_model.specs.Operations.{refused_if}
-use Rattle.run_model.specs.Answers.{Row, blocks_recovered, of_file, records_recovered, recovers, recovery_refused, start_of, there_is_file, way_of}
-use Rattle.run_model.specs.Steps.{node_after_rows}
+use Rattle.world_laws.specs.transcript_model.Lines as line
+use Rattle.world_laws.specs.transcript_model.Lines.{Line}
+use Rattle.unit_laws.specs.records_model.Records.{Records}
+use Rattle.unit_laws.specs.records_model.History.{LiveChanges, changes_by, first_to_change, on_top}
+use Rattle.world_laws.specs.recovery_model.File.{IsStill}
+use Rattle.world_laws.specs.recovery_model.Recovery.{refusal}
+use Rattle.world_laws.specs.run_model.World.{File, buckets_loaded, find_file, lowest_free, recovered_file, serials_of, state_of}
+use Rattle.world_laws.specs.run_model.Operations.{refused_if}
+use Rattle.world_laws.specs.run_model.Answers.{Row, blocks_recovered, of_file, records_recovered, recovers, recovery_refused, start_of, there_is_file, way_of}
+use Rattle.world_laws.specs.run_model.Steps.{node_after_rows}
 use Rattle.world_laws.proofs.AnswerLemmas.{neither}
 use Rattle.world_laws.proofs.FindLemmas.{changed_file}
 use Rattle.world_laws.proofs.ServedLemmas.{file_says, no_line, recovery_rests, unused}

@@ -5,22 +5,22 @@ use Rattle.std.specs.Ordering.{eq_by_cmp}
 use Rattle.std.specs.FinMap.{empty, insert, get, get-empty}
 use Rattle.vms_model.specs.Keys.{Number}
 use Rattle.vms_model.specs.Transactions.{Commit}
-use Rattle.transcript_model.specs.Lines as line
-use Rattle.script_model.specs.Statements.{AfterImages, BeforeImages, Direct, DumpImages, EndTrans, Put, Records}
-use Rattle.records_model.specs.Records.{Change, Records as RecordMap, key_cmp, set_key}
-use Rattle.records_model.specs.History.{LiveChanges, SettledChanges}
-use Rattle.records_model.proofs.RecordsLemmas.{get-set_key, set_back}
-use Rattle.tree_model.specs.Layouts.{no_layout}
+use Rattle.world_laws.specs.transcript_model.Lines as line
+use Rattle.world_laws.specs.script_model.Statements.{AfterImages, BeforeImages, Direct, DumpImages, EndTrans, Put, Records}
+use Rattle.unit_laws.specs.records_model.Records.{Change, Records as RecordMap, key_cmp, set_key}
+use Rattle.unit_laws.specs.records_model.History.{LiveChanges, SettledChanges}
+use Rattle.unit_laws.proofs.records_model.RecordsLemmas.{get-set_key, set_back}
+use Rattle.unit_laws.specs.tree_model.Layouts.{no_layout}
 use Rattle.unit_laws.specs.Journal.{Journal, ChangeEntry, empty_journal}
-use Rattle.recovery_model.specs.Journal.{Changed, Settled}
-use Rattle.recovery_model.specs.File.{Placed}
-use Rattle.commit_protocol.specs.Messages.{same_name, same_id}
-use Rattle.commit_protocol.specs.Table.{Active, same_key}
-use Rattle.commit_protocol.specs.Rows.{blank}
-use Rattle.run_model.specs.Locks.{Lock}
-use Rattle.run_model.specs.World.{Carried, File, Power, Relative, Settlement, Sound, World, nothing_carried}
-use Rattle.run_model.specs.Rows.{Move, base_lines, id, says, shown}
-use Rattle.run_model.proofs.RowLemmas.{last_plays, then_plays}
+use Rattle.world_laws.specs.recovery_model.Journal.{Changed, Settled}
+use Rattle.world_laws.specs.recovery_model.File.{Placed}
+use Rattle.world_laws.specs.commit_protocol.Messages.{same_name, same_id}
+use Rattle.world_laws.specs.commit_protocol.Table.{Active, same_key}
+use Rattle.world_laws.specs.commit_protocol.Rows.{blank}
+use Rattle.world_laws.specs.run_model.Locks.{Lock}
+use Rattle.world_laws.specs.run_model.World.{Carried, File, Power, Relative, Settlement, Sound, World, nothing_carried}
+use Rattle.world_laws.specs.run_model.Rows.{Move, base_lines, id, says, shown}
+use Rattle.world_laws.proofs.run_model.RowLemmas.{last_plays, then_plays}
 use Rattle.recovery_laws.specs.Rows.{FivePutsFill, ImagesAreKept, NewJournalIsShort, RingIsFull, WorkedFileRecovers, first_two, kept_lines, put_lines, put_move}
 
 -- T puts a record in F, which keeps images of both kinds and is saved.

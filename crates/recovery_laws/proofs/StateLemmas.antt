@@ -1,11 +1,11 @@
 -- What recovery knows of a file follows each act.
 use Rattle.std.proofs.Common.{◌≡◌, ◌+◌, List, [], ◌∷◌, Bool, true, false, if◌then◌else◌, refl, ◌∙◌, ap}
 use Rattle.vms_model.specs.Ids.{Id}
-use Rattle.records_model.specs.Records.{Change}
-use Rattle.records_model.specs.History.{changed_it, changed_with}
-use Rattle.recovery_model.specs.Journal as image
-use Rattle.recovery_model.specs.File.{FileState, ImageJournal, append}
-use Rattle.run_model.specs.World.{Carried, Settlement, changed_file, state_of, with_images, with_outcome}
+use Rattle.unit_laws.specs.records_model.Records.{Change}
+use Rattle.unit_laws.specs.records_model.History.{changed_it, changed_with}
+use Rattle.world_laws.specs.recovery_model.Journal as image
+use Rattle.world_laws.specs.recovery_model.File.{FileState, ImageJournal, append}
+use Rattle.world_laws.specs.run_model.World.{Carried, Settlement, changed_file, state_of, with_images, with_outcome}
 use Rattle.world_laws.proofs.StateLemmas.{all_follow, half_follows, settled_follows}
 use Rattle.recovery_laws.specs.States.{FilesFollow, MadeFilesBegin, UnmarkedCarryOn, after_settlement}
 

@@ -2,14 +2,14 @@
 use Rattle.std.proofs.Common.{◌≡◌, ℕ, ◌+◌, List, [], ◌∷◌, Bool, true, false, if◌then◌else◌, refl, sym, ◌∙◌, ap, subst}
 use Rattle.vms_model.specs.Ids.{Id}
 use Rattle.vms_model.specs.Transactions.{Outcome}
-use Rattle.script_model.specs.Statements.{AfterImages, BeforeImages}
-use Rattle.records_model.specs.Records.{Change}
-use Rattle.records_model.specs.History.{changed_it, same_id, settled_at}
-use Rattle.recovery_model.specs.Journal as image
-use Rattle.recovery_model.specs.Journal.{is_settled}
-use Rattle.recovery_model.specs.File.{FileState, ImageJournal, IsOpenIn, all_of, append, renewed, renewed_if_on}
-use Rattle.recovery_model.specs.Laws.{all_changed}
-use Rattle.run_model.specs.World.{BeginsImages, EndsImages, File, ForUnits, Mark, Settlement, marked_file, state_of}
+use Rattle.world_laws.specs.script_model.Statements.{AfterImages, BeforeImages}
+use Rattle.unit_laws.specs.records_model.Records.{Change}
+use Rattle.unit_laws.specs.records_model.History.{changed_it, same_id, settled_at}
+use Rattle.world_laws.specs.recovery_model.Journal as image
+use Rattle.world_laws.specs.recovery_model.Journal.{is_settled}
+use Rattle.world_laws.specs.recovery_model.File.{FileState, ImageJournal, IsOpenIn, all_of, append, renewed, renewed_if_on}
+use Rattle.world_laws.specs.recovery_model.Laws.{all_changed}
+use Rattle.world_laws.specs.run_model.World.{BeginsImages, EndsImages, File, ForUnits, Mark, Settlement, marked_file, state_of}
 use Rattle.recovery_laws.specs.States.{after_settlement}
 use Rattle.recovery_laws.specs.Staying.{BranchesStayOpen}
 use Rattle.recovery_laws.proofs.StateLemmas.{files_follow}

@@ -2,15 +2,15 @@
 use Rattle.std.specs.Prelude.{◌≡◌, ℕ, List, [], ◌∷◌, true, Option, Some, None}
 use Rattle.std.specs.FinMap.{empty}
 use Rattle.vms_model.specs.Ids.{Id}
-use Rattle.script_model.specs.Statements.{Direct, Operation, Records}
-use Rattle.records_model.specs.Records.{Change}
+use Rattle.world_laws.specs.script_model.Statements.{Direct, Operation, Records}
+use Rattle.unit_laws.specs.records_model.Records.{Change}
 use Rattle.unit_laws.specs.Units.{has_changes}
-use Rattle.commit_protocol.specs.Table.{Branch}
-use Rattle.recovery_model.specs.File as recovery
-use Rattle.run_model.specs.World.{Act, Changes, Creates, Directs, File, Marks, Node, Recovers, Saves, Shared, find_file, free_place, next_id, state_of}
-use Rattle.run_model.specs.Operations.{changes_of}
-use Rattle.run_model.specs.Answers.{Row, branch_labelled, direct_refused, operation_refused, refused_before_reading, service}
-use Rattle.run_model.specs.Steps.{node_after}
+use Rattle.world_laws.specs.commit_protocol.Table.{Branch}
+use Rattle.world_laws.specs.recovery_model.File as recovery
+use Rattle.world_laws.specs.run_model.World.{Act, Changes, Creates, Directs, File, Marks, Node, Recovers, Saves, Shared, find_file, free_place, next_id, state_of}
+use Rattle.world_laws.specs.run_model.Operations.{changes_of}
+use Rattle.world_laws.specs.run_model.Answers.{Row, branch_labelled, direct_refused, operation_refused, refused_before_reading, service}
+use Rattle.world_laws.specs.run_model.Steps.{node_after}
 use Rattle.world_laws.specs.Entering.{MayEnterImages}
 use Rattle.world_laws.specs.Nodes.{IsKeptNode}
 use Rattle.recovery_laws.specs.Gaps.{LeavesNoGap}

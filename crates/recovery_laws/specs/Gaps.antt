@@ -3,10 +3,10 @@ use Rattle.std.specs.Prelude.{◌≡◌, ℕ, List, [], Bool, true}
 use Rattle.std.specs.List.{AllByRecursion}
 use Rattle.vms_model.specs.Ids.{Id}
 use Rattle.vms_model.specs.Keys.{Key}
-use Rattle.records_model.specs.Records.{Change, Found, Records, applied}
-use Rattle.records_model.specs.History.{History, current, records}
+use Rattle.unit_laws.specs.records_model.Records.{Change, Found, Records, applied}
+use Rattle.unit_laws.specs.records_model.History.{History, current, records}
 use Rattle.unit_laws.specs.Units.{IsOrderly, Map, SerialsDiffer, end_is_free, is_free, moves_end}
-use Rattle.run_model.specs.World.{File, IsKept, Mark, OneMovesEndOf, Organization, Sequential, Settlement, changed_file, directly_changed, half_undone, marked_file, recovered_file, saved_file, settled_file}
+use Rattle.world_laws.specs.run_model.World.{File, IsKept, Mark, OneMovesEndOf, Organization, Sequential, Settlement, changed_file, directly_changed, half_undone, marked_file, recovered_file, saved_file, settled_file}
 use Rattle.recovery_laws.specs.Loading.{HasNoGap}
 
 -- neither the records as they stand in a file of this organization nor those that were committed have a gap

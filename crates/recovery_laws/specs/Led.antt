@@ -3,15 +3,15 @@ use Rattle.std.specs.Prelude.{◌≡◌, ◌⊎◌, ◌<◌, ℕ, List, [], Bool
 use Rattle.vms_model.specs.Ids.{Id}
 use Rattle.vms_model.specs.Keys.{Key}
 use Rattle.vms_model.specs.Transactions.{Commit}
-use Rattle.records_model.specs.Records.{Change, Records}
-use Rattle.records_model.specs.History.{changed_it, changes_by}
+use Rattle.unit_laws.specs.records_model.Records.{Change, Records}
+use Rattle.unit_laws.specs.records_model.History.{changed_it, changes_by}
 use Rattle.unit_laws.specs.Units.{Map}
-use Rattle.recovery_model.specs.File as recovery
-use Rattle.recovery_model.specs.File.{FileState, IsStill}
-use Rattle.recovery_model.specs.Acts.{Act, Leads, MayHalfAbort}
-use Rattle.recovery_model.specs.Opening.{IsOpening, MayCommit, as_found}
-use Rattle.recovery_model.specs.Recovery.{IsUser, Way, records_by, refusal, rolled}
-use Rattle.run_model.specs.World.{File, Mark, Settlement, changed_file, directly_changed, half_undone, leaving, marked_file, recovered_file, saved_file, settled_file, state_of}
+use Rattle.world_laws.specs.recovery_model.File as recovery
+use Rattle.world_laws.specs.recovery_model.File.{FileState, IsStill}
+use Rattle.world_laws.specs.recovery_model.Acts.{Act, Leads, MayHalfAbort}
+use Rattle.world_laws.specs.recovery_model.Opening.{IsOpening, MayCommit, as_found}
+use Rattle.world_laws.specs.recovery_model.Recovery.{IsUser, Way, records_by, refusal, rolled}
+use Rattle.world_laws.specs.run_model.World.{File, Mark, Settlement, changed_file, directly_changed, half_undone, leaving, marked_file, recovered_file, saved_file, settled_file, state_of}
 use Rattle.world_laws.specs.Entering.{MayEnterImages}
 
 -- A file that a run found so that its journals and its save agree with its history, behind acts that may be done; or one that was made in the run. These branches may

@@ -1,8 +1,8 @@
 -- Records of which a load leaves each where it is.
 use Rattle.std.specs.Prelude.{◌≡◌, length, map}
 use Rattle.std.specs.FinMap.{entries}
-use Rattle.records_model.specs.Records.{Records}
-use Rattle.run_model.specs.World.{Indexed, Organization, Relative, Sequential, loaded_map, numbered}
+use Rattle.unit_laws.specs.records_model.Records.{Records}
+use Rattle.world_laws.specs.run_model.World.{Indexed, Organization, Relative, Sequential, loaded_map, numbered}
 
 -- a sequential file's stand at the positions from 1 on
 abbrev pub HasNoGap : Organization → Records → Type 0

@@ -2,15 +2,15 @@
 use Rattle.std.specs.Prelude.{◌≡◌, ◌⊎◌, ◌<◌, ℕ, List, [], Bool, true}
 use Rattle.vms_model.specs.Ids.{Id}
 use Rattle.vms_model.specs.Keys.{Key}
-use Rattle.records_model.specs.Records.{Change, Records}
-use Rattle.records_model.specs.History.{changes_by, records}
+use Rattle.unit_laws.specs.records_model.Records.{Change, Records}
+use Rattle.unit_laws.specs.records_model.History.{changes_by, records}
 use Rattle.unit_laws.specs.Units.{Map}
-use Rattle.recovery_model.specs.File as recovery
-use Rattle.recovery_model.specs.File.{FileState, IsStill}
-use Rattle.recovery_model.specs.Acts.{MayHalfAbort}
-use Rattle.recovery_model.specs.Laws.{EachRecords, GivesMaps}
-use Rattle.recovery_model.specs.Opening.{as_found}
-use Rattle.run_model.specs.World.{File, Mark, Organization, Settlement, changed_file, directly_changed, half_undone, leaving, marked_file, recovered_file, saved_file, settled_file, state_of}
+use Rattle.world_laws.specs.recovery_model.File as recovery
+use Rattle.world_laws.specs.recovery_model.File.{FileState, IsStill}
+use Rattle.world_laws.specs.recovery_model.Acts.{MayHalfAbort}
+use Rattle.world_laws.specs.recovery_model.Laws.{EachRecords, GivesMaps}
+use Rattle.world_laws.specs.recovery_model.Opening.{as_found}
+use Rattle.world_laws.specs.run_model.World.{File, Mark, Organization, Settlement, changed_file, directly_changed, half_undone, leaving, marked_file, recovered_file, saved_file, settled_file, state_of}
 use Rattle.world_laws.specs.Entering.{MayEnterImages}
 use Rattle.recovery_laws.specs.Led.{IsTold, MayBeSettled, WasFound, WasMade}
 use Rattle.recovery_laws.specs.Loading.{HasNoGap}

@@ -2,13 +2,13 @@
 use Rattle.std.specs.Prelude.{◌≡◌, ℕ, List, Bool, true, Some, None, length}
 use Rattle.std.specs.FinMap.{entries}
 use Rattle.vms_model.specs.Ids.{Id}
-use Rattle.transcript_model.specs.Lines.{NormalCount}
-use Rattle.script_model.specs.Statements.{Recover, Recovery}
-use Rattle.records_model.specs.History.{current, records}
-use Rattle.recovery_model.specs.Recovery.{Covers, records_by, rolled}
-use Rattle.run_model.specs.World.{File, Node, Shared, find_file, loaded_map, state_of}
-use Rattle.run_model.specs.Answers.{refused_before_reading, service, way_of}
-use Rattle.run_model.specs.Steps.{node_after_rows}
+use Rattle.world_laws.specs.transcript_model.Lines.{NormalCount}
+use Rattle.world_laws.specs.script_model.Statements.{Recover, Recovery}
+use Rattle.unit_laws.specs.records_model.History.{current, records}
+use Rattle.world_laws.specs.recovery_model.Recovery.{Covers, records_by, rolled}
+use Rattle.world_laws.specs.run_model.World.{File, Node, Shared, find_file, loaded_map, state_of}
+use Rattle.world_laws.specs.run_model.Answers.{refused_before_reading, service, way_of}
+use Rattle.world_laws.specs.run_model.Steps.{node_after_rows}
 use Rattle.world_laws.specs.Nodes.{IsKeptNode}
 use Rattle.recovery_laws.specs.Led.{IsTold}
 

@@ -3,16 +3,16 @@ use Rattle.std.specs.Prelude.{◌≡◌, ℕ, List, [], ◌∷◌, ◌++◌, fal
 use Rattle.std.specs.FinMap.{empty, insert}
 use Rattle.vms_model.specs.Keys.{Number}
 use Rattle.vms_model.specs.Transactions.{Outcome, Commit, Abort}
-use Rattle.transcript_model.specs.Lines as line
-use Rattle.transcript_model.specs.Lines.{Line}
-use Rattle.script_model.specs.Statements as said
-use Rattle.script_model.specs.Statements.{AfterImages, BeforeImages, Backup, Create, Direct, DumpImages, EndTrans, Forward, Backward, Images, NoImages, Put, Records, Recover, SetFile, StartTrans}
-use Rattle.records_model.specs.Records.{Records as RecordMap}
-use Rattle.recovery_model.specs.Recovery.{PositionsMissing, records_by, refusal}
-use Rattle.recovery_model.specs.Recovery as recovery
-use Rattle.run_model.specs.World.{BeginsImages, File, changed_file, marked_file, recovered_file, saved_file, settled_file, state_of}
-use Rattle.run_model.specs.Answers.{created, records_recovered}
-use Rattle.run_model.specs.Rows.{Move, base_lines, base_moves, id, played, says, zero_world}
+use Rattle.world_laws.specs.transcript_model.Lines as line
+use Rattle.world_laws.specs.transcript_model.Lines.{Line}
+use Rattle.world_laws.specs.script_model.Statements as said
+use Rattle.world_laws.specs.script_model.Statements.{AfterImages, BeforeImages, Backup, Create, Direct, DumpImages, EndTrans, Forward, Backward, Images, NoImages, Put, Records, Recover, SetFile, StartTrans}
+use Rattle.unit_laws.specs.records_model.Records.{Records as RecordMap}
+use Rattle.world_laws.specs.recovery_model.Recovery.{PositionsMissing, records_by, refusal}
+use Rattle.world_laws.specs.recovery_model.Recovery as recovery
+use Rattle.world_laws.specs.run_model.World.{BeginsImages, File, changed_file, marked_file, recovered_file, saved_file, settled_file, state_of}
+use Rattle.world_laws.specs.run_model.Answers.{created, records_recovered}
+use Rattle.world_laws.specs.run_model.Rows.{Move, base_lines, base_moves, id, played, says, zero_world}
 
 -- on a disk of 1,000 blocks the moves that make the file F, and behind them these, show these lines
 abbrev pub Plays : List Move → List (List Line) → Type 0

@@ -2,18 +2,18 @@
 use Rattle.std.specs.Prelude.{◌≡◌, ℕ, List, [], Bool, false}
 use Rattle.vms_model.specs.Ids.{Id}
 use Rattle.vms_model.specs.Keys.{Key}
-use Rattle.script_model.specs.Statements.{AfterImages, BeforeImages, Form}
-use Rattle.records_model.specs.Records.{Change, Records}
-use Rattle.records_model.specs.History.{changes_by}
+use Rattle.world_laws.specs.script_model.Statements.{AfterImages, BeforeImages, Form}
+use Rattle.unit_laws.specs.records_model.Records.{Change, Records}
+use Rattle.unit_laws.specs.records_model.History.{changes_by}
 use Rattle.unit_laws.specs.Units.{Map}
-use Rattle.recovery_model.specs.File as recovery
-use Rattle.recovery_model.specs.File.{FileState}
-use Rattle.recovery_model.specs.Acts as act
-use Rattle.recovery_model.specs.Acts.{file_after}
-use Rattle.recovery_model.specs.Laws.{all_changed}
+use Rattle.world_laws.specs.recovery_model.File as recovery
+use Rattle.world_laws.specs.recovery_model.File.{FileState}
+use Rattle.world_laws.specs.recovery_model.Acts as act
+use Rattle.world_laws.specs.recovery_model.Acts.{file_after}
+use Rattle.world_laws.specs.recovery_model.Laws.{all_changed}
 use Rattle.std.specs.FinMap.{empty}
-use Rattle.run_model.specs.World.{BeginsImages, EndsImages, File, ForUnits, Settlement, changed_file, directly_changed, half_undone, leaving, marked_file, recovered_file, saved_file, settled_file, state_of}
-use Rattle.run_model.specs.Answers.{created}
+use Rattle.world_laws.specs.run_model.World.{BeginsImages, EndsImages, File, ForUnits, Settlement, changed_file, directly_changed, half_undone, leaving, marked_file, recovered_file, saved_file, settled_file, state_of}
+use Rattle.world_laws.specs.run_model.Answers.{created}
 
 -- a file of which recovery knows this was settled so
 abbrev pub after_settlement : Settlement → FileState → FileState

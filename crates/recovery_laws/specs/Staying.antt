@@ -2,11 +2,11 @@
 use Rattle.std.specs.Prelude.{◌≡◌, ℕ, List, Bool, false}
 use Rattle.vms_model.specs.Ids.{Id}
 use Rattle.vms_model.specs.Keys.{Key}
-use Rattle.records_model.specs.Records.{Change, Records}
-use Rattle.records_model.specs.History.{same_id}
+use Rattle.unit_laws.specs.records_model.Records.{Change, Records}
+use Rattle.unit_laws.specs.records_model.History.{same_id}
 use Rattle.unit_laws.specs.Units.{Map}
-use Rattle.recovery_model.specs.File.{IsOpenIn}
-use Rattle.run_model.specs.World.{File, Mark, Settlement, changed_file, directly_changed, half_undone, marked_file, recovered_file, saved_file, settled_file, state_of}
+use Rattle.world_laws.specs.recovery_model.File.{IsOpenIn}
+use Rattle.world_laws.specs.run_model.World.{File, Mark, Settlement, changed_file, directly_changed, half_undone, marked_file, recovered_file, saved_file, settled_file, state_of}
 
 -- this branch is open in the journals of the file behind each act, but for its own settlement
 pub record StaysOpen (x : Id) (f : File) : Type 0 where

@@ -3,12 +3,12 @@ use Rattle.std.proofs.Common.{◌≡◌, Bool, true, false, cond, not, List, [],
 use Rattle.std.specs.Prelude.{if◌then◌else◌, ◌&&◌}
 use Rattle.std.specs.List.{AllByRecursion}
 use Rattle.std.specs.FinMap.{get}
-use Rattle.vms_model.specs.Ids.{Id}
-use Rattle.vms_model.specs.Keys.{Key}
-use Rattle.records_model.specs.Records.{Records, Change, applied}
-use Rattle.records_model.specs.History.{LiveChanges, same_id, changes_key, with_change, without, on_top}
-use Rattle.records_model.proofs.RecordsLemmas.{get-set_key}
-use Rattle.records_model.proofs.SlotLaws.{if_true, if_false}
+use Rattle.unit_laws.specs.vms_model.Ids.{Id}
+use Rattle.unit_laws.specs.vms_model.Keys.{Key}
+use Rattle.unit_laws.specs.records_model.Records.{Records, Change, applied}
+use Rattle.unit_laws.specs.records_model.History.{LiveChanges, same_id, changes_key, with_change, without, on_top}
+use Rattle.unit_laws.proofs.records_model.RecordsLemmas.{get-set_key}
+use Rattle.unit_laws.proofs.records_model.SlotLaws.{if_true, if_false}
 use Rattle.unit_laws.specs.Units.{is_changed, is_free, SerialsDiffer}
 use Rattle.unit_laws.proofs.Tests.{or_first, or_second, and_first, and_second, not_true, never}
 use Rattle.unit_laws.proofs.LiveLemmas.{id_is, id_itself, by_change, by_other, by_without, others_left}

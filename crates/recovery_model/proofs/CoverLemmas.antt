@@ -1,9 +1,9 @@
 -- Each step keeps that a journal covers the timeline.
-use Rattle.vms_model.specs.Ids.{Id}
-use Rattle.vms_model.specs.Transactions.{Outcome, Commit, Abort}
-use Rattle.records_model.specs.History.{same_id, reached, without}
-use Rattle.records_model.specs.Records.{Records, Change, applied}
-use Rattle.records_model.proofs.SlotLaws.{if_true, if_false}
+use Rattle.unit_laws.specs.vms_model.Ids.{Id}
+use Rattle.unit_laws.specs.vms_model.Transactions.{Outcome, Commit, Abort}
+use Rattle.unit_laws.specs.records_model.History.{same_id, reached, without}
+use Rattle.unit_laws.specs.records_model.Records.{Records, Change, applied}
+use Rattle.unit_laws.proofs.records_model.SlotLaws.{if_true, if_false}
 use Rattle.unit_laws.proofs.LiveLemmas.{id_is}
 use Rattle.recovery_model.specs.Journal.{Entry, Changed, Settled, beyond, chosen, backward, is_commit, is_settled, Below, rolled_forward, rolled_back}
 use Rattle.recovery_model.specs.Timeline.{Timeline, records_at}

@@ -1,10 +1,10 @@
 -- What it is for a journal to cover a file's timeline, and what each act keeps.
 use Rattle.std.specs.Prelude.{◌≡◌, ℕ, ◌<◌, ◌≤◌, List, [], ◌∷◌, Bool, true, false, Option, Some, None}
-use Rattle.vms_model.specs.Ids.{Id}
-use Rattle.vms_model.specs.Keys.{Key}
-use Rattle.vms_model.specs.Transactions.{Outcome}
-use Rattle.records_model.specs.Records.{Records, Change, Found, applied}
-use Rattle.records_model.specs.History.{LiveChanges, SettledChanges, same_id, changes_by, changed_with, without, records}
+use Rattle.unit_laws.specs.vms_model.Ids.{Id}
+use Rattle.unit_laws.specs.vms_model.Keys.{Key}
+use Rattle.unit_laws.specs.vms_model.Transactions.{Outcome}
+use Rattle.unit_laws.specs.records_model.Records.{Records, Change, Found, applied}
+use Rattle.unit_laws.specs.records_model.History.{LiveChanges, SettledChanges, same_id, changes_by, changed_with, without, records}
 use Rattle.unit_laws.specs.Units.{SerialsDiffer}
 use Rattle.recovery_model.specs.Images.{touches}
 use Rattle.recovery_model.specs.Journal.{Entry, Changed, Settled, is_settled, images_by, Below, rolled_forward, rolled_back}

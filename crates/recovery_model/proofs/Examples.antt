@@ -2,11 +2,11 @@
 use Rattle.std.proofs.Common.{◌≡◌, ℕ, Bool, true, false, List, [], ◌∷◌, Option, Some, None, ◌||◌, inl, refl, sym, ◌∙◌, ap, arith}
 use Rattle.std.specs.Prelude.{if◌then◌else◌}
 use Rattle.std.specs.FinMap.{empty, insert, remove, get, get-empty}
-use Rattle.vms_model.specs.Ids.{Id}
-use Rattle.vms_model.specs.Keys.{Number}
-use Rattle.vms_model.specs.Transactions.{Outcome, Commit, Abort}
-use Rattle.records_model.specs.Records.{Records, Change, key_cmp, set_key}
-use Rattle.records_model.proofs.RecordsLemmas.{get-set_key, set_back}
+use Rattle.unit_laws.specs.vms_model.Ids.{Id}
+use Rattle.unit_laws.specs.vms_model.Keys.{Number}
+use Rattle.unit_laws.specs.vms_model.Transactions.{Outcome, Commit, Abort}
+use Rattle.unit_laws.specs.records_model.Records.{Records, Change, key_cmp, set_key}
+use Rattle.unit_laws.proofs.records_model.RecordsLemmas.{get-set_key, set_back}
 use Rattle.unit_laws.specs.Units.{is_of}
 use Rattle.recovery_model.specs.Journal.{Changed, Settled}
 use Rattle.recovery_model.specs.File.{FileState, created}

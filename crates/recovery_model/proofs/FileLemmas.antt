@@ -1,9 +1,9 @@
 -- Each step of a file keeps what is kept.
-use Rattle.vms_model.specs.Ids.{Id}
-use Rattle.vms_model.specs.Transactions.{Outcome, Commit}
-use Rattle.records_model.specs.Records.{Records, Change, applied}
-use Rattle.records_model.specs.History.{History, changed_it, current, records, settled_with, without}
-use Rattle.records_model.proofs.SlotLaws.{if_true, if_false}
+use Rattle.unit_laws.specs.vms_model.Ids.{Id}
+use Rattle.unit_laws.specs.vms_model.Transactions.{Outcome, Commit}
+use Rattle.unit_laws.specs.records_model.Records.{Records, Change, applied}
+use Rattle.unit_laws.specs.records_model.History.{History, changed_it, current, records, settled_with, without}
+use Rattle.unit_laws.proofs.records_model.SlotLaws.{if_true, if_false}
 use Rattle.recovery_model.specs.Journal.{Entry, Changed, Settled, is_settled}
 use Rattle.recovery_model.specs.Timeline.{Timeline, records_at}
 use Rattle.recovery_model.specs.File.{Placed, ImageJournal, Save, FileState, all_of, since, append, next_span, renewed, ended, renewed_if_on, changed_file, saved_file, recovered_file, rebased, created, settled_file, IsOpenIn, IsStill}

@@ -2,11 +2,11 @@
 use Rattle.std.proofs.Common.{◌≡◌, ℕ, List, [], ◌∷◌, Bool, true, false, Option, Some, None, cond, refl, sym, ◌∙◌, ap, subst}
 use Rattle.std.specs.List.{AllByRecursion}
 use Rattle.std.specs.FinMap.{get}
-use Rattle.vms_model.specs.Ids.{Id}
-use Rattle.vms_model.specs.Keys.{Key}
-use Rattle.records_model.specs.Records.{Records, Change, Found, applied}
-use Rattle.records_model.specs.History.{LiveChanges, same_id, changes_by, records}
-use Rattle.records_model.proofs.SlotLaws.{if_true, if_false}
+use Rattle.unit_laws.specs.vms_model.Ids.{Id}
+use Rattle.unit_laws.specs.vms_model.Keys.{Key}
+use Rattle.unit_laws.specs.records_model.Records.{Records, Change, Found, applied}
+use Rattle.unit_laws.specs.records_model.History.{LiveChanges, same_id, changes_by, records}
+use Rattle.unit_laws.proofs.records_model.SlotLaws.{if_true, if_false}
 use Rattle.unit_laws.specs.Units.{SerialsDiffer}
 use Rattle.unit_laws.proofs.LiveLemmas.{id_is}
 use Rattle.recovery_model.specs.Images.{Image, afters, befores, touches, keys_of}

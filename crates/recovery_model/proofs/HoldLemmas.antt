@@ -1,11 +1,11 @@
 -- All that is kept of a file by acts, one after another; and what is left is what the next run may find.
 use Rattle.std.proofs.Common.{◌≡◌, ℕ, List, [], ◌∷◌, Bool, true, Option, Some, None, refl, sym, ◌∙◌, ap, subst}
 use Rattle.std.specs.FinMap.{empty, get}
-use Rattle.vms_model.specs.Ids.{Id}
-use Rattle.vms_model.specs.Keys.{Key}
-use Rattle.records_model.specs.Records.{Records, Change, applied}
-use Rattle.records_model.specs.History.{records}
-use Rattle.records_model.proofs.SlotLaws.{if_true}
+use Rattle.unit_laws.specs.vms_model.Ids.{Id}
+use Rattle.unit_laws.specs.vms_model.Keys.{Key}
+use Rattle.unit_laws.specs.records_model.Records.{Records, Change, applied}
+use Rattle.unit_laws.specs.records_model.History.{records}
+use Rattle.unit_laws.proofs.records_model.SlotLaws.{if_true}
 use Rattle.recovery_model.specs.Images.{Image, afters, touches, newest}
 use Rattle.recovery_model.specs.Journal.{images_by}
 use Rattle.recovery_model.specs.Timeline.{Timeline}

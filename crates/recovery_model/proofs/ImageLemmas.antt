@@ -1,9 +1,9 @@
 -- Changes that are applied and found, and images that are moved past each other.
-use Rattle.vms_model.specs.Keys.{Key}
-use Rattle.records_model.specs.Records.{Records, Change, set_key, applied, Found}
-use Rattle.records_model.specs.History.{changes_key}
-use Rattle.records_model.proofs.KeyLemmas.{key_cmp_total}
-use Rattle.records_model.proofs.RecordsLemmas.{get-set_key, same_key, alike}
+use Rattle.unit_laws.specs.vms_model.Keys.{Key}
+use Rattle.unit_laws.specs.records_model.Records.{Records, Change, set_key, applied, Found}
+use Rattle.unit_laws.specs.records_model.History.{changes_key}
+use Rattle.unit_laws.proofs.records_model.KeyLemmas.{key_cmp_total}
+use Rattle.unit_laws.proofs.records_model.RecordsLemmas.{get-set_key, same_key, alike}
 use Rattle.recovery_model.specs.Images.{Image, afters, befores, touches}
 use Rattle.recovery_model.proofs.Images.{same, changes, sets, unsets}
 use Rattle.std.proofs.Common.{◌≡◌, ℕ, List, [], ◌∷◌, Bool, true, false, Option, refl, sym, ◌∙◌, cond, ap}

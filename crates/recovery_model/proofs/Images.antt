@@ -1,8 +1,8 @@
 -- Images that are set and taken back.
 use Rattle.std.specs.Prelude.{List, [], ◌∷◌, Bool}
 use Rattle.std.specs.Ordering.{eq_by_cmp}
-use Rattle.vms_model.specs.Keys.{Key}
-use Rattle.records_model.specs.Records.{Records, Change, key_cmp, set_key}
+use Rattle.unit_laws.specs.vms_model.Keys.{Key}
+use Rattle.unit_laws.specs.records_model.Records.{Records, Change, key_cmp, set_key}
 use Rattle.recovery_model.specs.Images.{Image, afters, touches}
 
 abbrev pub same : Key → Key → Bool

@@ -1,10 +1,10 @@
 -- Each act keeps what the entries since a save tell in the words of an opening.
 use Rattle.std.proofs.Common.{◌≡◌, ℕ, ◌≤◌, List, ◌∷◌, Bool, true, false, Option, Some, None, refl, sym, subst, arith}
 use Rattle.std.specs.Prelude.{if◌then◌else◌}
-use Rattle.vms_model.specs.Ids.{Id}
-use Rattle.vms_model.specs.Transactions.{Outcome}
-use Rattle.records_model.specs.Records.{Change}
-use Rattle.records_model.specs.History.{LiveChanges, changed_it}
+use Rattle.unit_laws.specs.vms_model.Ids.{Id}
+use Rattle.unit_laws.specs.vms_model.Transactions.{Outcome}
+use Rattle.unit_laws.specs.records_model.Records.{Change}
+use Rattle.unit_laws.specs.records_model.History.{LiveChanges, changed_it}
 use Rattle.recovery_model.specs.Images.{befores}
 use Rattle.recovery_model.specs.Journal.{Entry, Changed, Settled}
 use Rattle.recovery_model.specs.File.{ImageJournal, Save, FileState, append, renewed, ended, renewed_if_on, with_its, IsCovering, since}

@@ -23,3 +23,5 @@ pub mod StatementLemmas
 pub mod PlaceLemmas
 pub mod Recoveries
 pub mod MapLemmas
+pub mod records_model
+pub mod unit_laws

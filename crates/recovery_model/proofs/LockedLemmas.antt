@@ -1,8 +1,8 @@
 -- A journal in which keys are locked to the settlement.
-use Rattle.vms_model.specs.Ids.{Id}
-use Rattle.vms_model.specs.Keys.{Key}
-use Rattle.records_model.specs.History.{same_id}
-use Rattle.records_model.specs.Records.{Change}
+use Rattle.unit_laws.specs.vms_model.Ids.{Id}
+use Rattle.unit_laws.specs.vms_model.Keys.{Key}
+use Rattle.unit_laws.specs.records_model.History.{same_id}
+use Rattle.unit_laws.specs.records_model.Records.{Change}
 use Rattle.recovery_model.specs.Images.{touches}
 use Rattle.recovery_model.specs.Journal.{Entry, Changed, Settled, is_settled, images_by, Locked}
 use Rattle.std.proofs.Common.{◌≡◌, ℕ, List, [], ◌∷◌, Bool, true, false, Option, refl, ◌∙◌}

@@ -2,11 +2,11 @@
 use Rattle.std.proofs.Common.{◌≡◌, ℕ, ◌<◌, ◌≤◌, List, [], ◌∷◌, Bool, true, false, Option, Some, None, refl, sym, ◌∙◌, ap, subst, arith}
 use Rattle.std.specs.Prelude.{if◌then◌else◌, ◌&&◌, not, nat_lt, nat_le}
 use Rattle.std.proofs.lemmas.Bool.{leb-true, le-ltb}
-use Rattle.vms_model.specs.Ids.{Id}
-use Rattle.vms_model.specs.Transactions.{Outcome}
-use Rattle.records_model.specs.Records.{Records, Change}
-use Rattle.records_model.specs.History.{records, changed_it, reached}
-use Rattle.records_model.proofs.SlotLaws.{if_false}
+use Rattle.unit_laws.specs.vms_model.Ids.{Id}
+use Rattle.unit_laws.specs.vms_model.Transactions.{Outcome}
+use Rattle.unit_laws.specs.records_model.Records.{Records, Change}
+use Rattle.unit_laws.specs.records_model.History.{records, changed_it, reached}
+use Rattle.unit_laws.proofs.records_model.SlotLaws.{if_false}
 use Rattle.unit_laws.proofs.Tests.{and_second}
 use Rattle.recovery_model.specs.Journal.{Changed, Settled, is_commit}
 use Rattle.recovery_model.specs.Timeline.{Timeline, records_at}

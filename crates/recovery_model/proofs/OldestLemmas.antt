@@ -2,9 +2,9 @@
 use Rattle.std.proofs.Common.{◌≡◌, ℕ, List, [], ◌∷◌, Bool, true, false, Option, None, refl, sym, ◌∙◌, cond, ap}
 use Rattle.std.specs.Prelude.{if◌then◌else◌}
 use Rattle.std.specs.FinMap.{get}
-use Rattle.vms_model.specs.Keys.{Key}
-use Rattle.records_model.specs.Records.{Records, Change, set_key, applied}
-use Rattle.records_model.proofs.RecordsLemmas.{get-set_key, alike}
+use Rattle.unit_laws.specs.vms_model.Keys.{Key}
+use Rattle.unit_laws.specs.records_model.Records.{Records, Change, set_key, applied}
+use Rattle.unit_laws.proofs.records_model.RecordsLemmas.{get-set_key, alike}
 use Rattle.recovery_model.specs.Images.{newest, Image, afters, touches}
 use Rattle.recovery_model.proofs.Images.{same, changes, sets, unsets}
 use Rattle.recovery_model.proofs.ImageLemmas.{get-applied, applied-sets}

@@ -1,9 +1,9 @@
 -- A file that a run finds has what is kept.
-use Rattle.vms_model.specs.Ids.{Id}
-use Rattle.vms_model.specs.Keys.{Key}
-use Rattle.records_model.specs.Records.{Records, Change, Found, applied}
-use Rattle.records_model.specs.History.{reached, LiveChanges, records, left_by}
-use Rattle.records_model.proofs.RecordsLemmas.{set_back}
+use Rattle.unit_laws.specs.vms_model.Ids.{Id}
+use Rattle.unit_laws.specs.vms_model.Keys.{Key}
+use Rattle.unit_laws.specs.records_model.Records.{Records, Change, Found, applied}
+use Rattle.unit_laws.specs.records_model.History.{reached, LiveChanges, records, left_by}
+use Rattle.unit_laws.proofs.records_model.RecordsLemmas.{set_back}
 use Rattle.unit_laws.specs.Units.{SerialsDiffer}
 use Rattle.recovery_model.specs.Images.{Image, afters, befores, touches, newest, keys_of}
 use Rattle.recovery_model.specs.Journal.{Entry, Changed, Settled, Below, Locked, beyond, chosen, images_by, rolled_forward, rolled_back}

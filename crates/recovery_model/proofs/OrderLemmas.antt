@@ -1,11 +1,11 @@
 -- Each act keeps that entries stand in their rings in order and have room, and that journals tell of branches up to now.
 use Rattle.std.proofs.Common.{◌≡◌, ℕ, ◌+◌, ◌<◌, ◌≤◌, List, [], ◌∷◌, Bool, true, false, Option, Some, None, ◌||◌, refl, sym, ◌∙◌, ap, subst, arith}
 use Rattle.std.specs.Prelude.{if◌then◌else◌}
-use Rattle.vms_model.specs.Ids.{Id}
-use Rattle.vms_model.specs.Transactions.{Outcome}
-use Rattle.records_model.specs.Records.{Records, Change}
-use Rattle.records_model.specs.History.{History, LiveChanges, same_id, changes_by, changed_it, with_change, without}
-use Rattle.records_model.proofs.SlotLaws.{if_true, if_false}
+use Rattle.unit_laws.specs.vms_model.Ids.{Id}
+use Rattle.unit_laws.specs.vms_model.Transactions.{Outcome}
+use Rattle.unit_laws.specs.records_model.Records.{Records, Change}
+use Rattle.unit_laws.specs.records_model.History.{History, LiveChanges, same_id, changes_by, changed_it, with_change, without}
+use Rattle.unit_laws.proofs.records_model.SlotLaws.{if_true, if_false}
 use Rattle.unit_laws.specs.Units.{SerialsDiffer, has_changes}
 use Rattle.unit_laws.proofs.LiveLemmas.{id_is}
 use Rattle.recovery_model.specs.Images.{Image, afters, befores, keys_of}

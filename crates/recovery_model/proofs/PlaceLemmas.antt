@@ -3,11 +3,11 @@ use Rattle.std.proofs.Common.{◌≡◌, ℕ, ◌+◌, List, [], ◌∷◌, ◌+
 use Rattle.std.specs.Prelude.{if◌then◌else◌, ◌&&◌, ◌||◌, reverse, map}
 use Rattle.std.proofs.lemmas.List.{reverse-reverse, reverse-append}
 use Rattle.std.proofs.Math.Bool.{or_comm, or_assoc}
-use Rattle.vms_model.specs.Ids.{Id}
-use Rattle.vms_model.specs.Keys.{Key}
-use Rattle.vms_model.specs.Transactions.{Outcome}
-use Rattle.records_model.specs.Records.{Records, set_key}
-use Rattle.records_model.specs.History.{same_id, reached}
+use Rattle.unit_laws.specs.vms_model.Ids.{Id}
+use Rattle.unit_laws.specs.vms_model.Keys.{Key}
+use Rattle.unit_laws.specs.vms_model.Transactions.{Outcome}
+use Rattle.unit_laws.specs.records_model.Records.{Records, set_key}
+use Rattle.unit_laws.specs.records_model.History.{same_id, reached}
 use Rattle.recovery_model.specs.Journal.{Entry, Changed, Settled, is_commit, beyond, chosen, forward, backward, rolled_forward, rolled_back}
 use Rattle.recovery_model.specs.Places.{header_of, commits, committed, places, applied_places, undone_places, set_entry, sets_at, no_entry}
 use Rattle.recovery_model.specs.Laws.{PlacesAreRolled}

@@ -2,8 +2,8 @@
 use Rattle.std.proofs.Common.{◌≡◌, ℕ, Bool, true, false, Option, Some, None, refl, sym, ◌∙◌, ap, subst}
 use Rattle.std.specs.Prelude.{◌≤◌, not, nat_lt}
 use Rattle.std.proofs.lemmas.Bool.{ltb-false}
-use Rattle.vms_model.specs.Ids.{Id}
-use Rattle.records_model.specs.History.{records}
+use Rattle.unit_laws.specs.vms_model.Ids.{Id}
+use Rattle.unit_laws.specs.records_model.History.{records}
 use Rattle.recovery_model.specs.Journal.{Changed, Settled, rolled_back}
 use Rattle.recovery_model.specs.Timeline.{records_at}
 use Rattle.recovery_model.specs.File.{ImageJournal, Save, FileState, all_of, IsCovering, IsStill, created}

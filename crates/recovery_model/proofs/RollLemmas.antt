@@ -1,9 +1,9 @@
 -- What one more settlement does to RECOVER's two maps.
-use Rattle.vms_model.specs.Ids.{Id}
-use Rattle.vms_model.specs.Keys.{Key}
-use Rattle.records_model.specs.History.{same_id}
-use Rattle.records_model.specs.Records.{Records, set_key}
-use Rattle.records_model.proofs.SlotLaws.{if_true, if_false}
+use Rattle.unit_laws.specs.vms_model.Ids.{Id}
+use Rattle.unit_laws.specs.vms_model.Keys.{Key}
+use Rattle.unit_laws.specs.records_model.History.{same_id}
+use Rattle.unit_laws.specs.records_model.Records.{Records, set_key}
+use Rattle.unit_laws.proofs.records_model.SlotLaws.{if_true, if_false}
 use Rattle.recovery_model.specs.Images.{Image, touches}
 use Rattle.recovery_model.specs.Journal.{Entry, Changed, Settled, forward, backward, images_by}
 use Rattle.std.proofs.Common.{◌≡◌, ℕ, List, [], ◌∷◌, Bool, true, false, Option, refl, sym, ◌∙◌, ap}

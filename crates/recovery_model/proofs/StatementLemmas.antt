@@ -2,10 +2,10 @@
 use Rattle.std.proofs.Common.{◌≡◌, ℕ, ◌+◌, ◌-◌, ◌*◌, ◌≤◌, List, [], ◌∷◌, Bool, true, false, Option, Some, None, ◌||◌, ◌&&◌, refl, sym, ◌∙◌, ap, subst, arith}
 use Rattle.std.specs.Prelude.{if◌then◌else◌, nat_lt}
 use Rattle.std.proofs.lemmas.Bool.{ltb-false}
-use Rattle.vms_model.specs.Ids.{Id}
-use Rattle.vms_model.specs.Keys.{Key}
-use Rattle.records_model.specs.Records.{Change}
-use Rattle.records_model.specs.History.{History, LiveChanges, same_id, changes_by, with_change, changed_it, first_to_change, current, records}
+use Rattle.unit_laws.specs.vms_model.Ids.{Id}
+use Rattle.unit_laws.specs.vms_model.Keys.{Key}
+use Rattle.unit_laws.specs.records_model.Records.{Change}
+use Rattle.unit_laws.specs.records_model.History.{History, LiveChanges, same_id, changes_by, with_change, changed_it, first_to_change, current, records}
 use Rattle.unit_laws.specs.Units.{SerialsDiffer, has_changes}
 use Rattle.unit_laws.proofs.LiveLemmas.{id_is, id_itself, by_change, once_change}
 use Rattle.recovery_model.specs.Images.{afters, befores}

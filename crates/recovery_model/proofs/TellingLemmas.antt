@@ -1,9 +1,9 @@
 -- Each step keeps what journals tell of unsettled branches in the words of an opening.
 use Rattle.std.proofs.Common.{◌≡◌, ℕ, List, [], ◌∷◌, Bool, true, false, Option, refl, sym, ◌∙◌, ap}
-use Rattle.vms_model.specs.Ids.{Id}
-use Rattle.vms_model.specs.Transactions.{Outcome}
-use Rattle.records_model.specs.Records.{Change}
-use Rattle.records_model.specs.History.{LiveChanges, same_id, with_change, without}
+use Rattle.unit_laws.specs.vms_model.Ids.{Id}
+use Rattle.unit_laws.specs.vms_model.Transactions.{Outcome}
+use Rattle.unit_laws.specs.records_model.Records.{Change}
+use Rattle.unit_laws.specs.records_model.History.{LiveChanges, same_id, with_change, without}
 use Rattle.unit_laws.proofs.LiveLemmas.{id_is}
 use Rattle.recovery_model.specs.Images.{afters, befores, keys_of}
 use Rattle.recovery_model.specs.Journal.{Entry, Changed, Settled, is_settled, images_by, Locked}

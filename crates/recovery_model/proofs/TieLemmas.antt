@@ -1,11 +1,11 @@
 -- Each step keeps what ties a journal's entries to the unsettled branches.
-use Rattle.vms_model.specs.Ids.{Id}
-use Rattle.vms_model.specs.Transactions.{Outcome, Commit, Abort}
-use Rattle.vms_model.specs.Keys.{Key}
-use Rattle.records_model.specs.History.{same_id, LiveChanges, with_change, without}
-use Rattle.records_model.specs.Records.{Records, Change, set_key, applied}
-use Rattle.records_model.proofs.RecordsLemmas.{set_back}
-use Rattle.records_model.proofs.SlotLaws.{if_true, if_false}
+use Rattle.unit_laws.specs.vms_model.Ids.{Id}
+use Rattle.unit_laws.specs.vms_model.Transactions.{Outcome, Commit, Abort}
+use Rattle.unit_laws.specs.vms_model.Keys.{Key}
+use Rattle.unit_laws.specs.records_model.History.{same_id, LiveChanges, with_change, without}
+use Rattle.unit_laws.specs.records_model.Records.{Records, Change, set_key, applied}
+use Rattle.unit_laws.proofs.records_model.RecordsLemmas.{set_back}
+use Rattle.unit_laws.proofs.records_model.SlotLaws.{if_true, if_false}
 use Rattle.unit_laws.proofs.LiveLemmas.{id_is}
 use Rattle.recovery_model.specs.Images.{touches}
 use Rattle.recovery_model.specs.Journal.{Entry, Changed, Settled, chosen, is_commit, is_settled, images_by, Below}

@@ -1,11 +1,11 @@
 -- What each step does to a sound timeline.
-use Rattle.vms_model.specs.Ids.{Id}
-use Rattle.vms_model.specs.Transactions.{Outcome, Commit, Abort}
-use Rattle.vms_model.specs.Keys.{Key}
-use Rattle.records_model.specs.History.{same_id, reached, LiveChanges, SettledChanges, left_by, with_change, without}
-use Rattle.records_model.specs.Records.{Records, Change, applied, Found}
-use Rattle.records_model.proofs.RecordsLemmas.{same_key}
-use Rattle.records_model.proofs.SlotLaws.{if_false}
+use Rattle.unit_laws.specs.vms_model.Ids.{Id}
+use Rattle.unit_laws.specs.vms_model.Transactions.{Outcome, Commit, Abort}
+use Rattle.unit_laws.specs.vms_model.Keys.{Key}
+use Rattle.unit_laws.specs.records_model.History.{same_id, reached, LiveChanges, SettledChanges, left_by, with_change, without}
+use Rattle.unit_laws.specs.records_model.Records.{Records, Change, applied, Found}
+use Rattle.unit_laws.proofs.records_model.RecordsLemmas.{same_key}
+use Rattle.unit_laws.proofs.records_model.SlotLaws.{if_false}
 use Rattle.unit_laws.specs.Units.{SerialsDiffer}
 use Rattle.unit_laws.proofs.LiveLemmas.{id_is, once_change, differ_left}
 use Rattle.recovery_model.specs.Journal.{is_commit}

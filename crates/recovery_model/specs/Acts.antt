@@ -1,10 +1,10 @@
 -- Acts on one file, when each may be done, and where they lead.
 use Rattle.std.specs.Prelude.{◌≡◌, ℕ, ◌<◌, List, [], ◌∷◌, Bool, true, false}
 use Rattle.std.specs.FinMap.{get}
-use Rattle.vms_model.specs.Ids.{Id}
-use Rattle.vms_model.specs.Transactions.{Outcome, Commit}
-use Rattle.records_model.specs.Records.{Records, Change, Found}
-use Rattle.records_model.specs.History.{changes_by, current, records, changed_it}
+use Rattle.unit_laws.specs.vms_model.Ids.{Id}
+use Rattle.unit_laws.specs.vms_model.Transactions.{Outcome, Commit}
+use Rattle.unit_laws.specs.records_model.Records.{Records, Change, Found}
+use Rattle.unit_laws.specs.records_model.History.{changes_by, current, records, changed_it}
 use Rattle.unit_laws.specs.Units.{is_free, latest_after, HasImages}
 use Rattle.recovery_model.specs.Images.{befores}
 use Rattle.recovery_model.specs.File.{FileState, changed_file, settled_file, half_aborted, renewed, ended, saved_file, recovered_file, IsOpenIn, IsStill}

@@ -1,10 +1,10 @@
 -- What recovery knows of a file: its history, its journals of images and its save; and the steps that change them.
 use Rattle.std.specs.Prelude.{◌≡◌, ℕ, ◌+◌, ◌*◌, ◌/◌, ◌≤◌, List, [], ◌∷◌, ◌++◌, Bool, true, false, Option, Some, None, if◌then◌else◌, nat_le}
 use Rattle.std.specs.FinMap.{empty}
-use Rattle.vms_model.specs.Ids.{Id}
-use Rattle.vms_model.specs.Transactions.{Outcome}
-use Rattle.records_model.specs.Records.{Records, Change}
-use Rattle.records_model.specs.History.{LiveChanges, same_id, current, changed_with, settled_at, changed_it}
+use Rattle.unit_laws.specs.vms_model.Ids.{Id}
+use Rattle.unit_laws.specs.vms_model.Transactions.{Outcome}
+use Rattle.unit_laws.specs.records_model.Records.{Records, Change}
+use Rattle.unit_laws.specs.records_model.History.{LiveChanges, same_id, current, changed_with, settled_at, changed_it}
 use Rattle.recovery_model.specs.Journal.{Entry, Changed, Settled, is_settled, entry_length}
 use Rattle.recovery_model.specs.Timeline.{Timeline}
 

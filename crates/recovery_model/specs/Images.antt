@@ -1,8 +1,8 @@
 -- Images of keys: what changes set, and what they found. Images stand newest first, as changes do.
 use Rattle.std.specs.Prelude.{ℕ, List, [], ◌∷◌, Bool, true, false, Option, None, if◌then◌else◌}
 use Rattle.std.specs.Ordering.{eq_by_cmp}
-use Rattle.vms_model.specs.Keys.{Key}
-use Rattle.records_model.specs.Records.{Change, key_cmp}
+use Rattle.unit_laws.specs.vms_model.Keys.{Key}
+use Rattle.unit_laws.specs.records_model.Records.{Change, key_cmp}
 
 -- a key with a record, or with none
 abbrev pub Image : Type 0

@@ -1,11 +1,11 @@
 -- A journal of images of one file by its entries, which stand newest first, and what a recovery makes by them.
 use Rattle.std.specs.Prelude.{◌≡◌, ℕ, ◌≤◌, ◌<◌, ◌+◌, List, [], ◌∷◌, Bool, true, false, Option, if◌then◌else◌, ◌&&◌, nat_lt}
-use Rattle.vms_model.specs.Ids.{Id}
-use Rattle.vms_model.specs.Keys.{Key}
-use Rattle.vms_model.specs.Transactions.{Outcome, Commit, Abort}
-use Rattle.records_model.specs.Records.{Records, set_key}
-use Rattle.records_model.specs.Slots.{size_of}
-use Rattle.records_model.specs.History.{same_id, reached}
+use Rattle.unit_laws.specs.vms_model.Ids.{Id}
+use Rattle.unit_laws.specs.vms_model.Keys.{Key}
+use Rattle.unit_laws.specs.vms_model.Transactions.{Outcome, Commit, Abort}
+use Rattle.unit_laws.specs.records_model.Records.{Records, set_key}
+use Rattle.unit_laws.specs.records_model.Slots.{size_of}
+use Rattle.unit_laws.specs.records_model.History.{same_id, reached}
 use Rattle.unit_laws.specs.Journal.{JournalEntry, ChangeEntry, SettledEntry, key_size}
 use Rattle.recovery_model.specs.Images.{Image, touches}
 

@@ -1,9 +1,9 @@
 -- What holds of the journals and the save of a file, whatever is done with it.
 use Rattle.std.specs.Prelude.{◌≡◌, true, ℕ, ◌+◌, ◌-◌, ◌*◌, ◌≤◌, List, [], ◌∷◌, Bool, None, Option, Some, reverse, map}
 use Rattle.std.specs.List.{list_any}
-use Rattle.vms_model.specs.Ids.{Id}
-use Rattle.records_model.specs.Records.{Records, Change}
-use Rattle.records_model.specs.History.{same_id, changes_by, current, records, changed_it, first_to_change}
+use Rattle.unit_laws.specs.vms_model.Ids.{Id}
+use Rattle.unit_laws.specs.records_model.Records.{Records, Change}
+use Rattle.unit_laws.specs.records_model.History.{same_id, changes_by, current, records, changed_it, first_to_change}
 use Rattle.unit_laws.specs.Units.{SerialsDiffer}
 use Rattle.unit_laws.specs.Journal.{entry_size}
 use Rattle.recovery_model.specs.Journal.{Entry, Below, entry_in, entry_length, rolled_forward, rolled_back}

@@ -1,9 +1,9 @@
 -- A file that a run finds, and what its journals and its save say of it.
 use Rattle.std.specs.Prelude.{◌≡◌, ◌⊎◌, ℕ, ◌+◌, ◌≤◌, List, [], Bool, true, false, Option, Some, None, if◌then◌else◌, ◌&&◌, nat_le}
-use Rattle.vms_model.specs.Ids.{Id}
-use Rattle.vms_model.specs.Keys.{Key}
-use Rattle.records_model.specs.Records.{Records, Found}
-use Rattle.records_model.specs.History.{LiveChanges, changes_by, changes_key, records}
+use Rattle.unit_laws.specs.vms_model.Ids.{Id}
+use Rattle.unit_laws.specs.vms_model.Keys.{Key}
+use Rattle.unit_laws.specs.records_model.Records.{Records, Found}
+use Rattle.unit_laws.specs.records_model.History.{LiveChanges, changes_by, changes_key, records}
 use Rattle.unit_laws.specs.Units.{SerialsDiffer}
 use Rattle.recovery_model.specs.Images.{afters, befores, keys_of, touches, newest}
 use Rattle.recovery_model.specs.Journal.{Entry, Below, Before, Once, Locked, is_settled, images_by, rolled_forward, rolled_back}

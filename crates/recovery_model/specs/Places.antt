@@ -1,9 +1,9 @@
 -- The places of the entries that a recovery uses, in a journal whose oldest entry stands first.
 use Rattle.std.specs.Prelude.{ℕ, ◌+◌, List, [], ◌∷◌, Bool, false, Some, if◌then◌else◌, ◌&&◌, ◌||◌, reverse, slice_index_or}
-use Rattle.vms_model.specs.Ids.{Id}
-use Rattle.vms_model.specs.Transactions.{Outcome, Abort}
-use Rattle.records_model.specs.Records.{Records, set_key}
-use Rattle.records_model.specs.History.{same_id, reached}
+use Rattle.unit_laws.specs.vms_model.Ids.{Id}
+use Rattle.unit_laws.specs.vms_model.Transactions.{Outcome, Abort}
+use Rattle.unit_laws.specs.records_model.Records.{Records, set_key}
+use Rattle.unit_laws.specs.records_model.History.{same_id, reached}
 use Rattle.recovery_model.specs.Journal.{Entry, Changed, Settled, is_commit, beyond}
 
 -- what an entry says of its branch: that it changed a record, or that it was settled so; or none of both

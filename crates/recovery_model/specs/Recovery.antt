@@ -1,8 +1,8 @@
 -- Recovery of a file to a chosen moment: which way, what refuses it, and what it gives.
 use Rattle.std.specs.Prelude.{◌≡◌, ℕ, Bool, true, not, Option, Some, None, if◌then◌else◌, nat_lt}
-use Rattle.vms_model.specs.Ids.{Id}
-use Rattle.records_model.specs.Records.{Records}
-use Rattle.records_model.specs.History.{current, records, changed_it}
+use Rattle.unit_laws.specs.vms_model.Ids.{Id}
+use Rattle.unit_laws.specs.records_model.Records.{Records}
+use Rattle.unit_laws.specs.records_model.History.{current, records, changed_it}
 use Rattle.recovery_model.specs.Journal.{rolled_forward, rolled_back}
 use Rattle.recovery_model.specs.Timeline.{records_at}
 use Rattle.recovery_model.specs.File.{ImageJournal, Save, FileState, all_of, since, IsStill}

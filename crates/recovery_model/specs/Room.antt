@@ -1,9 +1,9 @@
 -- The bytes of the rings of journals of images: what is free there, what changes need, and which ring is full.
 use Rattle.std.specs.Prelude.{◌≡◌, ℕ, suc, ◌+◌, ◌-◌, ◌*◌, ◌≤◌, List, [], ◌∷◌, Bool, true, false, Option, Some, None, if◌then◌else◌, ◌&&◌, ◌||◌, nat_lt}
-use Rattle.vms_model.specs.Ids.{Id}
-use Rattle.records_model.specs.Records.{Change}
-use Rattle.records_model.specs.Slots.{size_of}
-use Rattle.records_model.specs.History.{LiveChanges, same_id}
+use Rattle.unit_laws.specs.vms_model.Ids.{Id}
+use Rattle.unit_laws.specs.records_model.Records.{Change}
+use Rattle.unit_laws.specs.records_model.Slots.{size_of}
+use Rattle.unit_laws.specs.records_model.History.{LiveChanges, same_id}
 use Rattle.unit_laws.specs.Journal.{key_size}
 use Rattle.recovery_model.specs.Images.{Image, afters, befores}
 use Rattle.recovery_model.specs.Journal.{Entry, Changed, Settled}

@@ -1,7 +1,7 @@
 -- What a file's records were at each moment.
 use Rattle.std.specs.Prelude.{ℕ, Option, Some, None, if◌then◌else◌, nat_lt}
-use Rattle.records_model.specs.Records.{Records}
-use Rattle.records_model.specs.History.{History, records, left_by}
+use Rattle.unit_laws.specs.records_model.Records.{Records}
+use Rattle.unit_laws.specs.records_model.History.{History, records, left_by}
 
 -- A file's history, and records at the moments before its base. Where a run finds the file, these are what its journals tell of the runs before. They stay when the
 -- file is recovered, and are no more asked for then; and in a file that was made they are any.

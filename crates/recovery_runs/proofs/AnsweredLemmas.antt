@@ -12,18 +12,18 @@ use Rattle.records_model.specs.History.{History, changed_it, first_to_change}
 use Rattle.recovery_model.specs.File.{Save}
 use Rattle.recovery_model.specs.Recovery as recovery
 use Rattle.recovery_model.specs.Recovery.{Refusal, first_of, in_use, no_journal, no_save, positions_missing, refusal, refused_if, too_early}
-use Rattle.run_model.specs.World.{Act, File, Node, World, find_file, find_node, longest_free, state_of}
-use Rattle.run_model.specs.Answers.{Row, Serves, blocks_recovered, of_file, records_recovered, recovers, recovery_refused, refusal_line, refused_before_reading, service, silent, there_is_file, to_file, volume_full, way_of}
-use Rattle.run_model.specs.Operations as asked
-use Rattle.run_model.specs.Operations.{refused_if as refused_so}
-use Rattle.run_model.specs.Steps.{Choice, Cut, TaskAllowed, TaskEffect, Unpowered, Whole, WithoutMemory, begun, cut, lines_of_rows, refused, rows_if, rows_to_cut, succeeded, task_effect, whole}
-use Rattle.run_model.specs.Statements.{Begins, Phases, RoseAt, Step, begun_with, phases_of, put_into, refused_at_once, stops_at}
-use Rattle.run_model.specs.StepLaws.{IsTask}
-use Rattle.run_model.specs.Transcript.{Turn as LineTurn}
-use Rattle.run_model.proofs.NodeLists.{found_name, put_same}
-use Rattle.run_model.proofs.PartLemmas.{turn}
-use Rattle.world_laws.proofs.AnswerLemmas.{neither}
-use Rattle.world_laws.proofs.ServedLemmas.{there_is as there_is_one}
+use Rattle.recovery_laws.specs.run_model.World.{Act, File, Node, World, find_file, find_node, longest_free, state_of}
+use Rattle.recovery_laws.specs.run_model.Answers.{Row, Serves, blocks_recovered, of_file, records_recovered, recovers, recovery_refused, refusal_line, refused_before_reading, service, silent, there_is_file, to_file, volume_full, way_of}
+use Rattle.recovery_laws.specs.run_model.Operations as asked
+use Rattle.recovery_laws.specs.run_model.Operations.{refused_if as refused_so}
+use Rattle.recovery_laws.specs.run_model.Steps.{Choice, Cut, TaskAllowed, TaskEffect, Unpowered, Whole, WithoutMemory, begun, cut, lines_of_rows, refused, rows_if, rows_to_cut, succeeded, task_effect, whole}
+use Rattle.recovery_laws.specs.run_model.Statements.{Begins, Phases, RoseAt, Step, begun_with, phases_of, put_into, refused_at_once, stops_at}
+use Rattle.recovery_laws.specs.run_model.StepLaws.{IsTask}
+use Rattle.recovery_laws.specs.run_model.Transcript.{Turn as LineTurn}
+use Rattle.recovery_laws.proofs.run_model.NodeLists.{found_name, put_same}
+use Rattle.recovery_laws.proofs.run_model.PartLemmas.{turn}
+use Rattle.recovery_laws.proofs.world_laws.AnswerLemmas.{neither}
+use Rattle.recovery_laws.proofs.world_laws.ServedLemmas.{there_is as there_is_one}
 use Rattle.recovery_runs.specs.Answered.{FileRefuses, InUse, Full, IsAnswered, MomentsMissing, NoJournal, NoSave, PositionsMissing, Refuses, TooEarly, journal_read}
 use Rattle.recovery_runs.specs.Answered as answered
 

@@ -10,34 +10,34 @@ use Rattle.script_model.specs.Grammar.{reading}
 use Rattle.script_model.specs.Statements.{At, Blank, Bad, Clock, Deliver, Init, LinkDown, Reading, Request, Says, Settle}
 use Rattle.records_model.specs.History.{changes_by, same_id as same}
 use Rattle.recovery_model.specs.Journal.{is_commit}
-use Rattle.unit_laws.specs.JournalLaws.{is_unit}
-use Rattle.commit_protocol.specs.Messages.{LogRecord, same_id}
-use Rattle.commit_protocol.specs.Agreement.{IsDead, view}
-use Rattle.commit_protocol.specs.Opening.{Image, OldIn, Opening, commits_in, image_at, image_in, in_rack, opened as raised, or_none}
-use Rattle.commit_protocol.specs.Table as table
-use Rattle.commit_protocol.specs.Table.{Key as BranchKey, child, first}
-use Rattle.commit_protocol.specs.World as protocol
-use Rattle.commit_protocol.specs.World.{In, run}
-use Rattle.commit_protocol.proofs.Acting.{Goes}
-use Rattle.commit_protocol.proofs.Gathered.{is_shown}
-use Rattle.commit_protocol.proofs.Lists.{same_id-refl}
-use Rattle.commit_protocol.proofs.Opened.{good_opened, never_runs, old_of, shows_of}
-use Rattle.commit_protocol.proofs.Running.{goes_run}
+use Rattle.recovery_model.specs.unit_laws.JournalLaws.{is_unit}
+use Rattle.transcript_model.specs.commit_protocol.Messages.{LogRecord, same_id}
+use Rattle.transcript_model.specs.commit_protocol.Agreement.{IsDead, view}
+use Rattle.transcript_model.specs.commit_protocol.Opening.{Image, OldIn, Opening, commits_in, image_at, image_in, in_rack, opened as raised, or_none}
+use Rattle.transcript_model.specs.commit_protocol.Table as table
+use Rattle.transcript_model.specs.commit_protocol.Table.{Key as BranchKey, child, first}
+use Rattle.transcript_model.specs.commit_protocol.World as protocol
+use Rattle.transcript_model.specs.commit_protocol.World.{In, run}
+use Rattle.transcript_model.proofs.commit_protocol.Acting.{Goes}
+use Rattle.transcript_model.proofs.commit_protocol.Gathered.{is_shown}
+use Rattle.transcript_model.proofs.commit_protocol.Lists.{same_id-refl}
+use Rattle.transcript_model.proofs.commit_protocol.Opened.{good_opened, never_runs, old_of, shows_of}
+use Rattle.transcript_model.proofs.commit_protocol.Running.{goes_run}
 use Rattle.log_laws.specs.Slots.{prepared_of, records_in}
-use Rattle.run_model.specs.World as world
-use Rattle.run_model.specs.World.{Act, DiskCounts, Node, Settlement, World, acted, find_node, opened, prepared_left, state_of}
-use Rattle.run_model.specs.Answers.{Serves, Task, task_service}
-use Rattle.run_model.specs.Transcript.{AreOpening, Entry, Legal, Turn}
-use Rattle.run_model.proofs.NodeLists.{found_name, some_is}
-use Rattle.run_agreement.specs.Following.{opening_of}
-use Rattle.run_agreement.specs.Laws.{IsReachedBy, IsUnused, MakesNoVolume, NamesApart, RunsFrom, image_told, opening_told, volume_image}
-use Rattle.run_agreement.specs.Seen.{Resolution, has_volume, image_of, landed}
-use Rattle.run_agreement.proofs.Booting.{left_rearranged, ready_of}
-use Rattle.run_agreement.proofs.Events.{down_of_face}
-use Rattle.run_agreement.proofs.Openings.{image_found, opening_shows, reached_by, told_settled}
-use Rattle.world_laws.specs.Nodes.{IsKeptDisk}
-use Rattle.world_laws.specs.Running.{history_of}
-use Rattle.world_laws.proofs.IdLemmas.{id_is}
+use Rattle.recovery_laws.specs.run_model.World as world
+use Rattle.recovery_laws.specs.run_model.World.{Act, DiskCounts, Node, Settlement, World, acted, find_node, opened, prepared_left, state_of}
+use Rattle.recovery_laws.specs.run_model.Answers.{Serves, Task, task_service}
+use Rattle.recovery_laws.specs.run_model.Transcript.{AreOpening, Entry, Legal, Turn}
+use Rattle.recovery_laws.proofs.run_model.NodeLists.{found_name, some_is}
+use Rattle.run_laws.specs.run_agreement.Following.{opening_of}
+use Rattle.run_laws.specs.run_agreement.Laws.{IsReachedBy, IsUnused, MakesNoVolume, NamesApart, RunsFrom, image_told, opening_told, volume_image}
+use Rattle.run_laws.specs.run_agreement.Seen.{Resolution, has_volume, image_of, landed}
+use Rattle.run_laws.proofs.run_agreement.Booting.{left_rearranged, ready_of}
+use Rattle.run_laws.proofs.run_agreement.Events.{down_of_face}
+use Rattle.run_laws.proofs.run_agreement.Openings.{image_found, opening_shows, reached_by, told_settled}
+use Rattle.recovery_laws.specs.world_laws.Nodes.{IsKeptDisk}
+use Rattle.recovery_laws.specs.world_laws.Running.{history_of}
+use Rattle.recovery_laws.proofs.world_laws.IdLemmas.{id_is}
 use Rattle.run_chains.specs.Chains.{is_made, made_by, made_here}
 use Rattle.run_laws.proofs.ToldImages.{in_base, told_found}
 use Rattle.run_chains.proofs.Told.{IsToldSo, told_so}
@@ -289,7 +289,7 @@ module _ (nodes : List Node) (disks : List DiskCounts) (es : List Entry) (closin
     awaited t r alive = in_any (λ (r : LogRecord). same_id x r.serial && list_any (same_id r.tid) (commits_in o)) r.0 (image_at o x.node).prepared r.1
         (and_from _ _ (ap (same_id x) r.2 ∙ same_id-refl x) (ap (λ t. list_any (same_id t) (commits_in o)) r.3 ∙ by (list_any (same_id t) (commits_in o)) refl))
       where
-        gathered : Rattle.commit_protocol.proofs.Gathered.IsShown o
+        gathered : Rattle.transcript_model.proofs.commit_protocol.Gathered.IsShown o
         gathered = is_shown o a.run.is_run.agrees
 
         dead : list_any (same_id t) (commits_in o) ≡ false → IsDead (view (raised o)) t

@@ -4,10 +4,10 @@ use Rattle.std.proofs.lemmas.Bool.{and_from, and_parts, false_from_ne_true}
 use Rattle.vms_model.specs.Transactions.{Outcome, Abort, Commit}
 use Rattle.records_model.specs.History.{same_id}
 use Rattle.recovery_model.specs.Journal.{is_commit}
-use Rattle.commit_protocol.specs.Table.{Settles}
-use Rattle.run_model.specs.World.{Settlement, Tables, find_node, opened, settlement}
-use Rattle.run_model.proofs.NodeLists.{found_name}
-use Rattle.world_laws.proofs.IdLemmas.{id_is, id_itself}
+use Rattle.transcript_model.specs.commit_protocol.Table.{Settles}
+use Rattle.recovery_laws.specs.run_model.World.{Settlement, Tables, find_node, opened, settlement}
+use Rattle.recovery_laws.proofs.run_model.NodeLists.{found_name}
+use Rattle.recovery_laws.proofs.world_laws.IdLemmas.{id_is, id_itself}
 use Rattle.run_laws.specs.Promises.{settlements_of}
 use Rattle.run_laws.proofs.Deciding.{any_in, in_any}
 use Rattle.run_laws.proofs.SoundWorlds.{legal_sound, opening_sound}

@@ -9,36 +9,36 @@ use Rattle.vms_model.specs.Transactions.{Outcome, Abort, Commit, Reason, SegFail
 use Rattle.transcript_model.specs.Lines.{Line}
 use Rattle.records_model.specs.Records.{Change, Records}
 use Rattle.records_model.specs.History.{changed_it, changes_by}
-use Rattle.unit_laws.specs.Units.{Map}
-use Rattle.unit_laws.specs.Journal.{RecoveryUnit, find_unit, units_in}
-use Rattle.unit_laws.specs.JournalLaws.{is_unit}
-use Rattle.commit_protocol.specs.Messages.{LogRecord}
-use Rattle.commit_protocol.specs.Table as table
-use Rattle.commit_protocol.specs.Table.{Accepts, Acknowledges, Key as BranchKey, Leaves, Notes, Prepares, Prints, Releases, Sends, Settles, Undoes}
-use Rattle.commit_protocol.specs.World.{In}
+use Rattle.recovery_model.specs.unit_laws.Units.{Map}
+use Rattle.recovery_model.specs.unit_laws.Journal.{RecoveryUnit, find_unit, units_in}
+use Rattle.recovery_model.specs.unit_laws.JournalLaws.{is_unit}
+use Rattle.transcript_model.specs.commit_protocol.Messages.{LogRecord}
+use Rattle.transcript_model.specs.commit_protocol.Table as table
+use Rattle.transcript_model.specs.commit_protocol.Table.{Accepts, Acknowledges, Key as BranchKey, Leaves, Notes, Prepares, Prints, Releases, Sends, Settles, Undoes}
+use Rattle.transcript_model.specs.commit_protocol.World.{In}
 use Rattle.recovery_model.specs.File.{FileState, IsStill}
-use Rattle.run_model.specs.Locks.{is_locked}
-use Rattle.run_model.specs.World.{Act, Arms, Boots, Changes, Clocks, ComesUp, Creates, Declares, Directs, Draws, Durable, Falls, File, Formats, Half, Holds, Labels, Marks, MayTurnOut, Node, Numbers, Recovers, Saves, Settlement, Tables, aborted_prepared, acted, changed_file, directly_changed, find_file, half_undone, marked_file, next_id, next_moment, recovered_file, saved_file, settled_file, settlement, state_of, with_half}
-use Rattle.run_model.specs.Answers.{Row, commit_settlement, unit_key}
-use Rattle.run_model.specs.Steps.{node_after}
-use Rattle.world_laws.specs.Nodes.{IsUp}
-use Rattle.world_laws.specs.Running.{AllFound, history_of}
-use Rattle.world_laws.proofs.DiskLemmas.{place_of}
-use Rattle.world_laws.proofs.FileLemmas.{found_changed, found_mapped, found_placed}
-use Rattle.world_laws.proofs.FindLemmas.{some_is}
-use Rattle.world_laws.proofs.MomentLemmas.{next_later}
-use Rattle.world_laws.proofs.RestartLemmas.{undone_unit}
-use Rattle.world_laws.proofs.ServedLemmas.{undrawn}
-use Rattle.world_laws.proofs.UpLemmas.{branch_drawn}
+use Rattle.recovery_laws.specs.run_model.Locks.{is_locked}
+use Rattle.recovery_laws.specs.run_model.World.{Act, Arms, Boots, Changes, Clocks, ComesUp, Creates, Declares, Directs, Draws, Durable, Falls, File, Formats, Half, Holds, Labels, Marks, MayTurnOut, Node, Numbers, Recovers, Saves, Settlement, Tables, aborted_prepared, acted, changed_file, directly_changed, find_file, half_undone, marked_file, next_id, next_moment, recovered_file, saved_file, settled_file, settlement, state_of, with_half}
+use Rattle.recovery_laws.specs.run_model.Answers.{Row, commit_settlement, unit_key}
+use Rattle.recovery_laws.specs.run_model.Steps.{node_after}
+use Rattle.recovery_laws.specs.world_laws.Nodes.{IsUp}
+use Rattle.recovery_laws.specs.world_laws.Running.{AllFound, history_of}
+use Rattle.recovery_laws.proofs.world_laws.DiskLemmas.{place_of}
+use Rattle.recovery_laws.proofs.world_laws.FileLemmas.{found_changed, found_mapped, found_placed}
+use Rattle.recovery_laws.proofs.world_laws.FindLemmas.{some_is}
+use Rattle.recovery_laws.proofs.world_laws.MomentLemmas.{next_later}
+use Rattle.recovery_laws.proofs.world_laws.RestartLemmas.{undone_unit}
+use Rattle.recovery_laws.proofs.world_laws.ServedLemmas.{undrawn}
+use Rattle.recovery_laws.proofs.world_laws.UpLemmas.{branch_drawn}
 use Rattle.run_laws.proofs.FileTelling.{no_changes}
 use Rattle.run_laws.proofs.Keeping.{Keeps, Scheme, closes_plain}
 use Rattle.run_laws.proofs.Once.{unit_branch}
 use Rattle.run_laws.proofs.RowFits.{FitsTable, RowFits}
 use Rattle.run_laws.proofs.Staying.{Grows, after_grows}
 use Rattle.recovery_model.specs.File as recovery
-use Rattle.run_model.specs.World.{IsHalfUndone, Mark}
-use Rattle.world_laws.specs.Nodes.{IsFiled}
-use Rattle.world_laws.proofs.HeldLemmas.{noted_at}
+use Rattle.recovery_laws.specs.run_model.World.{IsHalfUndone, Mark}
+use Rattle.recovery_laws.specs.world_laws.Nodes.{IsFiled}
+use Rattle.recovery_laws.proofs.world_laws.HeldLemmas.{noted_at}
 use Rattle.run_laws.proofs.Keeping.{IsNextUnit}
 use Rattle.recovery_laws.specs.Entering.{MayEnterFile}
 use Rattle.recovery_laws.specs.Gaps.{IsShared}

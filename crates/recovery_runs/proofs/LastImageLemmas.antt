@@ -9,8 +9,8 @@ use Rattle.script_model.specs.Statements.{AfterImages, BeforeImages}
 use Rattle.records_model.specs.Records.{Change}
 use Rattle.records_model.specs.History.{LiveChanges, changed_it, changes_by, changes_key, current, records, same_id, with_change, without}
 use Rattle.records_model.proofs.SlotLaws.{if_true}
-use Rattle.unit_laws.specs.Units.{SerialsDiffer, is_changed, is_free}
-use Rattle.unit_laws.proofs.LiveLemmas.{id_is, id_itself}
+use Rattle.recovery_model.specs.unit_laws.Units.{SerialsDiffer, is_changed, is_free}
+use Rattle.recovery_model.proofs.unit_laws.LiveLemmas.{id_is, id_itself}
 use Rattle.recovery_model.specs.Images.{afters, newest, touches}
 use Rattle.recovery_model.specs.Journal.{Changed, Entry, Settled, images_by, is_settled}
 use Rattle.recovery_model.specs.File.{FileState, ImageJournal, all_of, append, half_aborted, renewed, renewed_if_on, with_its}
@@ -25,10 +25,10 @@ use Rattle.recovery_model.proofs.ImageLemmas.{applied-sets, changes-key}
 use Rattle.recovery_model.proofs.OldestLemmas.{get-sets_newest}
 use Rattle.recovery_model.proofs.OpeningLemmas.{same_touches}
 use Rattle.recovery_model.proofs.TieLemmas.{not_this, of_other, of_same}
-use Rattle.run_model.specs.World.{BeginsImages, EndsImages, File, ForUnits, Mark, Settlement, changed_file, marked_file, state_of}
+use Rattle.recovery_laws.specs.run_model.World.{BeginsImages, EndsImages, File, ForUnits, Mark, Settlement, changed_file, marked_file, state_of}
 use Rattle.recovery_runs.specs.LastImages.{ActsKeepLastImages, FewerLastImages, LastImagesAreValues, LastImagesStand, MoreLastImages, StillFilesStand}
 use Rattle.recovery_laws.specs.States.{after_settlement}
-use Rattle.world_laws.proofs.StateLemmas.{all_follow, half_follows, settled_follows}
+use Rattle.recovery_laws.proofs.world_laws.StateLemmas.{all_follow, half_follows, settled_follows}
 
 -- an image more, in front of both
 in_front : (b t : Bool) (v x y : Option (List ℕ)) → (if b then true else t) ≡ true → (t ≡ true → x ≡ y) → (if b then v else x) ≡ (if b then v else y)

@@ -7,3 +7,4 @@ pub mod RunLemmas
 mod ShownLemmas
 mod AnsweredLemmas
 pub mod PromiseLemmas
+pub mod run_chains

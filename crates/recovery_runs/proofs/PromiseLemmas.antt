@@ -1,9 +1,9 @@
 -- What a run promises of its recoveries, from the laws of these.
 use Rattle.std.proofs.Common.{[], ◌∷◌, ◌++◌, subst}
 use Rattle.std.specs.Prelude.{List}
-use Rattle.run_model.specs.World.{DiskCounts, Node, World, opened}
-use Rattle.run_model.specs.Transcript.{AreOpening, Entry, Legal}
-use Rattle.run_agreement.specs.Laws.{opening_told}
+use Rattle.recovery_laws.specs.run_model.World.{DiskCounts, Node, World, opened}
+use Rattle.recovery_laws.specs.run_model.Transcript.{AreOpening, Entry, Legal}
+use Rattle.run_laws.specs.run_agreement.Laws.{opening_told}
 use Rattle.run_laws.specs.Laws.{AgreedPromisesAreKept}
 use Rattle.run_laws.specs.Promises.{AbortsStand}
 use Rattle.run_laws.proofs.AbortsStand.{legal_parts}

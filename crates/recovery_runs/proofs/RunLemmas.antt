@@ -6,18 +6,18 @@ use Rattle.vms_model.specs.Ids.{Id}
 use Rattle.vms_model.specs.Transactions.{Abort, Commit, Reason}
 use Rattle.script_model.specs.Statements.{At, Reading, Says}
 use Rattle.script_model.specs.Grammar.{reading}
-use Rattle.commit_protocol.specs.Messages.{LogRecord}
-use Rattle.commit_protocol.specs.Table.{Key as BranchKey, Settles}
-use Rattle.commit_protocol.specs.World.{In}
-use Rattle.unit_laws.specs.Units.{Map}
+use Rattle.transcript_model.specs.commit_protocol.Messages.{LogRecord}
+use Rattle.transcript_model.specs.commit_protocol.Table.{Key as BranchKey, Settles}
+use Rattle.transcript_model.specs.commit_protocol.World.{In}
+use Rattle.recovery_model.specs.unit_laws.Units.{Map}
 use Rattle.recovery_model.specs.Opening.{IsOpening}
-use Rattle.run_model.specs.World.{Act, Barred, DiskCounts, Faulty, File, Half, MayTurnOut, Node, Settlement, Sound, Tables, Unknown, Volume, World, aborted_prepared, acted, find_node, opened, state_of, with_half}
-use Rattle.run_model.specs.Answers.{task_service}
-use Rattle.run_model.specs.Transcript.{AreOpening, Entry, Legal, Turn}
-use Rattle.run_model.proofs.NodeLists.{found_name}
-use Rattle.world_laws.specs.Running.{AllFound}
-use Rattle.world_laws.proofs.FileLemmas.{found_mapped, none_empty}
-use Rattle.world_laws.proofs.WorldLemmas.{each_opening}
+use Rattle.recovery_laws.specs.run_model.World.{Act, Barred, DiskCounts, Faulty, File, Half, MayTurnOut, Node, Settlement, Sound, Tables, Unknown, Volume, World, aborted_prepared, acted, find_node, opened, state_of, with_half}
+use Rattle.recovery_laws.specs.run_model.Answers.{task_service}
+use Rattle.recovery_laws.specs.run_model.Transcript.{AreOpening, Entry, Legal, Turn}
+use Rattle.recovery_laws.proofs.run_model.NodeLists.{found_name}
+use Rattle.recovery_laws.specs.world_laws.Running.{AllFound}
+use Rattle.recovery_laws.proofs.world_laws.FileLemmas.{found_mapped, none_empty}
+use Rattle.recovery_laws.proofs.world_laws.WorldLemmas.{each_opening}
 use Rattle.run_laws.specs.Accounts.{made_anew}
 use Rattle.run_laws.specs.Promises.{left_at, settlements_of}
 use Rattle.run_laws.proofs.DumpsShown.{legal_on, split_on}

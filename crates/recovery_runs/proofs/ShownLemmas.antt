@@ -7,21 +7,21 @@ use Rattle.transcript_model.specs.Lines.{Line, Cause}
 use Rattle.script_model.specs.Grammar.{reading}
 use Rattle.script_model.specs.Statements.{At, Recover, Recovery}
 use Rattle.recovery_model.specs.Recovery.{rolled}
-use Rattle.run_model.specs.World.{File, Node, World, find_file, find_node, opened, state_of}
-use Rattle.run_model.specs.Answers.{Service, Serves, refused_before_reading, service, there_is_file, way_of}
-use Rattle.run_model.specs.Operations.{first_of, refused_if}
-use Rattle.run_model.specs.Steps.{Choice, Cut, TaskAllowed, TaskEffect, Unpowered, Whole, WithoutMemory, begun, node_after_rows, task_effect, whole}
-use Rattle.run_model.specs.Statements.{Begins, Phases, RoseAt, Step, begun_with, phases_of, refused_at_once, stops_at}
-use Rattle.run_model.specs.StepLaws.{IsTask, is_refusal}
-use Rattle.run_model.specs.Transcript.{Entry, Legal, Turn as LineTurn}
-use Rattle.run_model.proofs.CauseLemmas.{refuses_first, refuses_then}
-use Rattle.run_model.proofs.Failing.{once_refuses}
-use Rattle.run_model.proofs.NodeLists.{put_node}
-use Rattle.run_model.proofs.PartLemmas.{turn}
-use Rattle.run_model.proofs.TaskLemmas.{effect_name}
-use Rattle.world_laws.proofs.AnswerLemmas.{neither}
-use Rattle.world_laws.proofs.FindLemmas.{some_is}
-use Rattle.world_laws.proofs.ServedLemmas.{there_is as there_is_one}
+use Rattle.recovery_laws.specs.run_model.World.{File, Node, World, find_file, find_node, opened, state_of}
+use Rattle.recovery_laws.specs.run_model.Answers.{Service, Serves, refused_before_reading, service, there_is_file, way_of}
+use Rattle.recovery_laws.specs.run_model.Operations.{first_of, refused_if}
+use Rattle.recovery_laws.specs.run_model.Steps.{Choice, Cut, TaskAllowed, TaskEffect, Unpowered, Whole, WithoutMemory, begun, node_after_rows, task_effect, whole}
+use Rattle.recovery_laws.specs.run_model.Statements.{Begins, Phases, RoseAt, Step, begun_with, phases_of, refused_at_once, stops_at}
+use Rattle.recovery_laws.specs.run_model.StepLaws.{IsTask, is_refusal}
+use Rattle.recovery_laws.specs.run_model.Transcript.{Entry, Legal, Turn as LineTurn}
+use Rattle.recovery_laws.proofs.run_model.CauseLemmas.{refuses_first, refuses_then}
+use Rattle.recovery_laws.proofs.run_model.Failing.{once_refuses}
+use Rattle.recovery_laws.proofs.run_model.NodeLists.{put_node}
+use Rattle.recovery_laws.proofs.run_model.PartLemmas.{turn}
+use Rattle.recovery_laws.proofs.run_model.TaskLemmas.{effect_name}
+use Rattle.recovery_laws.proofs.world_laws.AnswerLemmas.{neither}
+use Rattle.recovery_laws.proofs.world_laws.FindLemmas.{some_is}
+use Rattle.recovery_laws.proofs.world_laws.ServedLemmas.{there_is as there_is_one}
 use Rattle.run_laws.specs.Promises.{left_at}
 use Rattle.run_laws.proofs.Anewed.{used_makes}
 use Rattle.run_laws.proofs.DumpsShown.{ends_alike, legal_on, split_on}

@@ -7,19 +7,19 @@ use Rattle.vms_model.specs.Keys.{Key}
 use Rattle.records_model.specs.Records.{Change, Found, Records, applied}
 use Rattle.records_model.specs.History.{LiveChanges, changed_it, changes_by, changes_key, records}
 use Rattle.records_model.proofs.RecordsLemmas.{get-set_key, same_key}
-use Rattle.unit_laws.specs.Units.{IsImage, Map, is_of}
+use Rattle.recovery_model.specs.unit_laws.Units.{IsImage, Map, is_of}
 use Rattle.recovery_model.specs.Images.{befores}
 use Rattle.recovery_model.specs.File.{FileState, IsStill}
 use Rattle.recovery_model.proofs.FileLemmas.{settled_is}
 use Rattle.recovery_model.proofs.ImageLemmas.{same_self}
 use Rattle.recovery_model.proofs.HoldLemmas.{acts_hold, created_holds, found_holds}
-use Rattle.run_model.specs.World.{File, Settlement, leaving, settled_file, state_of}
-use Rattle.world_laws.proofs.HalfLemmas.{latest_leaving}
-use Rattle.world_laws.proofs.StateLemmas.{settled_follows}
+use Rattle.recovery_laws.specs.run_model.World.{File, Settlement, leaving, settled_file, state_of}
+use Rattle.recovery_laws.proofs.world_laws.HalfLemmas.{latest_leaving}
+use Rattle.recovery_laws.proofs.world_laws.StateLemmas.{settled_follows}
 use Rattle.recovery_laws.specs.Led.{IsTold, WasFound, WasMade}
 use Rattle.recovery_laws.proofs.LedLemmas.{acts_keep_told}
 use Rattle.recovery_model.specs.File as recovery
-use Rattle.run_model.specs.World.{IsHalfUndone}
+use Rattle.recovery_laws.specs.run_model.World.{IsHalfUndone}
 use Rattle.recovery_laws.specs.Entering.{MayEnterFile}
 use Rattle.recovery_laws.specs.Loading.{HasNoGap}
 use Rattle.recovery_laws.specs.Gaps.{IsGapless, MayChangeOn}

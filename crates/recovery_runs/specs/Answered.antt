@@ -6,9 +6,9 @@ use Rattle.transcript_model.specs.Lines.{Cause, Line}
 use Rattle.script_model.specs.Statements.{Backward, Forward, Recovery}
 use Rattle.records_model.specs.History.{changed_it}
 use Rattle.recovery_model.specs.File.{ImageJournal, Save}
-use Rattle.run_model.specs.World.{File, Node, World, buckets_loaded, find_file, find_node, longest_free}
-use Rattle.run_model.specs.Answers.{records_recovered}
-use Rattle.run_model.specs.Statements.{RoseAt}
+use Rattle.recovery_laws.specs.run_model.World.{File, Node, World, buckets_loaded, find_file, find_node, longest_free}
+use Rattle.recovery_laws.specs.run_model.Answers.{records_recovered}
+use Rattle.recovery_laws.specs.run_model.Statements.{RoseAt}
 
 -- the journal that a recovery reads: forward that of after images, backward that of before images
 abbrev pub journal_read : Recovery → File → ImageJournal

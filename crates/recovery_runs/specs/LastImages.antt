@@ -5,12 +5,12 @@ use Rattle.vms_model.specs.Ids.{Id}
 use Rattle.vms_model.specs.Keys.{Key}
 use Rattle.records_model.specs.Records.{Change, Records}
 use Rattle.records_model.specs.History.{changes_by, current}
-use Rattle.unit_laws.specs.Units.{Map}
+use Rattle.recovery_model.specs.unit_laws.Units.{Map}
 use Rattle.recovery_model.specs.Images.{afters, newest, touches}
 use Rattle.recovery_model.specs.Journal.{images_by, is_settled}
 use Rattle.recovery_model.specs.File.{FileState, IsStill, all_of}
 use Rattle.recovery_model.specs.Opening.{IsLawful, MayCommit, TellsKeys}
-use Rattle.run_model.specs.World.{File, Mark, Settlement, changed_file, directly_changed, half_undone, marked_file, recovered_file, saved_file, settled_file, state_of}
+use Rattle.recovery_laws.specs.run_model.World.{File, Mark, Settlement, changed_file, directly_changed, half_undone, marked_file, recovered_file, saved_file, settled_file, state_of}
 
 -- Of each unsettled branch that may yet commit, the last image of a key in the journal of after images is what the branch's last change of the key set.
 abbrev pub LastImagesStand : (waits : Id → Bool) → FileState → Type 0

@@ -5,13 +5,13 @@ use Rattle.vms_model.specs.Ids.{Id}
 use Rattle.transcript_model.specs.Lines.{NormalCount}
 use Rattle.script_model.specs.Grammar.{reading}
 use Rattle.script_model.specs.Statements.{At, Recover, Recovery, Says}
-use Rattle.commit_protocol.specs.Messages.{LogRecord, same_id}
-use Rattle.commit_protocol.specs.Opening.{IsAgreeing, Opening, commits_in, image_at}
+use Rattle.transcript_model.specs.commit_protocol.Messages.{LogRecord, same_id}
+use Rattle.transcript_model.specs.commit_protocol.Opening.{IsAgreeing, Opening, commits_in, image_at}
 use Rattle.recovery_model.specs.Opening.{IsOpening}
-use Rattle.run_model.specs.World.{Node, Sound, World, find_node, state_of}
-use Rattle.run_model.specs.Transcript.{Entry, InAllRuns, Legal, Turn}
-use Rattle.world_laws.specs.Running.{AllFound}
-use Rattle.run_agreement.specs.Laws.{NamesApart, opening_told}
+use Rattle.recovery_laws.specs.run_model.World.{Node, Sound, World, find_node, state_of}
+use Rattle.recovery_laws.specs.run_model.Transcript.{Entry, InAllRuns, Legal, Turn}
+use Rattle.recovery_laws.specs.world_laws.Running.{AllFound}
+use Rattle.run_laws.specs.run_agreement.Laws.{NamesApart, opening_told}
 use Rattle.run_laws.specs.Anew.{AreKnownOrAnew}
 use Rattle.run_laws.specs.Promises.{AbortsStand, left_at}
 use Rattle.run_chains.specs.Reopenings.{IsReopened}

@@ -8,17 +8,17 @@ use Rattle.transcript_model.specs.Lines.{NormalCount}
 use Rattle.script_model.specs.Grammar.{reading}
 use Rattle.script_model.specs.Statements.{At, Recover, Recovery, Says}
 use Rattle.records_model.specs.History.{current, same_id}
-use Rattle.commit_protocol.specs.Messages.{LogRecord}
-use Rattle.commit_protocol.specs.Table.{Key as BranchKey, Settles}
-use Rattle.commit_protocol.specs.World.{In}
+use Rattle.transcript_model.specs.commit_protocol.Messages.{LogRecord}
+use Rattle.transcript_model.specs.commit_protocol.Table.{Key as BranchKey, Settles}
+use Rattle.transcript_model.specs.commit_protocol.World.{In}
 use Rattle.recovery_model.specs.Journal.{is_commit}
 use Rattle.recovery_model.specs.Laws.{GivesMaps}
 use Rattle.recovery_model.specs.Opening.{IsOpening, MayCommit, as_found}
 use Rattle.recovery_model.specs.Recovery.{records_by}
-use Rattle.run_model.specs.World.{Act, DiskCounts, File, Node, Settlement, Sound, Tables, World, acted, find_file, find_node, opened, state_of}
-use Rattle.run_model.specs.Answers.{refused_before_reading, service, way_of}
-use Rattle.run_model.specs.Transcript.{AreOpening, Entry, Legal, Turn}
-use Rattle.world_laws.specs.Running.{AllFound}
+use Rattle.recovery_laws.specs.run_model.World.{Act, DiskCounts, File, Node, Settlement, Sound, Tables, World, acted, find_file, find_node, opened, state_of}
+use Rattle.recovery_laws.specs.run_model.Answers.{refused_before_reading, service, way_of}
+use Rattle.recovery_laws.specs.run_model.Transcript.{AreOpening, Entry, Legal, Turn}
+use Rattle.recovery_laws.specs.world_laws.Running.{AllFound}
 use Rattle.run_laws.specs.Promises.{AbortsStand, left_at, settlements_of}
 use Rattle.run_chains.specs.Reopenings.{IsReopened}
 use Rattle.recovery_laws.specs.Gaps.{IsGapless}

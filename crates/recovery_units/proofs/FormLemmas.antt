@@ -1,10 +1,10 @@
 -- Refusals by a head, and by the file that it is the head of.
 use Rattle.std.proofs.Common.{◌≡◌, ℕ, List, Bool, true, false, Option, Some, None, length, refl, sym, ap, ◌∙◌}
 use Rattle.std.specs.Prelude.{option_map, ◌||◌, nat_lt}
-use Rattle.file_base.specs.declared.head.FileHead.{FileHead}
-use Rattle.file_base.specs.declared.head.Organization.{Organization as Kept}
-use Rattle.file_base.specs.declared.head.Organization.TheVariants as kept
-use Rattle.transcript_model.specs.Lines as line
+use Rattle.journal_model.specs.file_base.declared.head.FileHead.{FileHead}
+use Rattle.journal_model.specs.file_base.declared.head.Organization.{Organization as Kept}
+use Rattle.journal_model.specs.file_base.declared.head.Organization.TheVariants as kept
+use Rattle.volume_model.specs.transcript_model.Lines as line
 use Rattle.vms_model.specs.Keys.{Key, Number, Text, End}
 use Rattle.vms_base.specs.Keys.{key_of}
 use Rattle.record_operations.specs.Causes.{Cause, cause_if, first_cause, BadRecordSize}
@@ -14,9 +14,9 @@ use Rattle.record_operations.specs.declared.ops.RecordOp.{RecordOp}
 use Rattle.record_operations.specs.declared.ops.RecordOp.TheVariants as change
 use Rattle.record_operations.specs.declared.ops.ReadOp.{ReadOp}
 use Rattle.record_operations.specs.declared.ops.ReadOp.TheVariants as read
-use Rattle.run_model.specs.World.{File}
-use Rattle.run_model.specs.Operations.{first_of, refused_if, key_refused, place_refused, least_size, size_refused, delete_refused, truncate_refused, after_refused, form_refused}
-use Rattle.directory_model.specs.Files.{IsHeadOf, organized_by}
+use Rattle.volume_model.specs.run_model.World.{File}
+use Rattle.volume_model.specs.run_model.Operations.{first_of, refused_if, key_refused, place_refused, least_size, size_refused, delete_refused, truncate_refused, after_refused, form_refused}
+use Rattle.volume_model.specs.directory_model.Files.{IsHeadOf, organized_by}
 use Rattle.recovery_units.specs.Calls.{IsNumber, IsNumbered, cause_line, change_said, number_of, read_said}
 use Rattle.recovery_units.specs.Laws.{FormsRefuseAlike}
 

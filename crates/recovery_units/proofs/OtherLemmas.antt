@@ -5,11 +5,11 @@ use Rattle.vms_model.specs.Ids.{Id}
 use Rattle.vms_model.specs.Keys.{Key}
 use Rattle.records_model.specs.History.{same_id}
 use Rattle.record_locks.specs.Locks.{Lock, not_locked, released, with_locks}
-use Rattle.run_model.specs.World.{Node}
-use Rattle.run_model.proofs.NodeLists.{some_is}
+use Rattle.volume_model.specs.run_model.World.{Node}
+use Rattle.volume_model.proofs.run_model.NodeLists.{some_is}
 use Rattle.unit_table.specs.Units.{OpenUnit, new_unit, prepared_unit}
 use Rattle.volume.specs.State.{VolumeState}
-use Rattle.world_laws.proofs.IdLemmas.{id_is, id_other}
+use Rattle.volume_model.proofs.world_laws.IdLemmas.{id_is, id_other}
 use Rattle.recovery_units.specs.Others.{OthersStand, UnitsStandApart}
 use Rattle.recovery_units.specs.State.{AreLater, IsKept, IsUnitOf, UnitsState, locks_of, positions_of, unit_of, with_prepared, without_unit}
 

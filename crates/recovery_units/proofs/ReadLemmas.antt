@@ -2,8 +2,8 @@
 use Rattle.std.proofs.Common.{ℕ, List, refl, sym, subst}
 use Rattle.careful_write.specs.Reads.{as_read_by}
 use Rattle.careful_write.proofs.Reading.{idle_read}
-use Rattle.commit_protocol.specs.Table.{Branch}
-use Rattle.run_model.specs.World.{Node, File}
+use Rattle.volume_model.specs.commit_protocol.Table.{Branch}
+use Rattle.volume_model.specs.run_model.World.{Node, File}
 use Rattle.vms_model.specs.Ids.{Id}
 use Rattle.volume.specs.State.{SameVolume, VolumeState}
 use Rattle.recovery_units.specs.Calls.{IsAsked, IsAskedAlone, IsRestarting}

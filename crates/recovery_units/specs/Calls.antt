@@ -2,32 +2,32 @@
 use Rattle.std.specs.Prelude.{◌≡◌, ◌⊎◌, ◌≤◌, ◌+◌, ◌*◌, ℕ, zero, suc, List, [], ◌∷◌, ◌++◌, true, false, length, map, nat_lt, Option, Some, None, option_map}
 use Rattle.block_disk.specs.Disk.{DiskState}
 use Rattle.vms_model.specs.Limits.{change_limit, lock_limit}
-use Rattle.file_base.specs.declared.head.FileHead.{FileHead}
-use Rattle.file_base.specs.declared.head.Organization.TheVariants.{Indexed}
-use Rattle.transcript_model.specs.Lines as line
-use Rattle.transcript_model.specs.Lines.{Line}
-use Rattle.script_model.specs.Statements.{Operation, Put, Update, Delete, Truncate, Get, Next}
+use Rattle.journal_model.specs.file_base.declared.head.FileHead.{FileHead}
+use Rattle.journal_model.specs.file_base.declared.head.Organization.TheVariants.{Indexed}
+use Rattle.volume_model.specs.transcript_model.Lines as line
+use Rattle.volume_model.specs.transcript_model.Lines.{Line}
+use Rattle.volume_model.specs.script_model.Statements.{Operation, Put, Update, Delete, Truncate, Get, Next}
 use Rattle.vms_model.specs.Ids.{Id}
 use Rattle.vms_model.specs.Keys.{Key, Number, Text, End}
-use Rattle.tm_types.specs.Parts.{log_record_of}
+use Rattle.volume_model.specs.tm_types.Parts.{log_record_of}
 use Rattle.vms_model.specs.Transactions.{Outcome, Abort, Reason, SegFail}
 use Rattle.vms_base.specs.Ids.{serial_of, tid_of}
 use Rattle.vms_base.specs.Keys.{key_of}
-use Rattle.commit_protocol.specs.Agreement.{Distinct}
-use Rattle.commit_protocol.specs.Allowed.{is_prepared}
-use Rattle.commit_protocol.specs.Effects.{Effect, ForgetEffect, KeepEffect, PrepareEffect, ReadOnlyEffect, SettleEffect, act_effects}
-use Rattle.commit_protocol.specs.Messages.{LogRecord, Name}
-use Rattle.commit_protocol.specs.Standing.{Stands}
-use Rattle.commit_protocol.specs.Table as table
-use Rattle.commit_protocol.specs.Table.{Branch, Undoes, record_serials, restarted}
-use Rattle.commit_protocol.specs.Limits.{LogWithin}
-use Rattle.log_laws.specs.Slots.{LogTells, Slots, committed_of, records_in}
+use Rattle.volume_model.specs.commit_protocol.Agreement.{Distinct}
+use Rattle.volume_model.specs.commit_protocol.Allowed.{is_prepared}
+use Rattle.volume_model.specs.commit_protocol.Effects.{Effect, ForgetEffect, KeepEffect, PrepareEffect, ReadOnlyEffect, SettleEffect, act_effects}
+use Rattle.volume_model.specs.commit_protocol.Messages.{LogRecord, Name}
+use Rattle.volume_model.specs.commit_protocol.Standing.{Stands}
+use Rattle.volume_model.specs.commit_protocol.Table as table
+use Rattle.volume_model.specs.commit_protocol.Table.{Branch, Undoes, record_serials, restarted}
+use Rattle.volume_model.specs.commit_protocol.Limits.{LogWithin}
+use Rattle.volume_model.specs.log_laws.Slots.{LogTells, Slots, committed_of, records_in}
 use Rattle.volume.specs.State.{VolumeState}
-use Rattle.unit_laws.specs.Journal.{RecoveryUnit}
-use Rattle.run_model.specs.World.{Node, File, Act, Settlement, Tables, Directs, acted, booted, fallen, find_branch, find_file, is_durable, next_id, next_moment, prepared_left, reason_of, settlement, settlement_of}
-use Rattle.run_model.specs.Operations.{first_of, refused_if, form_refused, file_full, keys_asked, keys_held, changes_of, operation_answer}
-use Rattle.run_model.specs.Answers.{is_marked, needs_unit, keys_refused, found_refused, more_changes, more_locks, images_full, journal_full, operation_act, commit_settlement, left_active, unit_key}
-use Rattle.directory_model.specs.Files.{IsNamed, head_at}
+use Rattle.volume_model.specs.unit_laws.Journal.{RecoveryUnit}
+use Rattle.volume_model.specs.run_model.World.{Node, File, Act, Settlement, Tables, Directs, acted, booted, fallen, find_branch, find_file, is_durable, next_id, next_moment, prepared_left, reason_of, settlement, settlement_of}
+use Rattle.volume_model.specs.run_model.Operations.{first_of, refused_if, form_refused, file_full, keys_asked, keys_held, changes_of, operation_answer}
+use Rattle.volume_model.specs.run_model.Answers.{is_marked, needs_unit, keys_refused, found_refused, more_changes, more_locks, images_full, journal_full, operation_act, commit_settlement, left_active, unit_key}
+use Rattle.volume_model.specs.directory_model.Files.{IsNamed, head_at}
 use Rattle.volume_model.specs.Volumes.{HasDisk, LeavesVolume}
 use Rattle.record_operations.specs.declared.ops.RecordOp.{RecordOp}
 use Rattle.record_operations.specs.declared.ops.RecordOp.TheVariants as change
@@ -37,7 +37,7 @@ use Rattle.record_operations.specs.declared.errors.RecErr.{RecErr}
 use Rattle.record_operations.specs.Asking.{file_in, read_file_in}
 use Rattle.record_operations.specs.Causes as cause
 use Rattle.record_operations.specs.Causes.{Cause, cause_of}
-use Rattle.world_laws.specs.Nodes.{IsKeptDisk, IsUp}
+use Rattle.volume_model.specs.world_laws.Nodes.{IsKeptDisk, IsUp}
 use Rattle.recovery_units.specs.declared.settled.SettledUnit.{SettledUnit}
 use Rattle.recovery_units.specs.Told.{ReopenedTold}
 use Rattle.recovery_units.specs.State.{UnitsState, IsKept}

@@ -3,39 +3,39 @@ use Rattle.std.specs.Prelude.{◌≡◌, ℕ, ◌+◌, ◌-◌, ◌*◌, ◌<◌
 use Rattle.block_disk.specs.Sizes.{content_start}
 use Rattle.vms_model.specs.Limits.{file_limit, slot_limit}
 use Rattle.vms_model.specs.Blocks.{directory_start, log_start}
-use Rattle.file_base.specs.declared.head.FileHead.{FileHead}
-use Rattle.file_base.specs.declared.head.Save.{Save}
-use Rattle.file_base.specs.declared.head.Span.{Span}
+use Rattle.journal_model.specs.file_base.declared.head.FileHead.{FileHead}
+use Rattle.journal_model.specs.file_base.declared.head.Save.{Save}
+use Rattle.journal_model.specs.file_base.declared.head.Span.{Span}
 use Rattle.vms_base.specs.declared.times.Moment.{Moment}
 use Rattle.journal_model.specs.Ring.{HasRing}
-use Rattle.recovery_model.specs.File.{all_of, next_span}
-use Rattle.save_laws.specs.Saves.{IsOfNow, StandAt}
+use Rattle.volume_model.specs.recovery_model.File.{all_of, next_span}
+use Rattle.volume_model.specs.save_laws.Saves.{IsOfNow, StandAt}
 use Rattle.careful_write.specs.State.{EachWhole}
-use Rattle.change_set.specs.Files.{AgreesOut, in_extent}
+use Rattle.volume_model.specs.change_set.Files.{AgreesOut, in_extent}
 use Rattle.std.specs.List.{AllByRecursion}
-use Rattle.commit_protocol.specs.Standing.{IsNew as IsNewBranch, Stands, writes}
-use Rattle.commit_protocol.specs.Table as table
-use Rattle.commit_protocol.specs.Table.{Branch, Leaves, Notes}
-use Rattle.log_laws.specs.Slots.{Slots, forgotten, has_slot}
-use Rattle.world_laws.specs.Nodes.{IsUp}
-use Rattle.extents.specs.Extents.{IsFreeRun, all_extents}
+use Rattle.volume_model.specs.commit_protocol.Standing.{IsNew as IsNewBranch, Stands, writes}
+use Rattle.volume_model.specs.commit_protocol.Table as table
+use Rattle.volume_model.specs.commit_protocol.Table.{Branch, Leaves, Notes}
+use Rattle.volume_model.specs.log_laws.Slots.{Slots, forgotten, has_slot}
+use Rattle.volume_model.specs.world_laws.Nodes.{IsUp}
+use Rattle.volume.specs.extents.Extents.{IsFreeRun, all_extents}
 use Rattle.volume.specs.declared.catalog.Catalog.{Catalog}
 use Rattle.volume.specs.Catalogs.{IsSound}
 use Rattle.volume.specs.State.{VolumeState}
 use Rattle.volume.specs.Limits.{data_area}
-use Rattle.volume_format.specs.Home.{sizes_of}
+use Rattle.volume.specs.volume_format.Home.{sizes_of}
 use Rattle.volume.specs.Empty.{IsEmptyVolume}
 use Rattle.vms_model.specs.Ids.{Id}
-use Rattle.run_model.specs.World.{Node, File, Mark, Boots, ComesUp, Creates, Formats, Marks, ForUnits, BeginsImages, EndsImages, Saves, Tables, acted, find_file}
-use Rattle.directory_model.specs.Files.{IsCarried, IsFile, IsHeadOf, IsNamed, NoneNamed, head_at}
-use Rattle.directory_model.specs.Laws.{begun_head, end_by, ended_head, marked, saved_head}
+use Rattle.volume_model.specs.run_model.World.{Node, File, Mark, Boots, ComesUp, Creates, Formats, Marks, ForUnits, BeginsImages, EndsImages, Saves, Tables, acted, find_file}
+use Rattle.volume_model.specs.directory_model.Files.{IsCarried, IsFile, IsHeadOf, IsNamed, NoneNamed, head_at}
+use Rattle.volume_model.specs.directory_model.Laws.{begun_head, end_by, ended_head, marked, saved_head}
 use Rattle.volume_model.specs.Volumes.{HasVolume, LeavesVolume}
 use Rattle.unit_table.specs.Units.{first_to_change}
 use Rattle.record_operations.specs.Asking.{written}
 use Rattle.record_operations.specs.Forms as form
 use Rattle.record_operations.specs.declared.ops.RecordOp.{RecordOp}
 use Rattle.record_operations.specs.declared.ops.ReadOp.{ReadOp}
-use Rattle.run_model.specs.Operations.{form_refused}
+use Rattle.volume_model.specs.run_model.Operations.{form_refused}
 use Rattle.recovery_units.specs.State.{UnitsState, IsImageShowable, IsKept, IsInOrder, IsShowable, with_begun}
 use Rattle.recovery_units.specs.Calls.{IsNumbered, cause_line, change_said, read_said}
 

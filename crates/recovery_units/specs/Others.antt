@@ -1,9 +1,9 @@
 -- What stands of all other branches, whatever is done for one of them.
 use Rattle.std.specs.Prelude.{◌≡◌, List, Option, Some, false}
 use Rattle.vms_model.specs.Ids.{Id}
-use Rattle.commit_protocol.specs.Messages.{LogRecord, Name}
+use Rattle.volume_model.specs.commit_protocol.Messages.{LogRecord, Name}
 use Rattle.records_model.specs.History.{same_id}
-use Rattle.run_model.specs.World.{Node}
+use Rattle.volume_model.specs.run_model.World.{Node}
 use Rattle.unit_table.specs.Units.{OpenUnit}
 use Rattle.volume.specs.State.{VolumeState}
 use Rattle.recovery_units.specs.State.{IsKept, UnitsState, WorksFor, aborted, committed, locks_of, positions_of, unit_of, voted, with_begun, without_begun}

@@ -5,30 +5,30 @@ use Rattle.block_disk.specs.Sizes.{greatest_disk_size, least_disk_size}
 use Rattle.vms_model.specs.Limits.{branch_limit, file_limit, moment_ceiling}
 use Rattle.vms_model.specs.Blocks.{log_start}
 use Rattle.careful_write.specs.State.{IsIdle}
-use Rattle.change_set.specs.Files.{free_frames}
-use Rattle.commit_protocol.specs.Allowed.{is_prepared}
-use Rattle.commit_protocol.specs.Messages.{LogRecord, Name, PreparedRecord}
-use Rattle.commit_protocol.specs.Rows.{is_empty}
-use Rattle.commit_protocol.specs.Table.{Branch}
-use Rattle.file_base.specs.declared.head.FileHead.{FileHead}
-use Rattle.file_base.specs.declared.head.Organization.{Organization}
-use Rattle.file_base.specs.declared.head.Organization.TheVariants.{Sequential, Relative, Indexed}
+use Rattle.volume_model.specs.change_set.Files.{free_frames}
+use Rattle.volume_model.specs.commit_protocol.Allowed.{is_prepared}
+use Rattle.volume_model.specs.commit_protocol.Messages.{LogRecord, Name, PreparedRecord}
+use Rattle.volume_model.specs.commit_protocol.Rows.{is_empty}
+use Rattle.volume_model.specs.commit_protocol.Table.{Branch}
+use Rattle.journal_model.specs.file_base.declared.head.FileHead.{FileHead}
+use Rattle.journal_model.specs.file_base.declared.head.Organization.{Organization}
+use Rattle.journal_model.specs.file_base.declared.head.Organization.TheVariants.{Sequential, Relative, Indexed}
 use Rattle.journal_model.specs.Ring.{ring_size}
 use Rattle.record_locks.specs.Locks.{Lock, released}
-use Rattle.image_room.specs.Room.{AllSettlementsFit, images_end}
+use Rattle.volume_model.specs.image_room.Room.{AllSettlementsFit, images_end}
 use Rattle.volume.specs.Catalogs.{IsSound}
 use Rattle.volume.specs.State.{VolumeState, Holds}
 use Rattle.unit_table.specs.Units.{Ascend, OpenUnit, has_changed, new_unit, owed_for, prepared_unit}
 use Rattle.vms_model.specs.Ids.{Id}
 use Rattle.vms_model.specs.Keys.{Key, Number, Text}
 use Rattle.records_model.specs.History.{same_id, changed_it}
-use Rattle.recovery_model.specs.Journal as image
-use Rattle.unit_laws.specs.Journal.{JournalEntry, ChangeEntry, PreparedEntry, SettledEntry, entry_size, serial_in}
-use Rattle.run_model.specs.Locks as world
-use Rattle.lmcp_log.specs.Slot.{HasForm}
-use Rattle.log_laws.specs.Slots.{Slots, forgotten, has_free, has_slot, put_in, settled_in}
-use Rattle.run_model.specs.World.{Node, File, tid_in}
-use Rattle.directory_model.specs.Files.{head_at, file_at}
+use Rattle.volume_model.specs.recovery_model.Journal as image
+use Rattle.volume_model.specs.unit_laws.Journal.{JournalEntry, ChangeEntry, PreparedEntry, SettledEntry, entry_size, serial_in}
+use Rattle.volume_model.specs.run_model.Locks as world
+use Rattle.volume_model.specs.lmcp_log.Slot.{HasForm}
+use Rattle.volume_model.specs.log_laws.Slots.{Slots, forgotten, has_free, has_slot, put_in, settled_in}
+use Rattle.volume_model.specs.run_model.World.{Node, File, tid_in}
+use Rattle.volume_model.specs.directory_model.Files.{head_at, file_at}
 use Rattle.volume_model.specs.Volumes.{HasVolume}
 
 -- the units in the order in which they were begun, the keys that they hold, and the slots of the log

@@ -3,8 +3,8 @@ use Rattle.std.specs.Prelude.{◌≡◌, ◌≤◌, ◌<◌, ◌^◌, ◌+◌, �
 use Rattle.block_disk.specs.Disk.{DiskState}
 use Rattle.careful_write.specs.declared.down.Down.{Down}
 use Rattle.careful_write.specs.declared.down.Down.TheVariants as down
-use Rattle.image_room.specs.Room.{images_end}
-use Rattle.transcript_model.specs.Outside.{Rose}
+use Rattle.volume_model.specs.image_room.Room.{images_end}
+use Rattle.volume_model.specs.transcript_model.Outside.{Rose}
 use Rattle.volume.specs.State.{VolumeState}
 
 -- its counts are numbers of 64 bits

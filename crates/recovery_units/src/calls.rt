@@ -1,17 +1,17 @@
 //! The calls.
 ghost use Rattle.std.specs.Prelude.{◌≡◌, ◌≤◌, ◌<◌, ◌+◌, ℕ, max, [], Some, None, true, false, IfOk, IfErr, IfSome, IsSome, OnOk, OnErr, length, map, option_copied, option_map, nat_le};
 ghost use Rattle.vms_model.specs.Limits.{branch_limit, moment_ceiling, slot_limit};
-ghost use Rattle.file_base.specs.declared.head.FileHead.{FileHead as HeadSaid};
+ghost use Rattle.journal_model.specs.file_base.declared.head.FileHead.{FileHead as HeadSaid};
 ghost use Rattle.vms_base.specs.Ids.{tid_of, serial_of};
 ghost use Rattle.vms_base.specs.Keys.{key_of};
 ghost use Rattle.vms_base.specs.Outcomes.{reason_of};
 ghost use Rattle.vms_model.specs.Transactions.{Commit, Abort};
-ghost use Rattle.commit_protocol.specs.Table.{branches_of};
-ghost use Rattle.lmcp_log.specs.Log.{record_with, slot_at, slot_of};
-ghost use Rattle.lmcp_log.specs.Slot.{HasForm};
-ghost use Rattle.log_laws.specs.Slots.{forgotten, has_slot, put_in};
-ghost use Rattle.tm_types.specs.Parts.{log_record_of};
-ghost use Rattle.directory_model.specs.Files.{head_at};
+ghost use Rattle.volume_model.specs.commit_protocol.Table.{branches_of};
+ghost use Rattle.volume_model.specs.lmcp_log.Log.{record_with, slot_at, slot_of};
+ghost use Rattle.volume_model.specs.lmcp_log.Slot.{HasForm};
+ghost use Rattle.volume_model.specs.log_laws.Slots.{forgotten, has_slot, put_in};
+ghost use Rattle.volume_model.specs.tm_types.Parts.{log_record_of};
+ghost use Rattle.volume_model.specs.directory_model.Files.{head_at};
 ghost use Rattle.record_operations.specs.Asking.{file_in, read_file_in};
 ghost use Rattle.record_operations.specs.Causes.{down_in};
 ghost use Rattle.unit_table.specs.Units.{first_to_change};

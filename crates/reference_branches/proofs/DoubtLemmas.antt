@@ -10,7 +10,7 @@ use Rattle.commit_protocol.specs.Table.{Branch, State, Joining, Active, Ending, 
 use Rattle.commit_protocol.specs.World.{arranged, arranged_by}
 use Rattle.vms_model.specs.Ids.{Id}
 use Rattle.commit_protocol.specs.Allowed.{is_prepared}
-use Rattle.run_model.specs.Statements.{answer_in, message_at}
+use Rattle.reference_index.specs.run_model.Statements.{answer_in, message_at}
 use Rattle.tm_types.specs.Branches.{branch_of}
 use Rattle.tm_types.specs.declared.branch.BranchState.{BranchState}
 use Rattle.reference_world.specs.Standing.{branch_key_of}

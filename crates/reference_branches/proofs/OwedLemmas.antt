@@ -3,7 +3,7 @@ use Rattle.std.proofs.Common.{◌≡◌, ◌≤◌, ◌∷◌, ◌∙◌, List, 
 use Rattle.std.specs.List.{list_any}
 use Rattle.commit_protocol.specs.Messages.{Name, same_name}
 use Rattle.log_laws.specs.Slots.{waiting_for}
-use Rattle.run_model.specs.Answers.{owed_line}
+use Rattle.reference_index.specs.run_model.Answers.{owed_line}
 use Rattle.tm_types.specs.Parts.{log_record_of}
 use Rattle.vms_base.specs.declared.protocol.LogRec.{LogRec}
 use Rattle.reference_index.proofs.ListLemmas.{behind_first, parts}

@@ -1,14 +1,14 @@
 -- What nodes share, and branches by their states.
 use Rattle.std.specs.Prelude.{List, [], ◌∷◌, Bool, false, Option, Some, None, if◌then◌else◌, map}
 use Rattle.vms_model.specs.Ids.{Id}
-use Rattle.records_model.specs.History.{same_id}
+use Rattle.reference_index.specs.records_model.History.{same_id}
 use Rattle.commit_protocol.specs.Allowed as allowed
 use Rattle.commit_protocol.specs.Allowed.{is_prepared}
 use Rattle.commit_protocol.specs.Effects.{Effect, SendEffect}
 use Rattle.commit_protocol.specs.Messages.{Message}
 use Rattle.commit_protocol.specs.Table.{Branch, Key}
-use Rattle.run_model.specs.Answers.{is_first_active, is_open, is_in_doubt}
-use Rattle.run_model.specs.World as world
+use Rattle.reference_index.specs.run_model.Answers.{is_first_active, is_open, is_in_doubt}
+use Rattle.reference_index.specs.run_model.World as world
 use Rattle.net_wire.specs.Messages.{message_of}
 use Rattle.reference_world.specs.Standing.{branch_key_of, label_of}
 use Rattle.reference_branches.specs.declared.shared.Shared.{Shared}

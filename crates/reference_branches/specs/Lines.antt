@@ -1,8 +1,8 @@
 -- The lines that show branches.
 use Rattle.std.specs.Prelude.{List, [], ◌∷◌, Option, Some, None}
-use Rattle.transcript_model.specs.Lines as line
+use Rattle.reference_index.specs.transcript_model.Lines as line
 use Rattle.commit_protocol.specs.Table.{Key}
-use Rattle.run_model.specs.World as world
+use Rattle.reference_index.specs.run_model.World as world
 
 -- a settlement as it is shown
 abbrev pub settlement_line : world.Settlement → line.Line

@@ -1,5 +1,5 @@
 -- What a node knows of a branch.
-use Rattle.run_model.specs.Answers as answers
+use Rattle.reference_index.specs.run_model.Answers as answers
 use Rattle.tm_types.specs.Branches.{branch_of}
 use Rattle.tm_types.specs.Parts.{log_record_of}
 use Rattle.reference_branches.specs.declared.managers.Known.{Known}

@@ -1,9 +1,9 @@
 // The lines that show how branches were settled, are prepared, or wait.
 ghost use Rattle.std.specs.Prelude.{◌≡◌, ◌∷◌, map, option_map, IfOk};
-ghost use Rattle.transcript_model.specs.Lines as model;
+ghost use Rattle.reference_index.specs.transcript_model.Lines as model;
 ghost use Rattle.commit_protocol.specs.Rows as rows;
-ghost use Rattle.run_model.specs.Answers as answers;
-ghost use Rattle.run_model.specs.World as world;
+ghost use Rattle.reference_index.specs.run_model.Answers as answers;
+ghost use Rattle.reference_index.specs.run_model.World as world;
 ghost use Rattle.vms_base.specs.Ids.{id_of};
 ghost use Rattle.vms_base.specs.Outcomes.{outcome_of, reason_of};
 ghost use Rattle.tm_types.specs.Branches.{branch_of as branch_said};

@@ -5,7 +5,7 @@ ghost use Rattle.std.specs.Option.{option_and_then};
 ghost use Rattle.commit_protocol.specs.Messages.{same_name};
 ghost use Rattle.commit_protocol.specs.Table.{without_rm};
 ghost use Rattle.log_laws.specs.Slots.{waiting_for};
-ghost use Rattle.run_model.specs.Answers as answers;
+ghost use Rattle.reference_index.specs.run_model.Answers as answers;
 ghost use Rattle.tm_types.specs.Branches.{branch_of as branch_said};
 ghost use Rattle.tm_types.specs.Parts.{log_record_of, reply_of};
 ghost use Rattle.reference_world.specs.Standing.{line_of, standing_of};

@@ -2,10 +2,10 @@
 ghost use Rattle.std.specs.Prelude.{◌≡◌, ℕ, [], ◌∷◌, map, option_map, OnOk, IfOk};
 ghost use Rattle.script_lang.specs.declared.literals.Literals.{Literals as LiteralsSaid};
 ghost use Rattle.script_lang.specs.Statements.{request_of};
-ghost use Rattle.run_model.specs.Answers.{sent_line, service};
-ghost use Rattle.run_model.specs.Steps.{occupied};
-ghost use Rattle.run_model.specs.Statements.{message_at};
-ghost use Rattle.run_model.specs.World as world;
+ghost use Rattle.reference_index.specs.run_model.Answers.{sent_line, service};
+ghost use Rattle.reference_index.specs.run_model.Steps.{occupied};
+ghost use Rattle.reference_index.specs.run_model.Statements.{message_at};
+ghost use Rattle.reference_index.specs.run_model.World as world;
 ghost use Rattle.net_wire.specs.Messages.{message_of};
 ghost use Rattle.vms_base.specs.Ids.{id_of};
 ghost use Rattle.reference_world.specs.Standing.{branch_key_of, label_of, line_of};

@@ -2,7 +2,7 @@
 ghost use Rattle.std.specs.Prelude.{◌≡◌, option_map, not};
 ghost use Rattle.commit_protocol.specs.Table as table;
 ghost use Rattle.commit_protocol.specs.Allowed as allowed;
-ghost use Rattle.run_model.specs.Answers as answers;
+ghost use Rattle.reference_index.specs.run_model.Answers as answers;
 ghost use Rattle.vms_base.specs.Ids.{id_of};
 ghost use Rattle.tm_types.specs.Branches.{branch_of as branch_said};
 ghost use Rattle.reference_world.specs.Standing.{branch_key_of, line_of};

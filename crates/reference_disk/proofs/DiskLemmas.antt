@@ -1,10 +1,10 @@
 -- What a disk has, by its first entries and records.
 use Rattle.std.proofs.Common.{◌≡◌, ◌≤◌, ℕ, List, ◌∷◌, sym, ap, length, get_or}
 use Rattle.std.specs.Prelude.{map}
-use Rattle.commit_protocol.specs.Messages.{LogRecord}
-use Rattle.commit_protocol.specs.Table.{Key, record_key}
-use Rattle.run_model.specs.World as world
-use Rattle.run_model.specs.Locks.{Lock}
+use Rattle.log_laws.specs.commit_protocol.Messages.{LogRecord}
+use Rattle.log_laws.specs.commit_protocol.Table.{Key, record_key}
+use Rattle.reference_index.specs.run_model.World as world
+use Rattle.reference_index.specs.run_model.Locks.{Lock}
 use Rattle.vms_base.specs.declared.protocol.LogRec.{LogRec}
 use Rattle.tm_types.specs.Parts.{log_record_of}
 use Rattle.reference_index.proofs.ListLemmas.{behind_first, parts}

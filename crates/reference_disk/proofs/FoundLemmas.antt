@@ -3,16 +3,16 @@ use Rattle.std.proofs.Common.{◌≡◌, ℕ, List, [], ◌∷◌, ◌++◌, Opt
 use Rattle.std.specs.FinMap.{entries}
 use Rattle.std.specs.Option.{option_map}
 use Rattle.vms_model.specs.Ids.{Id}
-use Rattle.transcript_model.specs.Lines as model
-use Rattle.script_model.specs.Statements.{Recovery, Side}
+use Rattle.reference_index.specs.transcript_model.Lines as model
+use Rattle.reference_index.specs.script_model.Statements.{Recovery, Side}
 use Rattle.records_model.specs.History.{first_to_change}
-use Rattle.recovery_model.specs.File.{ImageJournal}
-use Rattle.recovery_model.specs.Recovery.{refusal}
-use Rattle.run_model.specs.Answers as answers
-use Rattle.run_model.specs.Answers.{Row}
-use Rattle.run_model.specs.Steps.{lines_of_rows}
-use Rattle.run_model.specs.World as world
-use Rattle.run_model.specs.World.{File, Node}
+use Rattle.reference_index.specs.recovery_model.File.{ImageJournal}
+use Rattle.reference_index.specs.recovery_model.Recovery.{refusal}
+use Rattle.reference_index.specs.run_model.Answers as answers
+use Rattle.reference_index.specs.run_model.Answers.{Row}
+use Rattle.reference_index.specs.run_model.Steps.{lines_of_rows}
+use Rattle.reference_index.specs.run_model.World as world
+use Rattle.reference_index.specs.run_model.World.{File, Node}
 use Rattle.reference_recovery.specs.declared.loading.Load.{Load}
 use Rattle.reference_world.specs.Standing.{kept_of, rows_of}
 use Rattle.reference_disk.specs.Recovering.{IsGiven, IsRecoveredBy}

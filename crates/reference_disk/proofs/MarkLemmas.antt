@@ -3,12 +3,12 @@ use Rattle.std.proofs.Common.{◌≡◌, ℕ, List, [], ◌∷◌, Option, Some,
 use Rattle.std.specs.Prelude.{map}
 use Rattle.std.specs.Option.{option_map}
 use Rattle.std.specs.FinMap.{entries}
-use Rattle.transcript_model.specs.Lines as model
-use Rattle.script_model.specs.Statements.{Setting, RecoveryUnits, NoRecoveryUnits, Images, NoImages, Recovery}
-use Rattle.run_model.specs.Answers as answers
-use Rattle.run_model.specs.Steps.{node_after_rows}
-use Rattle.run_model.specs.World as world
-use Rattle.run_model.specs.World.{Node, File}
+use Rattle.reference_index.specs.transcript_model.Lines as model
+use Rattle.reference_index.specs.script_model.Statements.{Setting, RecoveryUnits, NoRecoveryUnits, Images, NoImages, Recovery}
+use Rattle.reference_index.specs.run_model.Answers as answers
+use Rattle.reference_index.specs.run_model.Steps.{node_after_rows}
+use Rattle.reference_index.specs.run_model.World as world
+use Rattle.reference_index.specs.run_model.World.{Node, File}
 use Rattle.std.proofs.lemmas.List.{length-map}
 use Rattle.records_model.specs.Records.{Records}
 use Rattle.reference_recovery.specs.declared.loading.Load.{Load}

@@ -4,18 +4,18 @@ use Rattle.vms_model.specs.Ids.{Id}
 use Rattle.vms_model.specs.Keys.{End}
 use Rattle.vms_model.specs.Keys as keys
 use Rattle.vms_model.specs.Limits.{slot_limit}
-use Rattle.transcript_model.specs.Lines as line
+use Rattle.reference_index.specs.transcript_model.Lines as line
 use Rattle.records_model.specs.History.{first_to_change}
-use Rattle.unit_laws.specs.Journal.{JournalEntry, empty_journal, entries_size, owed, units_in}
-use Rattle.commit_protocol.specs.Messages.{LogRecord, same_id}
-use Rattle.commit_protocol.specs.Table.{Branch, Active, Key}
-use Rattle.commit_protocol.specs.Rows.{blank}
+use Rattle.reference_index.specs.unit_laws.Journal.{JournalEntry, empty_journal, entries_size, owed, units_in}
+use Rattle.log_laws.specs.commit_protocol.Messages.{LogRecord, same_id}
+use Rattle.log_laws.specs.commit_protocol.Table.{Branch, Active, Key}
+use Rattle.log_laws.specs.commit_protocol.Rows.{blank}
 use Rattle.log_laws.specs.Slots.{Slots}
-use Rattle.run_model.specs.World as world
-use Rattle.run_model.specs.Locks.{Lock}
-use Rattle.run_model.specs.Answers as answers
-use Rattle.run_model.specs.Steps.{node_after_rows}
-use Rattle.script_model.specs.Statements.{Form}
+use Rattle.reference_index.specs.run_model.World as world
+use Rattle.reference_index.specs.run_model.Locks.{Lock}
+use Rattle.reference_index.specs.run_model.Answers as answers
+use Rattle.reference_index.specs.run_model.Steps.{node_after_rows}
+use Rattle.reference_index.specs.script_model.Statements.{Form}
 use Rattle.tm_types.specs.Parts.{log_record_of}
 use Rattle.vms_base.specs.declared.protocol.LogRec.{LogRec}
 use Rattle.reference_world.specs.Standing.{settlement_of, volume_of, directory_of}

@@ -1,7 +1,7 @@
 -- What settings mark files with.
 use Rattle.std.specs.Prelude.{ℕ, true, false}
-use Rattle.script_model.specs.Statements.{Setting, RecoveryUnits, NoRecoveryUnits, Images, NoImages}
-use Rattle.run_model.specs.World.{Mark, ForUnits, BeginsImages, EndsImages}
+use Rattle.reference_index.specs.script_model.Statements.{Setting, RecoveryUnits, NoRecoveryUnits, Images, NoImages}
+use Rattle.reference_index.specs.run_model.World.{Mark, ForUnits, BeginsImages, EndsImages}
 
 -- the mark of a setting, where a journal that begins has its blocks from this one on
 abbrev pub mark_said : Setting → (start : ℕ) → Mark

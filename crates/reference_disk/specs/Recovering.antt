@@ -1,9 +1,9 @@
 -- What a recovery gives a file of a disk.
 use Rattle.std.specs.Prelude.{◌≡◌, List, Option, Some, None, map}
 use Rattle.std.specs.FinMap.{entries}
-use Rattle.script_model.specs.Statements.{Recovery}
-use Rattle.run_model.specs.World as world
-use Rattle.run_model.specs.Answers.{blocks_recovered, records_recovered}
+use Rattle.reference_index.specs.script_model.Statements.{Recovery}
+use Rattle.reference_index.specs.run_model.World as world
+use Rattle.reference_index.specs.run_model.Answers.{blocks_recovered, records_recovered}
 use Rattle.reference_world.specs.Standing.{kept_of, rows_of}
 use Rattle.reference_recovery.specs.declared.loading.Load.{Load}
 

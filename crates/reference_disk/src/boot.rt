@@ -1,19 +1,19 @@
 // What a boot finds on the disk.
 ghost use Rattle.std.specs.Prelude.{◌≡◌, ◌≤◌, ℕ, [], ◌∷◌, map, option_map, length, IfOk};
 ghost use Rattle.std.specs.FinMap.{get};
-ghost use Rattle.unit_laws.specs.Journal.{active_units, units_in as units_said};
+ghost use Rattle.reference_index.specs.unit_laws.Journal.{active_units, units_in as units_said};
 ghost use Rattle.records_model.specs.History.{current};
-ghost use Rattle.transcript_model.specs.Lines as model;
-ghost use Rattle.commit_protocol.specs.Table.{record_key};
+ghost use Rattle.reference_index.specs.transcript_model.Lines as model;
+ghost use Rattle.log_laws.specs.commit_protocol.Table.{record_key};
 ghost use Rattle.log_laws.specs.Slots as log;
-ghost use Rattle.run_model.specs.Answers as answers;
-ghost use Rattle.run_model.specs.World as world;
+ghost use Rattle.reference_index.specs.run_model.Answers as answers;
+ghost use Rattle.reference_index.specs.run_model.World as world;
 ghost use Rattle.vms_base.specs.Ids.{id_of};
 ghost use Rattle.tm_types.specs.Parts.{log_record_of};
 ghost use Rattle.reference_index.specs.Standing.{key_of, lent_value, value_of, locks_of};
 ghost use Rattle.reference_world.specs.Standing.{branch_key_of, history_of, file_of, directory_of, settlement_of, line_of};
 ghost use Rattle.reference_units.specs.Entries.{entry_of, entries_of, units_of};
-ghost use Rattle.run_model.specs.Locks.{with_locks as with_locks_said};
+ghost use Rattle.reference_index.specs.run_model.Locks.{with_locks as with_locks_said};
 ghost use Rattle.reference_disk.specs.Disks.{durable_of, disk_node, key_with, log_records_of, slots_of, one_line};
 
 use crate::disk::Durable;

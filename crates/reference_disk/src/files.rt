@@ -3,11 +3,11 @@ ghost use Rattle.std.specs.Prelude.{◌≡◌, ◌++◌, [], ◌∷◌, map, opt
 ghost use Rattle.std.specs.FinMap.{entries};
 ghost use Rattle.script_lang.specs.Statements.{form_of, setting_of};
 ghost use Rattle.records_model.specs.History.{current};
-ghost use Rattle.transcript_model.specs.Lines as model;
-ghost use Rattle.run_model.specs.Answers as answers;
-ghost use Rattle.run_model.specs.Answers.{shown_record};
-ghost use Rattle.run_model.specs.Operations as operations;
-ghost use Rattle.run_model.specs.Steps.{lines_of_rows};
+ghost use Rattle.reference_index.specs.transcript_model.Lines as model;
+ghost use Rattle.reference_index.specs.run_model.Answers as answers;
+ghost use Rattle.reference_index.specs.run_model.Answers.{shown_record};
+ghost use Rattle.reference_index.specs.run_model.Operations as operations;
+ghost use Rattle.reference_index.specs.run_model.Steps.{lines_of_rows};
 ghost use Rattle.reference_index.specs.Standing.{key_of, changes_of, layout_of};
 ghost use Rattle.reference_world.specs.Standing.{history_of, organization_of, file_of, line_of};
 ghost use Rattle.reference_records.specs.Operations.{asked_of};

@@ -2,10 +2,10 @@
 ghost use Rattle.std.specs.Prelude.{◌≡◌, ◌+◌, ◌-◌, ◌^◌, ◌≤◌, ◌<◌, ◌&&◌, nat_le};
 ghost use Rattle.vms_model.specs.Limits.{key_limit};
 ghost use Rattle.vms_model.specs.Blocks.{log_start};
-ghost use Rattle.script_model.specs.Statements as said;
+ghost use Rattle.reference_index.specs.script_model.Statements as said;
 ghost use Rattle.script_lang.specs.Statements.{form_of};
-ghost use Rattle.run_model.specs.Answers as answers;
-ghost use Rattle.run_model.specs.World as world;
+ghost use Rattle.reference_index.specs.run_model.Answers as answers;
+ghost use Rattle.reference_index.specs.run_model.World as world;
 
 use reference_world::capacity;
 use script_lang::Form;

@@ -1,9 +1,9 @@
 // The slots of a node's log.
 ghost use Rattle.std.specs.Prelude.{◌≡◌, ◌≤◌, ◌+◌, ℕ, None, map, option_map, length, replicate, IfOk};
 ghost use Rattle.vms_model.specs.Limits.{slot_limit};
-ghost use Rattle.commit_protocol.specs.Messages.{LogRecord};
+ghost use Rattle.log_laws.specs.commit_protocol.Messages.{LogRecord};
 ghost use Rattle.log_laws.specs.Slots as log;
-ghost use Rattle.run_model.specs.Answers as answers;
+ghost use Rattle.reference_index.specs.run_model.Answers as answers;
 ghost use Rattle.vms_base.specs.Ids.{id_of};
 ghost use Rattle.tm_types.specs.Parts.{log_kind_of, log_record_of};
 ghost use Rattle.reference_world.specs.Standing.{line_of};

@@ -1,10 +1,10 @@
 // What refuses requests by what the disk has.
 ghost use Rattle.std.specs.Prelude.{◌≡◌, ◌+◌, ◌<◌, ◌≤◌, ◌^◌, ℕ, [], Some, map, option_map, length, IfOk};
 ghost use Rattle.vms_model.specs.Limits.{slot_limit};
-ghost use Rattle.unit_laws.specs.Journal.{end_of as end_said};
-ghost use Rattle.run_model.specs.Answers as answers;
-ghost use Rattle.run_model.specs.Operations as operations;
-ghost use Rattle.run_model.specs.World as world;
+ghost use Rattle.reference_index.specs.unit_laws.Journal.{end_of as end_said};
+ghost use Rattle.reference_index.specs.run_model.Answers as answers;
+ghost use Rattle.reference_index.specs.run_model.Operations as operations;
+ghost use Rattle.reference_index.specs.run_model.World as world;
 ghost use Rattle.reference_index.specs.Standing.{changes_of};
 ghost use Rattle.script_lang.specs.Statements.{recovery_of, setting_of};
 ghost use Rattle.vms_base.specs.Ids.{id_of};

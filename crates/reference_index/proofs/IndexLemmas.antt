@@ -1,6 +1,6 @@
 -- An index one level after another.
 use Rattle.std.proofs.Common.{◌≡◌, ◌≤◌, ℕ, zero, suc, ◌+◌, ◌-◌, List, [], ◌∷◌, length, refl, ap, arith}
-use Rattle.tree_model.specs.Setting.{index_with, level_with, place_above}
+use Rattle.run_model.specs.tree_model.Setting.{index_with, level_with, place_above}
 
 -- where nothing is new
 pub index_still : (fan_out p more : ℕ) (index : List (List ℕ)) → more ≡ 0 → index ≡ index_with fan_out p more index

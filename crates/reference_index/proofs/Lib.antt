@@ -2,3 +2,4 @@ pub mod ListLemmas
 pub mod PartLemmas
 pub mod IndexLemmas
 pub mod LoadLemmas
+pub mod records_model

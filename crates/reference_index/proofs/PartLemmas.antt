@@ -3,10 +3,10 @@ use Rattle.std.proofs.Common.{◌≡◌, ℕ, suc, List, Bool, true, false, Opti
 use Rattle.std.specs.Prelude.{◌-◌, take, option_map, if◌then◌else◌, nat_lt, nat_le, IfSome}
 use Rattle.std.proofs.lemmas.List.{take-map, drop-map}
 use Rattle.std.proofs.lemmas.Grind.{common_steps}
-use Rattle.records_model.specs.Slots as model
-use Rattle.records_model.specs.Slots.{tidied, put}
-use Rattle.records_model.specs.Parts.{bytes_of, fits_at, best_below, greater_part, better, parted}
-use Rattle.records_model.specs.Chain.{bucket_with, place_of}
+use Rattle.run_model.specs.records_model.Slots as model
+use Rattle.run_model.specs.records_model.Slots.{tidied, put}
+use Rattle.run_model.specs.records_model.Parts.{bytes_of, fits_at, best_below, greater_part, better, parted}
+use Rattle.run_model.specs.records_model.Chain.{bucket_with, place_of}
 use Rattle.reference_index.specs.declared.parts.Place.{Place}
 use Rattle.reference_index.specs.declared.layouts.Slot.{Slot}
 use Rattle.reference_index.specs.Standing.{slot_of, slots_of}

@@ -2,11 +2,11 @@
 use Rattle.std.specs.Prelude.{ℕ, List, Option, map, option_map, Vec}
 use Rattle.std.specs.Borrow.{Bor}
 use Rattle.std.specs.declared.alloc.Global.{Global}
-use Rattle.vms_model.specs.Keys as key
+use Rattle.vms_base.specs.vms_model.Keys as key
 use Rattle.vms_base.specs.Ids.{id_of}
-use Rattle.records_model.specs.Records as records
-use Rattle.records_model.specs.Slots as slots
-use Rattle.tree_model.specs.Layouts as layouts
+use Rattle.run_model.specs.records_model.Records as records
+use Rattle.run_model.specs.records_model.Slots as slots
+use Rattle.run_model.specs.tree_model.Layouts as layouts
 use Rattle.run_model.specs.Locks as locks
 use Rattle.reference_index.specs.declared.keys.Key.{Key}
 use Rattle.reference_index.specs.declared.keys.Key.TheVariants as owned

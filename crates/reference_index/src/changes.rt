@@ -1,6 +1,6 @@
 // Changes of records.
 ghost use Rattle.std.specs.Prelude.{◌≡◌};
-ghost use Rattle.records_model.specs.History as history;
+ghost use Rattle.run_model.specs.records_model.History as history;
 ghost use Rattle.reference_index.specs.Standing.{lent_key, changes_of};
 
 use crate::keys::{Key, KeyRef};

@@ -1,6 +1,6 @@
 // The index of an indexed file: to how many buckets each of its buckets leads, and what becomes of that where buckets are parted.
 ghost use Rattle.std.specs.Prelude.{◌≡◌, ◌<◌, ◌≤◌, ◌+◌, ◌^◌, [], ◌∷◌, length, IfOk};
-ghost use Rattle.tree_model.specs.Setting as setting;
+ghost use Rattle.run_model.specs.tree_model.Setting as setting;
 ghost use Rattle.reference_index.specs.Standing.{index_of};
 
 use crate::layouts::Level;

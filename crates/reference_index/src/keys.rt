@@ -1,7 +1,7 @@
 // Keys of records, and their order.
 ghost use Rattle.std.specs.Prelude.{◌≡◌, ℕ, List, IfOk};
 ghost use Rattle.std.specs.Ordering.{eq_by_cmp, is_lt};
-ghost use Rattle.records_model.specs.Records.{key_cmp};
+ghost use Rattle.run_model.specs.records_model.Records.{key_cmp};
 ghost use Rattle.reference_index.specs.Standing.{key_of, lent_key};
 
 use std::alloc::{AllocError, Global};

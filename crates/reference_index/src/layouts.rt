@@ -1,6 +1,6 @@
 // The layout of an indexed file: its leaves, and the index over them.
 ghost use Rattle.std.specs.Prelude.{◌≡◌};
-ghost use Rattle.tree_model.specs.Layouts as layouts;
+ghost use Rattle.run_model.specs.tree_model.Layouts as layouts;
 ghost use Rattle.reference_index.specs.Standing.{layout_of};
 
 use std::alloc::Global;

@@ -1,14 +1,14 @@
 // The leaves of an indexed file, and what becomes of its layout where keys are set.
 ghost use Rattle.std.specs.Prelude.{◌≡◌, ◌≤◌, ℕ, List, [], ◌∷◌, ◌++◌, map, length, IfOk};
 ghost use Rattle.std.specs.List.{list_any};
-ghost use Rattle.vms_model.specs.Keys.{Text};
-ghost use Rattle.unit_laws.specs.Units as units;
-ghost use Rattle.unit_laws.specs.Layouts as layouts;
+ghost use Rattle.vms_base.specs.vms_model.Keys.{Text};
+ghost use Rattle.run_model.specs.unit_laws.Units as units;
+ghost use Rattle.run_model.specs.unit_laws.Layouts as layouts;
 ghost use Rattle.run_model.specs.Locks.{is_locked};
-ghost use Rattle.records_model.specs.Slots as slots;
-ghost use Rattle.records_model.specs.Parts as parts;
-ghost use Rattle.records_model.specs.Chain as chain;
-ghost use Rattle.tree_model.specs.Setting as setting;
+ghost use Rattle.run_model.specs.records_model.Slots as slots;
+ghost use Rattle.run_model.specs.records_model.Parts as parts;
+ghost use Rattle.run_model.specs.records_model.Chain as chain;
+ghost use Rattle.run_model.specs.tree_model.Setting as setting;
 ghost use Rattle.reference_index.specs.Standing.{lent_key, lent_value, changes_of, locks_of, slot_of, slots_of, bucket_of, chain_of, leaf_of, leaves_of, layout_of, sizes_of};
 
 use crate::changes::{Change, changes_key};

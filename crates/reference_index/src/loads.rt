@@ -1,6 +1,6 @@
 // The layout of an indexed file that is loaded with slots in the order of their keys.
 ghost use Rattle.std.specs.Prelude.{◌≡◌, ℕ, ◌∷◌, [], length, replicate, IfOk};
-ghost use Rattle.tree_model.specs.Loads as loads;
+ghost use Rattle.run_model.specs.tree_model.Loads as loads;
 ghost use Rattle.reference_index.specs.Standing.{slots_of, chain_of, layout_of, sizes_of, index_of};
 
 use crate::layouts::{Bucket, Layout, Level, Sizes, Slot};

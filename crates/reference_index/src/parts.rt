@@ -1,6 +1,6 @@
 // How a bucket that overflows is parted.
 ghost use Rattle.std.specs.Prelude.{◌≡◌, ◌<◌, ◌≤◌, ℕ, List, option_map, nat_lt, nat_le, if◌then◌else◌, length, ◌∷◌, take, drop, is_some, IfOk, IfSome, None};
-ghost use Rattle.records_model.specs.Parts as parts;
+ghost use Rattle.run_model.specs.records_model.Parts as parts;
 ghost use Rattle.reference_index.specs.Standing.{slots_of, chain_of};
 
 use crate::layouts::{Bucket, Slot};

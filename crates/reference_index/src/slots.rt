@@ -1,8 +1,8 @@
 // The slots of an indexed file's buckets.
 ghost use Rattle.std.specs.Prelude.{◌≡◌, ℕ, List, [], ◌∷◌, ◌++◌, map, false, IfOk, Some, None};
-ghost use Rattle.vms_model.specs.Keys.{Text};
+ghost use Rattle.vms_base.specs.vms_model.Keys.{Text};
 ghost use Rattle.run_model.specs.Locks.{is_locked as is_locked_by};
-ghost use Rattle.records_model.specs.Slots as slots;
+ghost use Rattle.run_model.specs.records_model.Slots as slots;
 ghost use Rattle.reference_index.specs.Standing.{value_of, lent_value, locks_of, slot_of, slots_of};
 
 use crate::keys::KeyRef;

@@ -10,11 +10,11 @@ use Rattle.records_model.specs.Records.{Change, key_cmp}
 use Rattle.records_model.specs.Slots.{Slot}
 use Rattle.records_model.specs.History.{SettledChanges, LiveChanges}
 use Rattle.records_model.proofs.KeyLemmas.{key_cmp_total}
-use Rattle.transcript_model.specs.Lines as line
-use Rattle.script_model.specs.Statements as said
-use Rattle.unit_laws.specs.Journal.{Journal, JournalEntry, ChangeEntry, empty_journal}
-use Rattle.commit_protocol.specs.Messages.{same_id}
-use Rattle.commit_protocol.specs.Table.{same_key}
+use Rattle.run_model.specs.transcript_model.Lines as line
+use Rattle.run_model.specs.script_model.Statements as said
+use Rattle.run_model.specs.unit_laws.Journal.{Journal, JournalEntry, ChangeEntry, empty_journal}
+use Rattle.run_model.specs.commit_protocol.Messages.{same_id}
+use Rattle.run_model.specs.commit_protocol.Table.{same_key}
 use Rattle.run_model.specs.Locks.{Lock}
 use Rattle.run_model.specs.World.{World, Volatile, File, Label, Settlement, Indexed, nothing_carried}
 use Rattle.run_model.specs.Transcript.{Entry, Done, text_of}

@@ -8,15 +8,15 @@ use Rattle.vms_model.specs.Transactions as settled
 use Rattle.records_model.specs.Records.{Change}
 use Rattle.records_model.specs.History.{SettledChanges, LiveChanges}
 use Rattle.records_model.proofs.KeyLemmas.{key_cmp_total}
-use Rattle.transcript_model.specs.Lines as line
-use Rattle.transcript_model.specs.Lines.{lines_text}
-use Rattle.transcript_model.specs.Script.{ScriptLine, lines_of}
-use Rattle.script_model.specs.Statements as said
+use Rattle.run_model.specs.transcript_model.Lines as line
+use Rattle.run_model.specs.transcript_model.Lines.{lines_text}
+use Rattle.run_model.specs.transcript_model.Script.{ScriptLine, lines_of}
+use Rattle.run_model.specs.script_model.Statements as said
 use Rattle.tree_model.specs.Layouts.{no_layout, first_layout}
-use Rattle.unit_laws.specs.Journal.{Journal, ChangeEntry, empty_journal}
-use Rattle.commit_protocol.specs.Messages.{same_id}
-use Rattle.commit_protocol.specs.Table.{Branch, Active, same_key}
-use Rattle.commit_protocol.specs.Rows.{blank}
+use Rattle.run_model.specs.unit_laws.Journal.{Journal, ChangeEntry, empty_journal}
+use Rattle.run_model.specs.commit_protocol.Messages.{same_id}
+use Rattle.run_model.specs.commit_protocol.Table.{Branch, Active, same_key}
+use Rattle.run_model.specs.commit_protocol.Rows.{blank}
 use Rattle.run_model.specs.Locks.{Lock}
 use Rattle.run_model.specs.World.{World, Node, Volatile, File, Label, Settlement, Relative, Indexed, nothing_carried, Sound, Power}
 use Rattle.run_model.specs.Transcript.{Entry, Done, BadLine, text_of}

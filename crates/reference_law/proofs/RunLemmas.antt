@@ -1,9 +1,9 @@
 -- Steps of a run of which each statement is whole.
 use Rattle.std.proofs.Common.{◌≡◌, refl, List, ◌∷◌, ℕ, true}
-use Rattle.transcript_model.specs.Lines.{Line}
-use Rattle.transcript_model.specs.Script.{ScriptLine}
-use Rattle.script_model.specs.Statements.{Statement, Says}
-use Rattle.script_model.specs.Grammar.{reading}
+use Rattle.run_model.specs.transcript_model.Lines.{Line}
+use Rattle.run_model.specs.transcript_model.Script.{ScriptLine}
+use Rattle.run_model.specs.script_model.Statements.{Statement, Says}
+use Rattle.run_model.specs.script_model.Grammar.{reading}
 use Rattle.run_model.specs.World.{World}
 use Rattle.run_model.specs.Transcript.{Entry}
 use Rattle.reference_law.specs.Whole.{run_from, entry, is_in_limits, shown_whole}

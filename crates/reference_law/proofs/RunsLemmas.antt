@@ -3,12 +3,12 @@ use Rattle.std.proofs.Common.{◌≡◌, ℕ, ◌+◌, ◌<◌, ◌≤◌, List,
 use Rattle.std.specs.Prelude.{◌&&◌, ◌⊎◌}
 use Rattle.std.proofs.lemmas.Bool.{cases_lt}
 use Rattle.std.proofs.lemmas.Bool.Decides.{nat_tests}
-use Rattle.transcript_model.specs.Outside.{behind}
-use Rattle.transcript_model.specs.Lines as line
-use Rattle.transcript_model.specs.Lines.{Line, Cause, lines_text}
-use Rattle.transcript_model.specs.Script.{ScriptLine, lines_of, size_of}
-use Rattle.script_model.specs.Statements.{Statement, At, Deliver, LinkDown, Settle, Reading, Blank, Says, Bad}
-use Rattle.script_model.specs.Grammar.{reading}
+use Rattle.run_model.specs.transcript_model.Outside.{behind}
+use Rattle.run_model.specs.transcript_model.Lines as line
+use Rattle.run_model.specs.transcript_model.Lines.{Line, Cause, lines_text}
+use Rattle.run_model.specs.transcript_model.Script.{ScriptLine, lines_of, size_of}
+use Rattle.run_model.specs.script_model.Statements.{Statement, At, Deliver, LinkDown, Settle, Reading, Blank, Says, Bad}
+use Rattle.run_model.specs.script_model.Grammar.{reading}
 use Rattle.run_model.specs.World.{World, Shared, Node, DiskCounts, Lost, find_node}
 use Rattle.run_model.specs.Answers.{Task, Hears}
 use Rattle.run_model.specs.Steps.{Whole, TaskAllowed, task_effect}

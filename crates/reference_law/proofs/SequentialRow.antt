@@ -9,13 +9,13 @@ use Rattle.vms_model.specs.Transactions as settled
 use Rattle.records_model.specs.Records.{Change, Records, key_cmp}
 use Rattle.records_model.specs.History.{SettledChanges, LiveChanges}
 use Rattle.records_model.proofs.KeyLemmas.{key_cmp_total}
-use Rattle.transcript_model.specs.Lines as line
-use Rattle.transcript_model.specs.Lines.{Line}
-use Rattle.script_model.specs.Statements as said
+use Rattle.run_model.specs.transcript_model.Lines as line
+use Rattle.run_model.specs.transcript_model.Lines.{Line}
+use Rattle.run_model.specs.script_model.Statements as said
 use Rattle.tree_model.specs.Layouts.{no_layout}
-use Rattle.unit_laws.specs.Journal.{Journal, JournalEntry, ChangeEntry, empty_journal}
-use Rattle.commit_protocol.specs.Messages.{same_id}
-use Rattle.commit_protocol.specs.Table.{Branch, same_key}
+use Rattle.run_model.specs.unit_laws.Journal.{Journal, JournalEntry, ChangeEntry, empty_journal}
+use Rattle.run_model.specs.commit_protocol.Messages.{same_id}
+use Rattle.run_model.specs.commit_protocol.Table.{Branch, same_key}
 use Rattle.run_model.specs.Locks.{Lock}
 use Rattle.records_model.specs.Placing.{Filled, filled_by, first_bucket}
 use Rattle.run_model.specs.World.{World, Node, Volatile, acted, shared_after, File, Settlement, Sequential, nothing_carried}

@@ -1,12 +1,12 @@
 -- A script without a fault: each statement is done whole, or refused by its cause. What is shown then is a function of the script, and is what a run shows.
 use Rattle.std.specs.Prelude.{ℕ, List, [], ◌∷◌, ◌++◌, Bool, Option, Some, None, ◌&&◌, nat_le, ◌+◌, if◌then◌else◌, map, length}
 use Rattle.vms_model.specs.Limits.{line_limit, line_size_limit, script_size_limit}
-use Rattle.transcript_model.specs.Outside.{behind}
-use Rattle.transcript_model.specs.Lines as line
-use Rattle.transcript_model.specs.Lines.{Line, lines_text}
-use Rattle.transcript_model.specs.Script.{ScriptLine, lines_of, size_of}
-use Rattle.script_model.specs.Statements.{Statement, Blank, Says, Bad}
-use Rattle.script_model.specs.Grammar.{reading}
+use Rattle.run_model.specs.transcript_model.Outside.{behind}
+use Rattle.run_model.specs.transcript_model.Lines as line
+use Rattle.run_model.specs.transcript_model.Lines.{Line, lines_text}
+use Rattle.run_model.specs.transcript_model.Script.{ScriptLine, lines_of, size_of}
+use Rattle.run_model.specs.script_model.Statements.{Statement, Blank, Says, Bad}
+use Rattle.run_model.specs.script_model.Grammar.{reading}
 use Rattle.run_model.specs.World.{World, Node, DiskCounts, Lost, opened}
 use Rattle.run_model.specs.Rows.{zeros}
 use Rattle.run_model.specs.Steps.{Whole}

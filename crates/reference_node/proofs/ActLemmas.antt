@@ -3,15 +3,15 @@ use Rattle.std.proofs.Common.{◌≡◌, ℕ, List, [], ◌∷◌, ◌++◌, Boo
 use Rattle.std.specs.Prelude.{map, ◌==◌, not}
 use Rattle.std.proofs.lemmas.Bool.Decides.{nat_tests}
 use Rattle.vms_model.specs.Keys.{Key}
-use Rattle.transcript_model.specs.Lines as model
-use Rattle.script_model.specs.Statements.{Records, Direct, Operation}
+use Rattle.world_laws.specs.transcript_model.Lines as model
+use Rattle.script_lang.specs.script_model.Statements.{Records, Direct, Operation}
 use Rattle.records_model.specs.Records.{Change}
 use Rattle.commit_protocol.specs.Table.{Branch}
 use Rattle.commit_protocol.specs.Allowed.{is_working}
-use Rattle.run_model.specs.World.{Node, Shared, Settlement, acted, Changes, Directs, Holds, next_id, next_moment, shared_after}
-use Rattle.run_model.specs.Operations.{refused_if}
-use Rattle.run_model.specs.Answers.{Row, Service, service, branch_labelled, in_state, changes_at, keys_at, commit_settlement, directed, operation_act, operated, operation_told}
-use Rattle.run_model.specs.Steps.{node_after, node_after_rows, shared_then, shared_after_rows, lines_of_rows}
+use Rattle.world_laws.specs.run_model.World.{Node, Shared, Settlement, acted, Changes, Directs, Holds, next_id, next_moment, shared_after}
+use Rattle.world_laws.specs.run_model.Operations.{refused_if}
+use Rattle.world_laws.specs.run_model.Answers.{Row, Service, service, branch_labelled, in_state, changes_at, keys_at, commit_settlement, directed, operation_act, operated, operation_told}
+use Rattle.world_laws.specs.run_model.Steps.{node_after, node_after_rows, shared_then, shared_after_rows, lines_of_rows}
 use Rattle.reference_world.specs.declared.line.Line.{Line}
 use Rattle.reference_world.specs.Standing.{line_of}
 use Rattle.reference_node.specs.Nodes.{Does}

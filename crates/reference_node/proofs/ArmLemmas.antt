@@ -3,14 +3,14 @@ use Rattle.std.proofs.Common.{◌≡◌, ℕ, List, [], ◌∷◌, Option, Some,
 use Rattle.std.specs.Prelude.{option_map}
 use Rattle.vms_model.specs.Ids.{Id}
 use Rattle.vms_model.specs.Transactions.{Outcome, Commit, Abort, Reason}
-use Rattle.transcript_model.specs.Lines as line
+use Rattle.world_laws.specs.transcript_model.Lines as line
 use Rattle.commit_protocol.specs.Effects.{Effect, PrepareEffect, SettleEffect, KeepEffect, ForgetEffect, SendEffect, TellEffect, JoinedEffect, StartedEffect, ReadOnlyEffect, EndedEffect, act_effects}
 use Rattle.commit_protocol.specs.Messages.{LogRecord, Message, Name, RmEvent}
 use Rattle.commit_protocol.specs.Table.{Act, Accepts, Acknowledges, Branch, Key, Leaves, Notes, Prepares, Prints, Releases, Sends, Settles, Started, Ended, Told, Undoes, child, holding}
-use Rattle.log_laws.specs.Slots.{forgotten, put_in, record_effects_in}
-use Rattle.run_model.specs.Answers.{sent_line, settled_line, table_lines}
-use Rattle.run_model.specs.World as world
-use Rattle.run_model.specs.World.{Node, Shared, next_moment, posted, settlement}
+use Rattle.world_laws.specs.log_laws.Slots.{forgotten, put_in, record_effects_in}
+use Rattle.world_laws.specs.run_model.Answers.{sent_line, settled_line, table_lines}
+use Rattle.world_laws.specs.run_model.World as world
+use Rattle.world_laws.specs.run_model.World.{Node, Shared, next_moment, posted, settlement}
 use Rattle.reference_world.specs.Standing.{line_of}
 use Rattle.reference_world.specs.declared.line.Line.{Line}
 use Rattle.reference_disk.specs.Disks.{logged_tid, one_line}

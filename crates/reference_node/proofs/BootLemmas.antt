@@ -5,7 +5,7 @@ use Rattle.std.specs.List.{AllByRecursion, list_all, list_any}
 use Rattle.vms_model.specs.Ids.{Id}
 use Rattle.vms_model.specs.Transactions.{Abort, SegFail}
 use Rattle.records_model.specs.History.{same_id}
-use Rattle.transcript_model.specs.Lines as line
+use Rattle.world_laws.specs.transcript_model.Lines as line
 use Rattle.unit_laws.specs.Journal.{RecoveryUnit, active_units, find_unit, units_in}
 use Rattle.commit_protocol.specs.Agreement.{Distinct}
 use Rattle.commit_protocol.specs.Limits.{PreparedWithin, RecordWithin}
@@ -14,11 +14,11 @@ use Rattle.commit_protocol.specs.Messages as messages
 use Rattle.commit_protocol.specs.Table.{Branch, Key, Undoes, branch_serials, branches_of, cut, record_key, record_serials}
 use Rattle.commit_protocol.specs.World.{In, undo_all}
 use Rattle.commit_protocol.proofs.Lists.{told_id, told_key}
-use Rattle.log_laws.specs.Slots.{committed_of, prepared_of, records_in}
-use Rattle.run_model.specs.Answers.{boot_rows, last_lines, left_active, prepared_line, prepared_lines, settled_line, table_rows, unit_key}
-use Rattle.run_model.specs.Steps.{lines_of_rows, node_after_rows, shared_after_rows}
-use Rattle.run_model.specs.World as world
-use Rattle.run_model.specs.World.{Boots, ComesUp, Node, Shared, Tables, acted, next_moment, prepared_left, shared_after}
+use Rattle.world_laws.specs.log_laws.Slots.{committed_of, prepared_of, records_in}
+use Rattle.world_laws.specs.run_model.Answers.{boot_rows, last_lines, left_active, prepared_line, prepared_lines, settled_line, table_rows, unit_key}
+use Rattle.world_laws.specs.run_model.Steps.{lines_of_rows, node_after_rows, shared_after_rows}
+use Rattle.world_laws.specs.run_model.World as world
+use Rattle.world_laws.specs.run_model.World.{Boots, ComesUp, Node, Shared, Tables, acted, next_moment, prepared_left, shared_after}
 use Rattle.tm_table.specs.Restarts as restarts
 use Rattle.tm_table.specs.Restarts.{MayRestart, is_committed, is_prepared}
 use Rattle.world_laws.specs.Nodes.{BootsKeepUp, IsKeptDisk}

@@ -1,6 +1,6 @@
 -- A node whose disk has become another.
 use Rattle.std.proofs.Common.{◌≡◌, refl, sym, ap, ◌∙◌}
-use Rattle.run_model.specs.World as world
+use Rattle.world_laws.specs.run_model.World as world
 use Rattle.reference_world.specs.Standing.{volume_of}
 use Rattle.reference_disk.specs.Disks.{durable_of}
 use Rattle.reference_disk.specs.declared.disk.Durable.{Durable}

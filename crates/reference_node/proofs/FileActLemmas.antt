@@ -2,18 +2,18 @@
 use Rattle.std.proofs.Common.{◌≡◌, ℕ, ◌+◌, List, [], ◌∷◌, ◌++◌, Bool, true, false, Option, Some, None, Result, Ok, Err, IfOk, OnOk, refl, sym, ap, subst, ◌∙◌, map, length}
 use Rattle.std.proofs.lemmas.List.{length-map}
 use Rattle.vms_model.specs.Keys.{Key}
-use Rattle.transcript_model.specs.Lines as model
+use Rattle.world_laws.specs.transcript_model.Lines as model
 use Rattle.std.specs.FinMap.{entries}
-use Rattle.script_model.specs.Statements.{Backup, Create, Dump, DumpImages, DumpJournal, Form, Images, LmcpDump, NoImages, NoRecoveryUnits, Recover, Recovery, RecoveryUnits, SetFile, Setting, Side}
+use Rattle.script_lang.specs.script_model.Statements.{Backup, Create, Dump, DumpImages, DumpJournal, Form, Images, LmcpDump, NoImages, NoRecoveryUnits, Recover, Recovery, RecoveryUnits, SetFile, Setting, Side}
 use Rattle.unit_laws.specs.Journal.{end_of}
 use Rattle.commit_protocol.specs.Messages.{LogRecord}
-use Rattle.log_laws.specs.Slots.{records_in, slot_records}
-use Rattle.log_laws.proofs.Counting.{slots_counted}
-use Rattle.run_model.specs.Answers as answers
-use Rattle.run_model.specs.Answers.{Row, created, creates, blocks_for, entry_lines, records_of, service, shown_line, shown_record}
-use Rattle.run_model.specs.Steps.{lines_of_rows, node_after_rows, shared_after_rows}
-use Rattle.run_model.specs.World as world
-use Rattle.run_model.specs.World.{Node, Shared, acted, shared_after, Volume, Sound, Faulty, Barred, Unknown}
+use Rattle.world_laws.specs.log_laws.Slots.{records_in, slot_records}
+use Rattle.world_laws.proofs.log_laws.Counting.{slots_counted}
+use Rattle.world_laws.specs.run_model.Answers as answers
+use Rattle.world_laws.specs.run_model.Answers.{Row, created, creates, blocks_for, entry_lines, records_of, service, shown_line, shown_record}
+use Rattle.world_laws.specs.run_model.Steps.{lines_of_rows, node_after_rows, shared_after_rows}
+use Rattle.world_laws.specs.run_model.World as world
+use Rattle.world_laws.specs.run_model.World.{Node, Shared, acted, shared_after, Volume, Sound, Faulty, Barred, Unknown}
 use Rattle.reference_world.specs.declared.world.Volume.{Volume as VolumeKept}
 use Rattle.reference_world.specs.declared.world.Volume.TheVariants as kept
 use Rattle.reference_world.specs.declared.line.Line.{Line}

@@ -15,7 +15,7 @@ use Rattle.commit_protocol.specs.Table.{Act, Accepts, Acknowledges, Branch, Stat
 use Rattle.commit_protocol.specs.World.{In}
 use Rattle.commit_protocol.proofs.Lists.{find-put_other, find-cut, find-cut_other, find-key, told_id, told_key}
 use Rattle.commit_protocol.proofs.Serials.{in_serial, parts_apart, there_serial}
-use Rattle.log_laws.specs.Slots.{Slots, records_in, slots_after}
+use Rattle.world_laws.specs.log_laws.Slots.{Slots, records_in, slots_after}
 use Rattle.row_laws.specs.May.{IsOfMessage, IsTold, MayDo, MayDoAll}
 use Rattle.row_laws.proofs.MayLemmas.{may_row, told_after}
 use Rattle.reference_disk.specs.Disks.{logged_tid}

@@ -5,20 +5,20 @@ use Rattle.std.specs.List.{list_any}
 use Rattle.std.specs.Option.{option_and_then}
 use Rattle.std.proofs.lemmas.Bool.{and_from, leb-false, lt-ltb}
 use Rattle.vms_model.specs.Limits.{manager_limit}
-use Rattle.transcript_model.specs.Lines as line
-use Rattle.transcript_model.specs.Lines.{Line}
-use Rattle.script_model.specs.Statements.{AckEvent, DeclareRm, JoinRm, Named}
+use Rattle.world_laws.specs.transcript_model.Lines as line
+use Rattle.world_laws.specs.transcript_model.Lines.{Line}
+use Rattle.script_lang.specs.script_model.Statements.{AckEvent, DeclareRm, JoinRm, Named}
 use Rattle.commit_protocol.specs.Allowed.{allowed, is_working, may_join, may_reply, reply_allowed, there_is}
 use Rattle.commit_protocol.specs.Allowed as may_be
 use Rattle.commit_protocol.specs.Messages.{CommitEvent, LogRecord, Name, Reply, same_id, same_name}
 use Rattle.commit_protocol.specs.Rows.{Replied}
 use Rattle.commit_protocol.specs.Table.{Branch, find_serial, holds}
 use Rattle.vms_model.specs.Ids.{Id}
-use Rattle.run_model.specs.Answers as answers
-use Rattle.run_model.specs.Answers.{Known, Recorded, Unheard, Unsettled, awaited_reply, branch_labelled, declared_manager, has_joined, in_state, is_joinable, known, known_branch, known_manager, known_serial, made_label, made_name, more_managers, serial_named, service, unsettled_label}
-use Rattle.run_model.specs.Operations.{first_of, refused_if}
-use Rattle.run_model.specs.World.{Declares, Node, Shared, acted, find_branch, find_record, tm_of}
-use Rattle.log_laws.specs.Slots.{committed_of, records_in, waiting_for}
+use Rattle.world_laws.specs.run_model.Answers as answers
+use Rattle.world_laws.specs.run_model.Answers.{Known, Recorded, Unheard, Unsettled, awaited_reply, branch_labelled, declared_manager, has_joined, in_state, is_joinable, known, known_branch, known_manager, known_serial, made_label, made_name, more_managers, serial_named, service, unsettled_label}
+use Rattle.world_laws.specs.run_model.Operations.{first_of, refused_if}
+use Rattle.world_laws.specs.run_model.World.{Declares, Node, Shared, acted, find_branch, find_record, tm_of}
+use Rattle.world_laws.specs.log_laws.Slots.{committed_of, records_in, waiting_for}
 use Rattle.reference_world.specs.Standing.{line_of}
 use Rattle.reference_world.specs.declared.line.Line.{Line as Shown}
 use Rattle.reference_node.specs.Nodes.{Does}

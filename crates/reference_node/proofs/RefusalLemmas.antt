@@ -2,14 +2,14 @@
 use Rattle.std.proofs.Common.{◌≡◌, ℕ, List, Option, Some, None, length, nat_lt, refl, sym, ap, ◌∙◌}
 use Rattle.std.specs.Option.{option_and_then}
 use Rattle.vms_model.specs.Limits.{change_limit}
-use Rattle.transcript_model.specs.Lines as line
-use Rattle.script_model.specs.Statements.{Operation}
+use Rattle.world_laws.specs.transcript_model.Lines as line
+use Rattle.script_lang.specs.script_model.Statements.{Operation}
 use Rattle.records_model.specs.Records.{Change}
 use Rattle.vms_model.specs.Ids.{Id}
 use Rattle.commit_protocol.specs.Table.{Branch}
-use Rattle.run_model.specs.Answers.{branch_labelled, changes_at, direct_refused, found_refused, images_full, journal_full, more_changes, more_locks, of_file, operation_refused}
-use Rattle.run_model.specs.Operations.{file_full, first_of, keys_held, refused_if}
-use Rattle.run_model.specs.World.{Node, Shared, next_id, serial_labelled}
+use Rattle.world_laws.specs.run_model.Answers.{branch_labelled, changes_at, direct_refused, found_refused, images_full, journal_full, more_changes, more_locks, of_file, operation_refused}
+use Rattle.world_laws.specs.run_model.Operations.{file_full, first_of, keys_held, refused_if}
+use Rattle.world_laws.specs.run_model.World.{Node, Shared, next_id, serial_labelled}
 use Rattle.reference_disk.specs.Disks.{branch_with}
 
 first_five : (a b c d e : Option line.Line) → first_of (first_of a (first_of (first_of b c) d)) e ≡ first_of a (first_of b (first_of c (first_of d e)))

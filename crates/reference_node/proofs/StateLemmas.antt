@@ -1,12 +1,12 @@
 -- What a branch that a statement names may be told.
 use Rattle.std.proofs.Common.{◌≡◌, ℕ, List, Bool, true, Option, Some, None, ap, ◌∙◌}
 use Rattle.std.specs.Option.{option_and_then}
-use Rattle.script_model.specs.Statements.{Named, ByLabel, BySerial}
+use Rattle.script_lang.specs.script_model.Statements.{Named, ByLabel, BySerial}
 use Rattle.commit_protocol.specs.Allowed.{allowed, is_active, is_prepared, may_authorise, there_is}
 use Rattle.commit_protocol.specs.Rows.{Authorise}
 use Rattle.commit_protocol.specs.Table.{Branch, find, find_serial, first, is_first}
-use Rattle.run_model.specs.Answers.{branch_labelled, branch_named, in_state, is_first_active, more_bids}
-use Rattle.run_model.specs.World.{Node, Shared, find_branch, serial_labelled}
+use Rattle.world_laws.specs.run_model.Answers.{branch_labelled, branch_named, in_state, is_first_active, more_bids}
+use Rattle.world_laws.specs.run_model.World.{Node, Shared, find_branch, serial_labelled}
 use Rattle.vms_model.specs.Ids.{Id}
 use Rattle.reference_node.proofs.TableLemmas.{branch_serial, found_by_serial, labelled_there}
 use Rattle.reference_node.proofs.TransactionLemmas.{first_active, first_there, is_so, may_add, told_there}

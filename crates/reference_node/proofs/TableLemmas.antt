@@ -16,7 +16,7 @@ use Rattle.commit_protocol.specs.Table.{Key, Branch, State, Joining, Active, End
 use Rattle.commit_protocol.specs.Allowed.{is_active, is_working}
 use Rattle.commit_protocol.specs.Rows.{Changed, row, note_row, note_state, has_changed}
 use Rattle.commit_protocol.proofs.Lists.{told_id, told_key, same_key-refl}
-use Rattle.run_model.specs.World.{find_branch, find_record, with_changed}
+use Rattle.world_laws.specs.run_model.World.{find_branch, find_record, with_changed}
 use Rattle.tm_table.specs.Restarts.{record_of}
 
 -- Ids are compared in either order.

@@ -3,7 +3,7 @@ use Rattle.std.proofs.Common.{◌≡◌, ℕ, ◌+◌, ◌*◌, ◌<◌, ◌≤�
 use Rattle.std.specs.Prelude.{if◌then◌else◌, map, option_map, nat_le, ◌^◌, OnOk}
 use Rattle.vms_model.specs.Ids.{Id}
 use Rattle.vms_model.specs.Times.{CanBeWritten}
-use Rattle.transcript_model.specs.Lines as line
+use Rattle.world_laws.specs.transcript_model.Lines as line
 use Rattle.unit_laws.specs.Journal.{Journal, JournalEntry, PreparedEntry, RecoveryUnit, end_of, entries_size, find_unit, units_in, with_entries, with_settled}
 use Rattle.unit_laws.specs.JournalLaws.{HasSettled, is_unit}
 use Rattle.unit_laws.proofs.TrimLemmas.{settles_unit}
@@ -12,10 +12,10 @@ use Rattle.commit_protocol.specs.Effects.{Effect, ForgetEffect, KeepEffect, act_
 use Rattle.commit_protocol.specs.Messages.{LogRecord, Name}
 use Rattle.commit_protocol.specs.Rows.{Event, row}
 use Rattle.commit_protocol.specs.Table.{Act, Accepts, Acknowledges, Branch, Key, Leaves, Notes, Prepares, Prints, Releases, Sends, Settles, Tm, Undoes, acknowledged, after, after_act, holding, holds, nothing_left, records_after, released, waits_for}
-use Rattle.log_laws.specs.Slots.{Slots, slots_after, record_effects_in}
-use Rattle.run_model.specs.Answers.{acknowledged_lines, released_lines, shown_by, table_rows}
-use Rattle.run_model.specs.Steps.{lines_of_rows, node_after_rows, shared_after_rows}
-use Rattle.run_model.specs.World.{Node, Shared, Tables, acted, next_moment, shared_after, tm_of}
+use Rattle.world_laws.specs.log_laws.Slots.{Slots, slots_after, record_effects_in}
+use Rattle.world_laws.specs.run_model.Answers.{acknowledged_lines, released_lines, shown_by, table_rows}
+use Rattle.world_laws.specs.run_model.Steps.{lines_of_rows, node_after_rows, shared_after_rows}
+use Rattle.world_laws.specs.run_model.World.{Node, Shared, Tables, acted, next_moment, shared_after, tm_of}
 use Rattle.reference_world.specs.Standing.{line_of}
 use Rattle.reference_world.specs.declared.line.Line.{Line}
 use Rattle.reference_disk.specs.Disks.{one_line}

@@ -6,19 +6,19 @@ use Rattle.std.proofs.lemmas.Bool.Decides.{nat_tests}
 use Rattle.vms_model.specs.Ids.{Id}
 use Rattle.vms_model.specs.Transactions.{Commit as ToCommit, Abort as ToAbort, SyncFail, SegFail, Reason, Outcome}
 use Rattle.vms_model.specs.Limits.{message_limit}
-use Rattle.transcript_model.specs.Lines as line
+use Rattle.world_laws.specs.transcript_model.Lines as line
 use Rattle.commit_protocol.specs.Allowed.{allowed, has_room, is_active, is_prepared, is_working, may_authorise, may_end, there_is}
 use Rattle.commit_protocol.specs.Messages.{Message, Name, RmEvent, LogRecord, Prepare as ToPrepare}
 use Rattle.commit_protocol.specs.Rows.{Event, Start, Begin, Authorise, EndTrans, EndBranch, AbortBranch, InquireBranch, all_taken, aborts, asks, begins_ending, commits, commits_if_all, ending, end_trans_state, joined, row, sends_all, serials, tells, to_each, which_event, all_voted, all_replied}
 use Rattle.commit_protocol.specs.Rows as rows
 use Rattle.commit_protocol.specs.Table.{Act, Accepts, Acknowledges, Branch, Manager, State, Joining, Active, Ending, Voting, Prepared, Key, Leaves, Notes, Prepares, Prints, Releases, Sends, Settles, Started, Ended, Told, Tm, Undoes, find, find_serial, first, is_first, nothing_left, acknowledged, released, waits_for, holds}
 use Rattle.commit_protocol.proofs.Lists.{find_serial-key, same_key-true}
-use Rattle.run_model.specs.Answers as answers
-use Rattle.run_model.specs.Answers.{Row, Service, Telling, acknowledged_lines, end_answer, forgot_lines, in_state, is_first_active, is_in_doubt, is_open, missing, more_branches, more_bids, released_lines, settled_line, shown_by, silent, table_rows, told_rows, unreplied, unsettled}
-use Rattle.run_model.specs.Operations.{first_of, refused_if}
-use Rattle.run_model.specs.Steps.{lines_of_rows, node_after, node_after_rows, shared_after_rows, shared_then}
-use Rattle.run_model.specs.World as world
-use Rattle.run_model.specs.World.{Node, Shared, Tables, acted, next_moment, shared_after, tm_of}
+use Rattle.world_laws.specs.run_model.Answers as answers
+use Rattle.world_laws.specs.run_model.Answers.{Row, Service, Telling, acknowledged_lines, end_answer, forgot_lines, in_state, is_first_active, is_in_doubt, is_open, missing, more_branches, more_bids, released_lines, settled_line, shown_by, silent, table_rows, told_rows, unreplied, unsettled}
+use Rattle.world_laws.specs.run_model.Operations.{first_of, refused_if}
+use Rattle.world_laws.specs.run_model.Steps.{lines_of_rows, node_after, node_after_rows, shared_after_rows, shared_then}
+use Rattle.world_laws.specs.run_model.World as world
+use Rattle.world_laws.specs.run_model.World.{Node, Shared, Tables, acted, next_moment, shared_after, tm_of}
 use Rattle.reference_world.specs.Standing.{line_of}
 use Rattle.reference_world.specs.declared.line.Line.{Line}
 use Rattle.reference_node.specs.Nodes.{Does}

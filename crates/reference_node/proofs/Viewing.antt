@@ -1,13 +1,13 @@
 -- Which act has an effect; and what acts on committed records show.
 use Rattle.std.proofs.Common.{◌≡◌, Bool, true, false, List, [], ◌∷◌, Option, inl, inr, refl, ap, sym, subst}
 use Rattle.std.specs.Prelude.{if◌then◌else◌}
-use Rattle.transcript_model.specs.Lines as line
-use Rattle.transcript_model.specs.Lines.{Line}
+use Rattle.world_laws.specs.transcript_model.Lines as line
+use Rattle.world_laws.specs.transcript_model.Lines.{Line}
 use Rattle.commit_protocol.specs.Effects.{Effect, PrepareEffect, SettleEffect, KeepEffect, ForgetEffect, SendEffect, TellEffect, JoinedEffect, StartedEffect, ReadOnlyEffect, EndedEffect, act_effects, acknowledge_effects, record_effects, release_effects}
 use Rattle.commit_protocol.specs.Messages.{LogRecord, Name}
 use Rattle.commit_protocol.specs.Table.{Act, Accepts, Acknowledges, Branch, Child, Ended, Key, Leaves, Notes, Prepares, Prints, Releases, Sends, Settles, Started, Told, Undoes, acknowledge, acknowledged, holding, holds, keep_record, nothing_left, release, released, waits_for}
 use Rattle.commit_protocol.specs.World.{In}
-use Rattle.run_model.specs.Answers.{acknowledged_lines, forgot_lines, released_lines}
+use Rattle.world_laws.specs.run_model.Answers.{acknowledged_lines, forgot_lines, released_lines}
 use Rattle.vms_model.specs.Ids.{Id}
 
 -- an act on committed records

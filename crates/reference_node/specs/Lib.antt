@@ -1,2 +1,3 @@
 pub mod Nodes
 pub mod Telling
+pub use Rattle.world_laws.specs as world_laws

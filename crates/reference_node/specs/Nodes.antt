@@ -2,10 +2,10 @@
 use Rattle.std.specs.Prelude.{◌≡◌, ◌++◌, List, [], ◌∷◌, Some, None, map}
 use Rattle.vms_model.specs.Ids.{Id}
 use Rattle.commit_protocol.specs.Table.{Branch, Key, cut}
-use Rattle.run_model.specs.Answers.{Service}
-use Rattle.run_model.specs.Steps.{lines_of_rows, node_after, node_after_rows, shared_then, shared_after_rows}
-use Rattle.run_model.specs.World as world
-use Rattle.run_model.specs.Locks.{released}
+use Rattle.world_laws.specs.run_model.Answers.{Service}
+use Rattle.world_laws.specs.run_model.Steps.{lines_of_rows, node_after, node_after_rows, shared_then, shared_after_rows}
+use Rattle.world_laws.specs.run_model.World as world
+use Rattle.world_laws.specs.run_model.Locks.{released}
 use Rattle.reference_index.specs.Standing.{locks_of}
 use Rattle.reference_world.specs.Standing.{branch_key_of, settlement_of, is_unmade, call_of, line_of}
 use Rattle.reference_disk.specs.Disks.{durable_of}

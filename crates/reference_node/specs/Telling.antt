@@ -3,7 +3,7 @@ use Rattle.std.specs.Prelude.{◌≡◌, ℕ, ◌+◌, ◌*◌, ◌^◌, ◌<◌
 use Rattle.vms_model.specs.Ids.{Id}
 use Rattle.vms_model.specs.Times.{CanBeWritten}
 use Rattle.vms_model.specs.Transactions.{Outcome, Reason}
-use Rattle.transcript_model.specs.Lines as line
+use Rattle.world_laws.specs.transcript_model.Lines as line
 use Rattle.unit_laws.specs.Journal.{end_of}
 use Rattle.commit_protocol.specs.Limits.{TmWithin}
 use Rattle.commit_protocol.specs.Effects.{Effect, effects_of}
@@ -11,12 +11,12 @@ use Rattle.commit_protocol.specs.Messages.{LogRecord}
 use Rattle.commit_protocol.specs.Rows.{Event, row}
 use Rattle.commit_protocol.specs.World.{In}
 use Rattle.commit_protocol.specs.Table.{Act, Accepts, Acknowledges, Branch, Key, Leaves, Notes, Prepares, Prints, Releases, Sends, Settles, Started, Ended, Told, Tm, Undoes, after, prepared_record, records_after}
-use Rattle.log_laws.specs.Slots.{Slots, put_in, settled_in, slots_after}
+use Rattle.world_laws.specs.log_laws.Slots.{Slots, put_in, settled_in, slots_after}
 use Rattle.row_laws.specs.May.{IsTold}
-use Rattle.run_model.specs.Answers.{boot_rows, prepared_lines, shown_by, table_rows}
-use Rattle.run_model.specs.Steps.{lines_of_rows, node_after_rows, shared_after_rows}
-use Rattle.run_model.specs.World as world
-use Rattle.run_model.specs.World.{Node, Shared, Tables, next_moment, shared_after, tm_of}
+use Rattle.world_laws.specs.run_model.Answers.{boot_rows, prepared_lines, shown_by, table_rows}
+use Rattle.world_laws.specs.run_model.Steps.{lines_of_rows, node_after_rows, shared_after_rows}
+use Rattle.world_laws.specs.run_model.World as world
+use Rattle.world_laws.specs.run_model.World.{Node, Shared, Tables, next_moment, shared_after, tm_of}
 use Rattle.reference_world.specs.Standing.{line_of}
 use Rattle.reference_world.specs.declared.line.Line.{Line}
 use Rattle.reference_disk.specs.Disks.{logged_tid, one_line}

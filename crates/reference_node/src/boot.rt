@@ -1,11 +1,11 @@
 // How a node comes up.
 ghost use Rattle.std.specs.Prelude.{◌≡◌, ◌+◌, ◌<◌, ◌^◌, ℕ, map, length, OnOk, IfOk};
-ghost use Rattle.script_model.specs.Statements as said;
+ghost use Rattle.script_lang.specs.script_model.Statements as said;
 ghost use Rattle.commit_protocol.specs.World.{undo_all as undo_acts};
-ghost use Rattle.log_laws.specs.Slots.{records_in, committed_of};
-ghost use Rattle.run_model.specs.Answers as answers;
-ghost use Rattle.run_model.specs.Steps.{lines_of_rows, node_after_rows};
-ghost use Rattle.run_model.specs.World as world;
+ghost use Rattle.world_laws.specs.log_laws.Slots.{records_in, committed_of};
+ghost use Rattle.world_laws.specs.run_model.Answers as answers;
+ghost use Rattle.world_laws.specs.run_model.Steps.{lines_of_rows, node_after_rows};
+ghost use Rattle.world_laws.specs.run_model.World as world;
 ghost use Rattle.tm_table.specs.Restarts.{MayRestart};
 ghost use Rattle.reference_world.specs.Standing.{branch_key_of, line_of};
 ghost use Rattle.world_laws.specs.Nodes.{IsKeptDisk};

@@ -6,7 +6,7 @@ ghost use Rattle.commit_protocol.specs.Messages.{Inquire};
 ghost use Rattle.commit_protocol.specs.Rows.{up};
 ghost use Rattle.commit_protocol.specs.Table.{same_key as same_key_said, find, cut};
 ghost use Rattle.commit_protocol.specs.World as protocol;
-ghost use Rattle.run_model.specs.Statements.{answer_of, in_doubt as in_doubt_said};
+ghost use Rattle.world_laws.specs.run_model.Statements.{answer_of, in_doubt as in_doubt_said};
 ghost use Rattle.vms_base.specs.Ids.{id_of};
 ghost use Rattle.net_wire.specs.Messages.{message_of};
 ghost use Rattle.tm_types.specs.Branches.{branch_of as branch_said};

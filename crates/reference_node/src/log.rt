@@ -1,9 +1,9 @@
 // The transaction log of a node, as it is shown.
 ghost use Rattle.std.specs.Prelude.{◌≤◌, length, IfOk};
 ghost use Rattle.vms_model.specs.Limits.{slot_limit};
-ghost use Rattle.run_model.specs.Answers.{service};
-ghost use Rattle.run_model.specs.World as world;
-ghost use Rattle.script_model.specs.Statements as said;
+ghost use Rattle.world_laws.specs.run_model.Answers.{service};
+ghost use Rattle.world_laws.specs.run_model.World as world;
+ghost use Rattle.script_lang.specs.script_model.Statements as said;
 ghost use Rattle.reference_node.specs.Nodes.{Does, node_of};
 
 use crate::node::Node;

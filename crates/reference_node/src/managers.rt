@@ -2,11 +2,11 @@
 ghost use Rattle.std.specs.Prelude.{◌≡◌, ◌+◌, ℕ, None, drop, map, option_map, OnOk, IfOk};
 ghost use Rattle.std.specs.List.{list_any};
 ghost use Rattle.commit_protocol.specs.Rows as rows;
-ghost use Rattle.run_model.specs.Answers as answers;
-ghost use Rattle.run_model.specs.Answers.{service};
-ghost use Rattle.run_model.specs.World as world;
+ghost use Rattle.world_laws.specs.run_model.Answers as answers;
+ghost use Rattle.world_laws.specs.run_model.Answers.{service};
+ghost use Rattle.world_laws.specs.run_model.World as world;
 ghost use Rattle.script_lang.specs.Statements.{named_of};
-ghost use Rattle.script_model.specs.Statements as said;
+ghost use Rattle.script_lang.specs.script_model.Statements as said;
 ghost use Rattle.vms_base.specs.Ids.{id_of};
 ghost use Rattle.tm_types.specs.Branches.{branch_of as branch_said};
 ghost use Rattle.tm_types.specs.Events.{event_of};

@@ -1,8 +1,8 @@
 // A node as it is kept.
 ghost use Rattle.std.specs.Prelude.{◌≡◌, ◌+◌, ◌<◌, ◌^◌, false, None, map, drop, OnOk, IfOk};
 ghost use Rattle.vms_model.specs.Times.{CanBeWritten};
-ghost use Rattle.run_model.specs.Rows.{zeros};
-ghost use Rattle.run_model.specs.World as world;
+ghost use Rattle.world_laws.specs.run_model.Rows.{zeros};
+ghost use Rattle.world_laws.specs.run_model.World as world;
 ghost use Rattle.vms_base.specs.Ids.{id_of};
 ghost use Rattle.reference_world.specs.Standing.{branch_key_of, serials_of};
 ghost use Rattle.reference_node.specs.Nodes.{node_of};

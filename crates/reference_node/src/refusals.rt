@@ -1,16 +1,16 @@
 // What refuses each request before it does anything.
 ghost use Rattle.std.specs.Prelude.{◌≡◌, ◌+◌, ◌^◌, ◌<◌, ◌≤◌, ℕ, List, map, option_map, length, not, IfOk};
 ghost use Rattle.vms_model.specs.Limits.{slot_limit};
-ghost use Rattle.script_model.specs.Statements as said;
+ghost use Rattle.script_lang.specs.script_model.Statements as said;
 ghost use Rattle.script_lang.specs.declared.literals.Literals.{Literals as LiteralsSaid};
 ghost use Rattle.script_lang.specs.Statements.{form_of, named_of, recovery_of, request_of, setting_of, side_of};
 ghost use Rattle.commit_protocol.specs.Table as table;
 ghost use Rattle.commit_protocol.specs.Allowed as allowed;
 ghost use Rattle.unit_laws.specs.Journal.{end_of};
-ghost use Rattle.run_model.specs.Answers as answers;
-ghost use Rattle.run_model.specs.Answers.{service};
-ghost use Rattle.run_model.specs.Operations as operations;
-ghost use Rattle.run_model.specs.World as world;
+ghost use Rattle.world_laws.specs.run_model.Answers as answers;
+ghost use Rattle.world_laws.specs.run_model.Answers.{service};
+ghost use Rattle.world_laws.specs.run_model.Operations as operations;
+ghost use Rattle.world_laws.specs.run_model.World as world;
 ghost use Rattle.vms_base.specs.Ids.{id_of};
 ghost use Rattle.tm_types.specs.Branches.{branch_of as branch_said};
 ghost use Rattle.reference_index.specs.Standing.{key_of as key_said};

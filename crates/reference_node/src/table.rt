@@ -1,17 +1,17 @@
 // What a node's table is told, and what becomes of that.
 ghost use Rattle.std.specs.Prelude.{◌≡◌, ◌+◌, ◌<◌, ◌^◌, ◌++◌, ℕ, List, [], ◌∷◌, true, map, option_map, length, OnOk, IfOk};
 ghost use Rattle.vms_model.specs.Transactions.{Abort, SegFail};
-ghost use Rattle.transcript_model.specs.Lines as model;
+ghost use Rattle.world_laws.specs.transcript_model.Lines as model;
 ghost use Rattle.unit_laws.specs.Journal.{end_of};
 ghost use Rattle.commit_protocol.specs.Allowed.{allowed};
 ghost use Rattle.commit_protocol.specs.Effects.{act_effects, effects_of};
 ghost use Rattle.commit_protocol.specs.Messages.{LogRecord};
 ghost use Rattle.commit_protocol.specs.Table as protocol;
 ghost use Rattle.commit_protocol.specs.Table.{Act, Branch, Told, Tm as TmSaid, holding as managers_holding};
-ghost use Rattle.log_laws.specs.Slots.{forgotten, put_in};
+ghost use Rattle.world_laws.specs.log_laws.Slots.{forgotten, put_in};
 ghost use Rattle.row_laws.specs.May.{IsOfMessage};
-ghost use Rattle.run_model.specs.Answers as answers;
-ghost use Rattle.run_model.specs.World as world;
+ghost use Rattle.world_laws.specs.run_model.Answers as answers;
+ghost use Rattle.world_laws.specs.run_model.World as world;
 ghost use Rattle.vms_base.specs.Ids.{id_of};
 ghost use Rattle.vms_base.specs.Outcomes.{outcome_of, reason_of};
 ghost use Rattle.tm_types.specs.Effects.{effect_of};

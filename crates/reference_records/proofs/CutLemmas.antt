@@ -3,8 +3,8 @@ use Rattle.std.proofs.Common.{◌≡◌, ℕ, ◌-◌, ◌≤◌, List, true, re
 use Rattle.std.specs.Prelude.{map, nat_le}
 use Rattle.std.proofs.lemmas.Bool.Decides.{nat_tests}
 use Rattle.vms_model.specs.Keys.{Key}
-use Rattle.run_model.specs.World.{File}
-use Rattle.run_model.specs.Operations.{in_order, cut_keys}
+use Rattle.reference_index.specs.run_model.World.{File}
+use Rattle.reference_index.specs.run_model.Operations.{in_order, cut_keys}
 
 -- the keys of these records, from the last down
 abbrev pub keys_back : List (Key × List ℕ) → List Key

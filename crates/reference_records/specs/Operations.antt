@@ -1,8 +1,8 @@
 -- What the code's values ask of the records of a file, and what they say of them.
 use Rattle.std.specs.Prelude.{◌≡◌, List, map, option_map}
-use Rattle.script_model.specs.Statements as said
-use Rattle.records_model.specs.Placing as placing
-use Rattle.run_model.specs.Operations.{in_order}
+use Rattle.reference_index.specs.script_model.Statements as said
+use Rattle.reference_index.specs.records_model.Placing as placing
+use Rattle.reference_index.specs.run_model.Operations.{in_order}
 use Rattle.reference_world.specs.declared.world.File.{File}
 use Rattle.reference_world.specs.declared.world.Row.{Row}
 use Rattle.reference_index.specs.Standing.{lent_key}

@@ -1,6 +1,6 @@
 // What refuses an operation by its form.
 ghost use Rattle.std.specs.Prelude.{◌≡◌, ℕ, List, Option, option_map};
-ghost use Rattle.run_model.specs.Operations as operations;
+ghost use Rattle.reference_index.specs.run_model.Operations as operations;
 ghost use Rattle.reference_index.specs.Standing.{lent_key};
 ghost use Rattle.reference_world.specs.Standing.{organization_of, file_of, line_of};
 ghost use Rattle.reference_records.specs.Operations.{asked_of};

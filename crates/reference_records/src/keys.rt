@@ -1,6 +1,6 @@
 // The keys that an operation asks for, those that it finds, and all that a branch holds once it has done it.
 ghost use Rattle.std.specs.Prelude.{◌≡◌, ◌^◌, ◌<◌, ℕ, List, [], ◌∷◌, map, option_map, reverse, IfOk};
-ghost use Rattle.run_model.specs.Operations as operations;
+ghost use Rattle.reference_index.specs.run_model.Operations as operations;
 ghost use Rattle.reference_index.specs.Standing.{key_of, lent_key};
 ghost use Rattle.reference_world.specs.Standing.{organization_of, file_of, entry_of};
 ghost use Rattle.reference_records.specs.Operations.{asked_of, AreRowsOf};

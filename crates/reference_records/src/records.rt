@@ -1,10 +1,10 @@
 // What an operation finds in the records that stand, what it changes, and what it is answered.
 ghost use Rattle.std.specs.Prelude.{◌≡◌, ◌+◌, ◌-◌, ◌<◌, ◌≤◌, ◌^◌, ℕ, List, [], ◌∷◌, map, option_map, nat_le, take, drop, length, IfOk};
-ghost use Rattle.records_model.specs.Placing as placing;
-ghost use Rattle.tree_model.specs.Layouts as layouts;
-ghost use Rattle.tree_model.specs.Layouts.{index_size};
-ghost use Rattle.run_model.specs.Operations as operations;
-ghost use Rattle.run_model.specs.World.{capacity as capacity_of};
+ghost use Rattle.reference_index.specs.records_model.Placing as placing;
+ghost use Rattle.reference_index.specs.tree_model.Layouts as layouts;
+ghost use Rattle.reference_index.specs.tree_model.Layouts.{index_size};
+ghost use Rattle.reference_index.specs.run_model.Operations as operations;
+ghost use Rattle.reference_index.specs.run_model.World.{capacity as capacity_of};
 ghost use Rattle.reference_index.specs.Standing.{lent_key, lent_value, change_of, changes_of, index_of, layout_of};
 ghost use Rattle.reference_world.specs.Standing.{organization_of, file_of, entry_of, line_of};
 ghost use Rattle.reference_records.specs.Operations.{asked_of, filled_of, AreRowsOf};

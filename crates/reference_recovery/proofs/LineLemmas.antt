@@ -2,8 +2,8 @@
 use Rattle.std.proofs.Common.{◌≡◌, ◌≤◌, ℕ, List, [], ◌∷◌, ◌++◌, sym, ap, ◌∙◌, length, get_or, append_assoc}
 use Rattle.std.specs.Prelude.{map, reverse}
 use Rattle.std.proofs.lemmas.List.{reverse-append}
-use Rattle.transcript_model.specs.Lines.{Line}
-use Rattle.run_model.specs.Answers.{image_line, image_lines}
+use Rattle.reference_index.specs.transcript_model.Lines.{Line}
+use Rattle.reference_index.specs.run_model.Answers.{image_line, image_lines}
 use Rattle.reference_index.proofs.ListLemmas.{behind_first, parts}
 use Rattle.reference_world.specs.declared.world.Placed.{Placed}
 use Rattle.reference_world.specs.Standing.{placed_of}

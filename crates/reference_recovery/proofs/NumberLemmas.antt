@@ -6,7 +6,7 @@ use Rattle.std.specs.FinMap.Entries.{put}
 use Rattle.vms_model.specs.Keys.{Number}
 use Rattle.records_model.specs.Records.{key_cmp}
 use Rattle.records_model.proofs.KeyLemmas.{key_cmp_total}
-use Rattle.run_model.specs.World.{records_from}
+use Rattle.reference_index.specs.run_model.World.{records_from}
 use Rattle.reference_index.proofs.ListLemmas.{behind_first, parts}
 use Rattle.reference_world.specs.declared.world.Row.{Row}
 use Rattle.reference_world.specs.Standing.{entry_of}

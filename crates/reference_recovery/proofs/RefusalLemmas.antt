@@ -2,12 +2,12 @@
 use Rattle.std.proofs.Common.{◌≡◌, ℕ, Bool, true, false, Option, Some, None, refl, ap, ◌∙◌}
 use Rattle.std.specs.Prelude.{not, option_map, nat_lt}
 use Rattle.vms_model.specs.Ids.{Id}
-use Rattle.transcript_model.specs.Lines as line
-use Rattle.recovery_model.specs.File.{FileState, Save}
-use Rattle.recovery_model.specs.Recovery as model
-use Rattle.recovery_model.specs.Recovery.{Refusal, Forward, Backward, refusal}
-use Rattle.run_model.specs.Answers.{refusal_line}
-use Rattle.run_model.specs.Operations.{first_of, refused_if}
+use Rattle.reference_index.specs.transcript_model.Lines as line
+use Rattle.reference_index.specs.recovery_model.File.{FileState, Save}
+use Rattle.reference_index.specs.recovery_model.Recovery as model
+use Rattle.reference_index.specs.recovery_model.Recovery.{Refusal, Forward, Backward, refusal}
+use Rattle.reference_index.specs.run_model.Answers.{refusal_line}
+use Rattle.reference_index.specs.run_model.Operations.{first_of, refused_if}
 use Rattle.reference_recovery.specs.Refusing.{early_line, used_line}
 
 map_first : (a b : Option Refusal) → option_map refusal_line (model.first_of a b) ≡ first_of (option_map refusal_line a) (option_map refusal_line b)

@@ -4,8 +4,8 @@ use Rattle.std.specs.Prelude.{map, if◌then◌else◌, Vec}
 use Rattle.std.specs.declared.alloc.Global.{Global}
 use Rattle.vms_model.specs.Ids.{Id}
 use Rattle.records_model.specs.Records.{Records, set_key}
-use Rattle.recovery_model.specs.File.{all_of}
-use Rattle.recovery_model.specs.Journal.{Entry, Changed, Settled, forward, backward}
+use Rattle.reference_index.specs.recovery_model.File.{all_of}
+use Rattle.reference_index.specs.recovery_model.Journal.{Entry, Changed, Settled, forward, backward}
 use Rattle.reference_index.specs.Standing.{key_of, value_of}
 use Rattle.reference_index.specs.declared.keys.Key.{Key}
 use Rattle.reference_index.proofs.ListLemmas.{behind_first, parts}

@@ -3,12 +3,12 @@ use Rattle.std.proofs.Common.{◌≡◌, ◌<◌, ◌≤◌, ◌+◌, ℕ, suc, 
 use Rattle.std.specs.Prelude.{option_map, map, if◌then◌else◌}
 use Rattle.vms_model.specs.Ids.{Id}
 use Rattle.records_model.specs.Records.{Change}
-use Rattle.recovery_model.specs.Images.{afters, befores}
-use Rattle.recovery_model.specs.Journal.{Entry}
-use Rattle.recovery_model.specs.Room.{Full, AftersFull, BeforesFull, free_in, full_of, has_entry, is_short, need_in, unsettled_in}
-use Rattle.run_model.specs.World.{File, state_of}
-use Rattle.run_model.specs.Operations.{first_of, refused_if}
-use Rattle.run_model.specs.Answers.{full_line, images_full}
+use Rattle.reference_index.specs.recovery_model.Images.{afters, befores}
+use Rattle.reference_index.specs.recovery_model.Journal.{Entry}
+use Rattle.reference_index.specs.recovery_model.Room.{Full, AftersFull, BeforesFull, free_in, full_of, has_entry, is_short, need_in, unsettled_in}
+use Rattle.reference_index.specs.run_model.World.{File, state_of}
+use Rattle.reference_index.specs.run_model.Operations.{first_of, refused_if}
+use Rattle.reference_index.specs.run_model.Answers.{full_line, images_full}
 use Rattle.reference_index.specs.declared.changes.Change.{Change as Kept}
 use Rattle.reference_index.specs.Standing.{changes_of}
 use Rattle.reference_index.proofs.ListLemmas.{behind_first, parts}

@@ -4,8 +4,8 @@ use Rattle.std.specs.Option.{option_map}
 use Rattle.vms_model.specs.Ids.{Id}
 use Rattle.records_model.specs.Records.{Records, set_key}
 use Rattle.records_model.specs.History.{reached}
-use Rattle.recovery_model.specs.File.{all_of}
-use Rattle.recovery_model.specs.Journal.{Entry, Changed, Settled, beyond, chosen}
+use Rattle.reference_index.specs.recovery_model.File.{all_of}
+use Rattle.reference_index.specs.recovery_model.Journal.{Entry, Changed, Settled, beyond, chosen}
 use Rattle.reference_world.specs.declared.world.Placed.{Placed}
 use Rattle.reference_world.specs.Standing.{placed_of}
 use Rattle.reference_recovery.specs.declared.rolling.Chosen.{Chosen}

@@ -1,9 +1,9 @@
 -- What refuses a recovery, as it is shown.
 use Rattle.std.specs.Prelude.{ℕ, Option, Some, None, nat_lt}
 use Rattle.vms_model.specs.Ids.{Id}
-use Rattle.transcript_model.specs.Lines as line
-use Rattle.transcript_model.specs.Lines.{Line}
-use Rattle.run_model.specs.Operations.{refused_if}
+use Rattle.reference_index.specs.transcript_model.Lines as line
+use Rattle.reference_index.specs.transcript_model.Lines.{Line}
+use Rattle.reference_index.specs.run_model.Operations.{refused_if}
 
 -- an unsettled branch that changed the file
 abbrev pub used_line : Option Id → Option Line

@@ -1,15 +1,15 @@
 -- The images of changes that stand in a journal.
 use Rattle.std.specs.Prelude.{ℕ, List, [], ◌∷◌, ◌+◌, Option}
 use Rattle.vms_model.specs.Ids.{Id}
-use Rattle.transcript_model.specs.Lines as line
-use Rattle.transcript_model.specs.Lines.{Line}
+use Rattle.reference_index.specs.transcript_model.Lines as line
+use Rattle.reference_index.specs.transcript_model.Lines.{Line}
 use Rattle.records_model.specs.Records.{Change}
 use Rattle.records_model.specs.Slots.{size_of}
-use Rattle.unit_laws.specs.Journal.{key_size}
-use Rattle.recovery_model.specs.Images.{Image}
-use Rattle.recovery_model.specs.Room.{free_in, is_short, need_in}
-use Rattle.run_model.specs.World.{File}
-use Rattle.run_model.specs.Operations.{first_of, refused_if}
+use Rattle.reference_index.specs.unit_laws.Journal.{key_size}
+use Rattle.reference_index.specs.recovery_model.Images.{Image}
+use Rattle.reference_index.specs.recovery_model.Room.{free_in, is_short, need_in}
+use Rattle.reference_index.specs.run_model.World.{File}
+use Rattle.reference_index.specs.run_model.Operations.{first_of, refused_if}
 use Rattle.reference_world.specs.declared.world.Side.{Side}
 use Rattle.reference_world.specs.declared.world.Side.TheVariants as side
 

@@ -1,7 +1,7 @@
 // The lines of a journal of images.
 ghost use Rattle.std.specs.Prelude.{◌≡◌, ◌++◌, List, [], ◌∷◌, map, IfOk};
-ghost use Rattle.transcript_model.specs.Lines as model;
-ghost use Rattle.run_model.specs.Answers as answers;
+ghost use Rattle.reference_index.specs.transcript_model.Lines as model;
+ghost use Rattle.reference_index.specs.run_model.Answers as answers;
 ghost use Rattle.reference_world.specs.Standing.{images_of, line_of, placed_of};
 
 use reference_index::{lend_value, own_value, push_front};

@@ -3,10 +3,10 @@ ghost use Rattle.std.specs.Prelude.{◌≡◌, ◌*◌, ◌+◌, ℕ, map, max a
 ghost use Rattle.std.specs.FinMap.{entries};
 ghost use Rattle.records_model.specs.Records.{Records};
 ghost use Rattle.vms_model.specs.Keys.{Number as NumberKey};
-ghost use Rattle.run_model.specs.Answers as answers;
-ghost use Rattle.run_model.specs.World as world;
+ghost use Rattle.reference_index.specs.run_model.Answers as answers;
+ghost use Rattle.reference_index.specs.run_model.World as world;
 ghost use Rattle.script_lang.specs.Statements.{recovery_of};
-ghost use Rattle.tree_model.specs.Layouts.{index_size, used_of};
+ghost use Rattle.reference_index.specs.tree_model.Layouts.{index_size, used_of};
 ghost use Rattle.reference_index.specs.Standing.{index_of, layout_of, lent_key};
 ghost use Rattle.reference_world.specs.Standing.{entry_of, file_of, kept_of, organization_of, rows_of};
 

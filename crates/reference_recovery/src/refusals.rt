@@ -1,11 +1,11 @@
 // What refuses a recovery, and the lines of a journal.
 ghost use Rattle.std.specs.Prelude.{◌≡◌, option_map, nat_lt, IfOk};
 ghost use Rattle.records_model.specs.History.{first_to_change as first_to_change_of};
-ghost use Rattle.recovery_model.specs.Recovery.{Forward, Backward, refusal as refusal_of};
-ghost use Rattle.run_model.specs.Operations as operations;
-ghost use Rattle.transcript_model.specs.Lines as line;
-ghost use Rattle.run_model.specs.Answers as answers;
-ghost use Rattle.run_model.specs.World as world;
+ghost use Rattle.reference_index.specs.recovery_model.Recovery.{Forward, Backward, refusal as refusal_of};
+ghost use Rattle.reference_index.specs.run_model.Operations as operations;
+ghost use Rattle.reference_index.specs.transcript_model.Lines as line;
+ghost use Rattle.reference_index.specs.run_model.Answers as answers;
+ghost use Rattle.reference_index.specs.run_model.World as world;
 ghost use Rattle.script_lang.specs.Statements.{recovery_of, side_of as side_said};
 ghost use Rattle.reference_world.specs.Standing.{file_of, history_of, images_of, line_of, serials_of, side_of};
 ghost use Rattle.reference_recovery.specs.Refusing.{early_line, used_line};

@@ -2,12 +2,12 @@
 ghost use Rattle.std.specs.Prelude.{◌≡◌, ◌≤◌, ◌&&◌, ℕ, List, map, option_map, take, length, IfOk};
 ghost use Rattle.std.specs.FinMap.{entries};
 ghost use Rattle.records_model.specs.Records.{Records};
-ghost use Rattle.recovery_model.specs.Journal as images;
-ghost use Rattle.recovery_model.specs.File as recovery;
-ghost use Rattle.recovery_model.specs.File.{all_of};
-ghost use Rattle.recovery_model.specs.Recovery as model;
-ghost use Rattle.run_model.specs.Answers as answers;
-ghost use Rattle.run_model.specs.World as world;
+ghost use Rattle.reference_index.specs.recovery_model.Journal as images;
+ghost use Rattle.reference_index.specs.recovery_model.File as recovery;
+ghost use Rattle.reference_index.specs.recovery_model.File.{all_of};
+ghost use Rattle.reference_index.specs.recovery_model.Recovery as model;
+ghost use Rattle.reference_index.specs.run_model.Answers as answers;
+ghost use Rattle.reference_index.specs.run_model.World as world;
 ghost use Rattle.script_lang.specs.Statements.{recovery_of};
 ghost use Rattle.script_lang.specs.declared.statement.Recovery.TheVariants.{Forward as TheForward, Backward as TheBackward};
 ghost use Rattle.vms_base.specs.Ids.{id_of};

@@ -1,9 +1,9 @@
 // The bytes of the rings of journals of images: what is free there, what changes need, and which ring is full.
 ghost use Rattle.std.specs.Prelude.{◌≡◌, ◌+◌, ◌*◌, ◌-◌, ◌<◌, ◌≤◌, ◌^◌, ◌&&◌, ℕ, List, map, option_map, length, nat_lt};
 ghost use Rattle.records_model.specs.Slots.{size_of};
-ghost use Rattle.recovery_model.specs.File.{all_of};
-ghost use Rattle.recovery_model.specs.Room as model;
-ghost use Rattle.run_model.specs.Answers as answers;
+ghost use Rattle.reference_index.specs.recovery_model.File.{all_of};
+ghost use Rattle.reference_index.specs.recovery_model.Room as model;
+ghost use Rattle.reference_index.specs.run_model.Answers as answers;
 ghost use Rattle.vms_base.specs.Ids.{id_of};
 ghost use Rattle.reference_index.specs.Standing.{change_of, changes_of};
 ghost use Rattle.reference_world.specs.Standing.{file_of, images_of, line_of, live_of, placed_of};

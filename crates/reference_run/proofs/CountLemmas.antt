@@ -1,12 +1,12 @@
 -- No statement makes a node, or takes one away.
 use Rattle.std.proofs.Common.{◌≡◌, ℕ, List, [], ◌∷◌, ◌++◌, Bool, true, false, Option, Some, None, if◌then◌else◌, refl, sym, ap, ◌∙◌, length, map, suc}
 use Rattle.std.specs.Str.{bytes_eq}
-use Rattle.transcript_model.specs.Lines as model
-use Rattle.script_model.specs.Statements.{At, Deliver, LinkDown, Settle, Statement}
-use Rattle.run_model.specs.Answers.{Hears, Task}
-use Rattle.run_model.specs.Steps.{Whole, task_effect}
-use Rattle.run_model.specs.Statements.{Asks, Does, Doubtful, Heard, Part, PartEffect, Phase, Question, Unanswered, begun_with, done_at, no_node, part_effect, phases_of, put_into, question, question_effect, refused_at_once, stops_at}
-use Rattle.run_model.specs.World.{Lost, Node, World, find_node, with_node}
+use Rattle.world_laws.specs.transcript_model.Lines as model
+use Rattle.script_lang.specs.script_model.Statements.{At, Deliver, LinkDown, Settle, Statement}
+use Rattle.world_laws.specs.run_model.Answers.{Hears, Task}
+use Rattle.world_laws.specs.run_model.Steps.{Whole, task_effect}
+use Rattle.world_laws.specs.run_model.Statements.{Asks, Does, Doubtful, Heard, Part, PartEffect, Phase, Question, Unanswered, begun_with, done_at, no_node, part_effect, phases_of, put_into, question, question_effect, refused_at_once, stops_at}
+use Rattle.world_laws.specs.run_model.World.{Lost, Node, World, find_node, with_node}
 use Rattle.reference_world.specs.Standing.{line_of}
 use Rattle.reference_law.specs.Whole.{StatementShown, begins_shown, parts_shown, phases_shown, shown_whole}
 use Rattle.reference_tasks.specs.declared.tasks.TaskShown.{TaskShown}

@@ -1,8 +1,8 @@
 -- A clock is set to a moment that can be read, which leaves time enough for all that a script may do.
 use Rattle.std.proofs.Common.{◌≡◌, ℕ, ◌*◌, ◌≤◌, List, arith}
-use Rattle.script_model.specs.Grammar.{reading}
-use Rattle.script_model.specs.Statements as said
-use Rattle.script_model.specs.Statements.{Request, Says, Statement}
+use Rattle.script_lang.specs.script_model.Grammar.{reading}
+use Rattle.script_lang.specs.script_model.Statements as said
+use Rattle.script_lang.specs.script_model.Statements.{Request, Says, Statement}
 use Rattle.script_laws.specs.Clocks.{IsEarly}
 use Rattle.script_laws.proofs.EarlyLemmas.{reading_early}
 use Rattle.reference_tasks.specs.Serving.{IsSetEarly}

@@ -1,11 +1,11 @@
 -- What a rack has to spare.
 use Rattle.std.proofs.Common.{◌≡◌, ℕ, ◌≤◌, List, [], ◌∷◌, refl, sym, subst}
-use Rattle.run_model.specs.Answers.{Task}
-use Rattle.run_model.specs.Steps.{Whole}
-use Rattle.run_model.specs.Statements.{Does, begun_with, part_effect}
-use Rattle.script_model.specs.Statements.{Settle}
+use Rattle.world_laws.specs.run_model.Answers.{Task}
+use Rattle.world_laws.specs.run_model.Steps.{Whole}
+use Rattle.world_laws.specs.run_model.Statements.{Does, begun_with, part_effect}
+use Rattle.script_lang.specs.script_model.Statements.{Settle}
 use Rattle.statement_steps.proofs.Keeping.{begun_keeps}
-use Rattle.run_model.specs.World.{Lost, Node, Shared, World}
+use Rattle.world_laws.specs.run_model.World.{Lost, Node, Shared, World}
 use Rattle.world_laws.specs.Nodes.{StepsKeepNodes, StepsKeepOthers}
 use Rattle.statement_steps.specs.Doing.{AllKept}
 use Rattle.reference_tasks.proofs.UnitsLemmas.{less_units}

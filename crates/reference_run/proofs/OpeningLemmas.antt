@@ -2,8 +2,8 @@
 use Rattle.std.proofs.Common.{◌≡◌, ℕ, ◌*◌, List, [], ◌∷◌, Bool, false, Option, Some, None, if◌then◌else◌, refl, sym, ap, subst, ◌∙◌, arith}
 use Rattle.std.specs.Prelude.{slice_index_or}
 use Rattle.std.proofs.lemmas.Slice.Eq.{bytes_eq-Decides}
-use Rattle.run_model.specs.Rows.{zeros}
-use Rattle.run_model.specs.World.{AreUnitsOf, DiskCounts, File, IsLogInOrder, IsOpening, Node, Shared, opened}
+use Rattle.world_laws.specs.run_model.Rows.{zeros}
+use Rattle.world_laws.specs.run_model.World.{AreUnitsOf, DiskCounts, File, IsLogInOrder, IsOpening, Node, Shared, opened}
 use Rattle.statement_steps.specs.Doing.{AllKept}
 use Rattle.world_laws.specs.Nodes.{IsKeptNode, NodesAreKept}
 use Rattle.reference_law.specs.Whole.{PlaceSaid, nodes_at, opening, no_counts as place_counts}

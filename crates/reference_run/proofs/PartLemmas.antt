@@ -2,13 +2,13 @@
 use Rattle.std.proofs.Common.{◌≡◌, ℕ, List, [], ◌∷◌, ◌++◌, append_assoc, Bool, true, false, Option, Some, None, if◌then◌else◌, refl, sym, ap, subst, ◌∙◌, map, arith}
 use Rattle.std.specs.Prelude.{not, ◌||◌}
 use Rattle.std.specs.Str.{bytes_eq}
-use Rattle.transcript_model.specs.Lines as model
-use Rattle.script_model.specs.Statements.{Request, Clock}
-use Rattle.run_model.specs.Answers.{Service, Serves as ServesRequest, Task, task_service, service}
-use Rattle.run_model.specs.Steps.{NodeStep, TaskEffect, Whole, task_effect, whole}
-use Rattle.run_model.specs.Operations.{first_of, refused_if}
-use Rattle.run_model.specs.Statements.{Does, Part, PartEffect, named_node, no_node, part_effect, put_into, stops_at}
-use Rattle.run_model.specs.World.{DiskCounts, Lost, Node, Shared, World, disk_of, find_node, with_node}
+use Rattle.world_laws.specs.transcript_model.Lines as model
+use Rattle.script_lang.specs.script_model.Statements.{Request, Clock}
+use Rattle.world_laws.specs.run_model.Answers.{Service, Serves as ServesRequest, Task, task_service, service}
+use Rattle.world_laws.specs.run_model.Steps.{NodeStep, TaskEffect, Whole, task_effect, whole}
+use Rattle.world_laws.specs.run_model.Operations.{first_of, refused_if}
+use Rattle.world_laws.specs.run_model.Statements.{Does, Part, PartEffect, named_node, no_node, part_effect, put_into, stops_at}
+use Rattle.world_laws.specs.run_model.World.{DiskCounts, Lost, Node, Shared, World, disk_of, find_node, with_node}
 use Rattle.statement_steps.specs.Doing.{AllKept}
 use Rattle.statement_steps.proofs.Keeping.{step_keeps}
 use Rattle.world_laws.specs.Nodes.{StepsKeepNodes, StepsKeepOthers}

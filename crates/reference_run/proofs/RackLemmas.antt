@@ -1,13 +1,13 @@
 -- Nodes of a rack, one after another.
 use Rattle.std.proofs.Common.{◌-◌, get_or, take, drop, Result, Ok, Err, IfOk, Vec, Global, ◌≡◌, ℕ, ◌≤◌, List, [], ◌∷◌, Bool, true, false, Option, Some, None, if◌then◌else◌, refl, sym, ap, subst, ◌∙◌, map, length, arith}
 use Rattle.std.specs.Str.{bytes_eq}
-use Rattle.run_model.specs.Answers.{Service}
-use Rattle.run_model.specs.World.{Node, Shared, find_node, with_node}
+use Rattle.world_laws.specs.run_model.Answers.{Service}
+use Rattle.world_laws.specs.run_model.World.{Node, Shared, find_node, with_node}
 use Rattle.reference_world.specs.declared.line.Line.{Line}
 use Rattle.reference_tasks.specs.Tasks.{Performs}
 use Rattle.reference_tasks.specs.Serving.{HasUnits, Serves}
-use Rattle.reference_node.specs.Nodes.{node_of}
-use Rattle.reference_node.specs.declared.node.Node.{Node as Kept}
+use Rattle.reference_tasks.specs.reference_node.Nodes.{node_of}
+use Rattle.reference_tasks.specs.reference_node.declared.node.Node.{Node as Kept}
 use Rattle.reference_tasks.proofs.UnitsLemmas.{less_units}
 use Rattle.reference_tasks.specs.declared.tasks.TaskShown.{TaskShown}
 use Rattle.reference_run.proofs.FitLemmas.{have_less}

@@ -1,8 +1,8 @@
 -- The lines of a script, one after another.
 use Rattle.std.proofs.Common.{◌≡◌, ℕ, ◌+◌, ◌<◌, List, [], ◌∷◌, Bool, true, false, Some, None, Result, IfOk, sym, ◌∙◌, ap, arith, length, take, drop}
 use Rattle.std.proofs.lemmas.Result.{IfOk-weaker}
-use Rattle.transcript_model.specs.Script.{ScriptLine, lines_of}
-use Rattle.run_model.specs.Transcript.{Entry, Done}
+use Rattle.world_laws.specs.transcript_model.Script.{ScriptLine, lines_of}
+use Rattle.world_laws.specs.run_model.Transcript.{Entry, Done}
 use Rattle.reference_run.specs.declared.script.Reading.{Reading}
 use Rattle.reference_run.specs.declared.script.Ending.{Ending}
 use Rattle.reference_run.specs.declared.script.Ending.TheVariants as ending

@@ -4,17 +4,17 @@ use Rattle.std.specs.Prelude.{not}
 use Rattle.std.specs.Option.{option_map}
 use Rattle.std.specs.Str.{bytes_eq}
 use Rattle.vms_model.specs.Ids.{Id}
-use Rattle.transcript_model.specs.Lines as model
-use Rattle.script_model.specs.Statements.{At, Deliver, LinkDown, Statement, Request, Clock}
-use Rattle.commit_protocol.specs.Allowed.{is_prepared}
-use Rattle.commit_protocol.specs.Messages.{Message}
-use Rattle.commit_protocol.specs.Table.{Branch, Key, coordinator_of}
-use Rattle.commit_protocol.specs.World.{arranged}
-use Rattle.run_model.specs.Answers as answers
-use Rattle.run_model.specs.Operations.{first_of, refused_if}
-use Rattle.run_model.specs.Steps.{Whole}
-use Rattle.run_model.specs.Statements.{Asks, Does, Part, PartEffect, Phase, Question, Heard, Unanswered, Doubtful, all_questions, answer_of, asked, asking, begun_with, ended_by, is_up, message_at, named_node, nothing_done, other_node, part_effect, phases_at, phases_of, question, question_effect, questions_of, refused_at_once, where_up}
-use Rattle.run_model.specs.World.{Lost, Node, World, find_node}
+use Rattle.world_laws.specs.transcript_model.Lines as model
+use Rattle.script_lang.specs.script_model.Statements.{At, Deliver, LinkDown, Statement, Request, Clock}
+use Rattle.net_wire.specs.commit_protocol.Allowed.{is_prepared}
+use Rattle.net_wire.specs.commit_protocol.Messages.{Message}
+use Rattle.net_wire.specs.commit_protocol.Table.{Branch, Key, coordinator_of}
+use Rattle.net_wire.specs.commit_protocol.World.{arranged}
+use Rattle.world_laws.specs.run_model.Answers as answers
+use Rattle.world_laws.specs.run_model.Operations.{first_of, refused_if}
+use Rattle.world_laws.specs.run_model.Steps.{Whole}
+use Rattle.world_laws.specs.run_model.Statements.{Asks, Does, Part, PartEffect, Phase, Question, Heard, Unanswered, Doubtful, all_questions, answer_of, asked, asking, begun_with, ended_by, is_up, message_at, named_node, nothing_done, other_node, part_effect, phases_at, phases_of, question, question_effect, questions_of, refused_at_once, where_up}
+use Rattle.world_laws.specs.run_model.World.{Lost, Node, World, find_node}
 use Rattle.reference_world.specs.declared.line.Line.{Line}
 use Rattle.reference_world.specs.Standing.{line_of}
 use Rattle.reference_law.specs.Whole.{StatementShown, begins_shown, parts_shown, phases_shown, shown_whole}

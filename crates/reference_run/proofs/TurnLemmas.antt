@@ -1,13 +1,13 @@
 -- A line of a script, by what it says.
 use Rattle.std.proofs.Common.{◌≡◌, ℕ, ◌+◌, ◌≤◌, length, List, [], ◌∷◌, ◌++◌, true, false, arith, refl, sym, ◌∙◌, ap}
 use Rattle.std.specs.Prelude.{map}
-use Rattle.transcript_model.specs.Lines as line
-use Rattle.transcript_model.specs.Lines.{lines_text, Line as Line_}
-use Rattle.transcript_model.specs.Script.{ScriptLine, size_of}
-use Rattle.script_model.specs.Statements.{Statement, Blank, Says, Bad}
-use Rattle.script_model.specs.Grammar.{reading}
-use Rattle.run_model.specs.World.{World}
-use Rattle.run_model.specs.Transcript.{Entry, BadLine, number_after, text_of}
+use Rattle.world_laws.specs.transcript_model.Lines as line
+use Rattle.world_laws.specs.transcript_model.Lines.{lines_text, Line as Line_}
+use Rattle.world_laws.specs.transcript_model.Script.{ScriptLine, size_of}
+use Rattle.script_lang.specs.script_model.Statements.{Statement, Blank, Says, Bad}
+use Rattle.script_lang.specs.script_model.Grammar.{reading}
+use Rattle.world_laws.specs.run_model.World.{World}
+use Rattle.world_laws.specs.run_model.Transcript.{Entry, BadLine, number_after, text_of}
 use Rattle.reference_world.specs.declared.line.Line.{Line}
 use Rattle.reference_run.specs.declared.rack.Rack.{Rack}
 use Rattle.reference_run.specs.declared.script.Reading.{Reading as Kept}

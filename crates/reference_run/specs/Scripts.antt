@@ -1,8 +1,8 @@
 -- What is kept of the lines of a script, and what a line does.
 use Rattle.std.specs.Prelude.{◌≡◌, ℕ, ◌+◌, ◌<◌, List, [], ◌∷◌, Bool, true, false, Option, Some, None, length, take, drop}
-use Rattle.transcript_model.specs.Lines as model
-use Rattle.transcript_model.specs.Script.{ScriptLine, lines_of}
-use Rattle.run_model.specs.Transcript.{Entry, Exit, Done, BadLine, TooLong, number_after, size_before, text_of}
+use Rattle.world_laws.specs.transcript_model.Lines as model
+use Rattle.world_laws.specs.transcript_model.Script.{ScriptLine, lines_of}
+use Rattle.world_laws.specs.run_model.Transcript.{Entry, Exit, Done, BadLine, TooLong, number_after, size_before, text_of}
 use Rattle.reference_run.specs.declared.script.Reading.{Reading}
 use Rattle.reference_run.specs.declared.script.Ending.{Ending}
 use Rattle.reference_run.specs.declared.script.Ending.TheVariants as ending

@@ -3,18 +3,18 @@ use Rattle.std.specs.Prelude.{◌≡◌, ℕ, ◌-◌, ◌*◌, List, [], ◌∷
 use Rattle.std.specs.List.{AllByRecursion}
 use Rattle.std.specs.Str.{bytes_eq}
 use Rattle.vms_model.specs.Ids.{Id}
-use Rattle.script_model.specs.Statements as said
-use Rattle.script_model.specs.Statements.{Statement}
-use Rattle.transcript_model.specs.Lines as model
-use Rattle.commit_protocol.specs.Messages.{Message}
-use Rattle.commit_protocol.specs.Table.{Key}
-use Rattle.run_model.specs.Answers as answers
-use Rattle.run_model.specs.Answers.{Service}
-use Rattle.run_model.specs.Steps.{Whole}
-use Rattle.run_model.specs.Statements as statements
-use Rattle.run_model.specs.Statements.{answer_of, part_effect}
-use Rattle.run_model.specs.World as world
-use Rattle.run_model.specs.World.{World, Lost, find_node, with_node}
+use Rattle.script_lang.specs.script_model.Statements as said
+use Rattle.script_lang.specs.script_model.Statements.{Statement}
+use Rattle.world_laws.specs.transcript_model.Lines as model
+use Rattle.net_wire.specs.commit_protocol.Messages.{Message}
+use Rattle.net_wire.specs.commit_protocol.Table.{Key}
+use Rattle.world_laws.specs.run_model.Answers as answers
+use Rattle.world_laws.specs.run_model.Answers.{Service}
+use Rattle.world_laws.specs.run_model.Steps.{Whole}
+use Rattle.world_laws.specs.run_model.Statements as statements
+use Rattle.world_laws.specs.run_model.Statements.{answer_of, part_effect}
+use Rattle.world_laws.specs.run_model.World as world
+use Rattle.world_laws.specs.run_model.World.{World, Lost, find_node, with_node}
 use Rattle.vms_base.specs.Ids.{id_of}
 use Rattle.script_lang.specs.declared.statement.Request.{Request}
 use Rattle.script_lang.specs.declared.statement.Request.TheVariants as request
@@ -22,7 +22,7 @@ use Rattle.statement_steps.specs.Doing.{AllKept}
 use Rattle.reference_world.specs.declared.line.Line.{Line}
 use Rattle.reference_world.specs.Standing.{line_of}
 use Rattle.reference_law.specs.Whole.{PlaceSaid, StatementShown, parts_shown, phases_shown, shown_whole}
-use Rattle.reference_node.specs.Nodes.{node_of}
+use Rattle.reference_tasks.specs.reference_node.Nodes.{node_of}
 use Rattle.reference_branches.specs.Branches.{shared_of}
 use Rattle.reference_tasks.specs.Tasks.{Performs}
 use Rattle.reference_tasks.specs.Serving.{HasUnits, IsSetEarly, Serves}

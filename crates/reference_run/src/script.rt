@@ -1,8 +1,8 @@
 // A whole script, line after line.
 ghost use Rattle.std.specs.Prelude.{true, None, ◌≡◌, ◌+◌, ◌*◌, ◌<◌, ◌≤◌, ℕ, List, [], ◌∷◌, length, take, drop, map, codes, if◌then◌else◌, OnOk, IfOk};
 ghost use Rattle.vms_model.specs.Limits.{line_limit, line_size_limit, script_size_limit};
-ghost use Rattle.transcript_model.specs.Script.{ScriptLine, lines_of};
-ghost use Rattle.run_model.specs.Transcript.{Entry};
+ghost use Rattle.world_laws.specs.transcript_model.Script.{ScriptLine, lines_of};
+ghost use Rattle.world_laws.specs.run_model.Transcript.{Entry};
 ghost use Rattle.script_lang.specs.declared.literals.Literals.{Literals as LiteralsSaid};
 ghost use Rattle.reference_law.specs.Whole.{is_in_limits, opening, run_of};
 ghost use Rattle.reference_run.specs.Served.{IsFit, place_of, units_left, world_of};

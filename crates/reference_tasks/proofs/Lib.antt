@@ -4,3 +4,4 @@ pub mod UnitsLemmas
 pub mod RequestLemmas
 pub mod RequestUnits
 pub mod ServedUnits
+pub mod reference_node

@@ -1,7 +1,7 @@
 -- Requests that tell the table of their node an event.
 use Rattle.std.proofs.Common.{◌≡◌, ℕ, true, false, None, refl}
-use Rattle.run_model.specs.Answers.{powers, refused_before_reading, service}
-use Rattle.run_model.specs.World.{Node, Shared}
+use Rattle.reference_index.specs.run_model.Answers.{powers, refused_before_reading, service}
+use Rattle.reference_index.specs.run_model.World.{Node, Shared}
 use Rattle.script_lang.specs.declared.statement.Form.{Form}
 use Rattle.script_lang.specs.declared.literals.Literals.{Literals}
 use Rattle.script_lang.specs.declared.statement.Named.{Named}

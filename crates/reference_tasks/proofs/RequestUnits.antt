@@ -5,20 +5,20 @@ use Rattle.std.specs.Option.{option_and_then}
 use Rattle.std.proofs.lemmas.Bool.Decides.{nat_tests}
 use Rattle.vms_model.specs.Keys.{Key}
 use Rattle.vms_model.specs.Times.{CanBeWritten}
-use Rattle.transcript_model.specs.Lines as line
-use Rattle.script_model.specs.Statements as said
-use Rattle.script_model.specs.Statements.{Request}
+use Rattle.reference_index.specs.transcript_model.Lines as line
+use Rattle.script_lang.specs.script_model.Statements as said
+use Rattle.script_lang.specs.script_model.Statements.{Request}
 use Rattle.records_model.specs.Records.{Change}
 use Rattle.unit_laws.specs.Journal.{JournalEntry, end_of, entries_for, entries_size, find_unit, owed, units_in}
 use Rattle.unit_laws.proofs.TrimLemmas.{trim_keeps_units}
-use Rattle.commit_protocol.specs.Table.{Branch}
+use Rattle.log_laws.specs.commit_protocol.Table.{Branch}
 use Rattle.log_laws.specs.Slots.{slot_records}
-use Rattle.run_model.specs.Answers as answers
-use Rattle.run_model.specs.Answers.{branch_labelled, changes_at, free_journal, journal_full, keys_at, more_changes, more_locks, of_file, operation_act, operation_refused, owed_first, service}
-use Rattle.run_model.specs.Operations.{file_full, first_of, keys_held, refused_if}
-use Rattle.run_model.specs.Steps.{node_after, node_after_rows}
-use Rattle.run_model.specs.World as world
-use Rattle.run_model.specs.World.{Node, Shared, acted}
+use Rattle.reference_index.specs.run_model.Answers as answers
+use Rattle.reference_index.specs.run_model.Answers.{branch_labelled, changes_at, free_journal, journal_full, keys_at, more_changes, more_locks, of_file, operation_act, operation_refused, owed_first, service}
+use Rattle.reference_index.specs.run_model.Operations.{file_full, first_of, keys_held, refused_if}
+use Rattle.reference_index.specs.run_model.Steps.{node_after, node_after_rows}
+use Rattle.reference_index.specs.run_model.World as world
+use Rattle.reference_index.specs.run_model.World.{Node, Shared, acted}
 use Rattle.reference_tasks.specs.Serving.{HasUnits, IsSetEarly}
 use Rattle.reference_tasks.proofs.UnitsLemmas.{less_units}
 

@@ -1,12 +1,12 @@
 -- A task that is served at a node.
 use Rattle.std.proofs.Common.{◌≡◌, ◌+◌, List, [], ◌∷◌, ◌++◌, append_assoc, Bool, true, false, Some, None, if◌then◌else◌, refl, sym, ap, subst, ◌∙◌, map}
 use Rattle.std.specs.Prelude.{not, ◌||◌}
-use Rattle.transcript_model.specs.Lines as line
-use Rattle.run_model.specs.Answers.{Service, powers, refused_before_reading, spoils}
-use Rattle.run_model.specs.Operations.{refused_if}
-use Rattle.run_model.specs.Steps.{lines_of_rows, node_after, node_after_rows, occupied, ready_node, shared_after_rows, shared_then, with_unknown_volume}
-use Rattle.run_model.specs.World.{Lost, Node, Shared, powered}
-use Rattle.world_laws.specs.Nodes.{IsKeptDisk, IsKeptNode}
+use Rattle.reference_index.specs.transcript_model.Lines as line
+use Rattle.reference_index.specs.run_model.Answers.{Service, powers, refused_before_reading, spoils}
+use Rattle.reference_index.specs.run_model.Operations.{refused_if}
+use Rattle.reference_index.specs.run_model.Steps.{lines_of_rows, node_after, node_after_rows, occupied, ready_node, shared_after_rows, shared_then, with_unknown_volume}
+use Rattle.reference_index.specs.run_model.World.{Lost, Node, Shared, powered}
+use Rattle.reference_node.specs.world_laws.Nodes.{IsKeptDisk, IsKeptNode}
 use Rattle.reference_world.specs.Standing.{line_of}
 use Rattle.reference_world.specs.declared.line.Line.{Line}
 use Rattle.reference_node.specs.Nodes.{Does}

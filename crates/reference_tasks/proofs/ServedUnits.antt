@@ -1,10 +1,10 @@
 -- What a node has to spare behind a request that was served.
 use Rattle.std.proofs.Common.{◌≡◌, ℕ, ◌+◌, ◌≤◌, List, [], ◌∷◌, ◌++◌, Bool, true, false, Option, Some, None, if◌then◌else◌, Result, Ok, Err, refl, sym, ap, subst, ◌∙◌, map, arith}
-use Rattle.commit_protocol.specs.Messages.{Name, Reply}
-use Rattle.commit_protocol.specs.Rows as rows
-use Rattle.commit_protocol.specs.Rows.{row}
-use Rattle.commit_protocol.specs.Table.{Act as TableAct, Branch}
-use Rattle.script_model.specs.Statements as said
+use Rattle.log_laws.specs.commit_protocol.Messages.{Name, Reply}
+use Rattle.log_laws.specs.commit_protocol.Rows as rows
+use Rattle.log_laws.specs.commit_protocol.Rows.{row}
+use Rattle.log_laws.specs.commit_protocol.Table.{Act as TableAct, Branch}
+use Rattle.script_lang.specs.script_model.Statements as said
 use Rattle.script_lang.specs.declared.literals.Literals.{Literals}
 use Rattle.script_lang.specs.declared.statement.Request.{Request}
 use Rattle.script_lang.specs.declared.statement.Request.TheVariants as request
@@ -13,13 +13,13 @@ use Rattle.std.specs.Option.{option_and_then}
 use Rattle.std.specs.Prelude.{option_map, IfOk, OnOk}
 use Rattle.vms_model.specs.Ids.{Id}
 use Rattle.vms_model.specs.Transactions.{Aborted}
-use Rattle.transcript_model.specs.Lines as line
-use Rattle.run_model.specs.Answers as answers
-use Rattle.run_model.specs.Answers.{Row, Service, Telling, adds, all_acted, all_shared, begins, boot_rows, just, left_active, powers, refused_before_reading, service, silent, spoils, starts, table_rows, told_if, told_rows, unit_key}
-use Rattle.run_model.specs.Steps.{begun, node_after, node_after_rows, ready_node, whole, with_unknown_volume}
-use Rattle.run_model.specs.World as world
-use Rattle.run_model.specs.World.{Act, Boots, Label, Lost, Node, Shared, acted, powered, tm_of}
-use Rattle.commit_protocol.specs.World.{undo_all}
+use Rattle.reference_index.specs.transcript_model.Lines as line
+use Rattle.reference_index.specs.run_model.Answers as answers
+use Rattle.reference_index.specs.run_model.Answers.{Row, Service, Telling, adds, all_acted, all_shared, begins, boot_rows, just, left_active, powers, refused_before_reading, service, silent, spoils, starts, table_rows, told_if, told_rows, unit_key}
+use Rattle.reference_index.specs.run_model.Steps.{begun, node_after, node_after_rows, ready_node, whole, with_unknown_volume}
+use Rattle.reference_index.specs.run_model.World as world
+use Rattle.reference_index.specs.run_model.World.{Act, Boots, Label, Lost, Node, Shared, acted, powered, tm_of}
+use Rattle.log_laws.specs.commit_protocol.World.{undo_all}
 use Rattle.tm_types.specs.Parts.{reply_of}
 use Rattle.reference_world.specs.declared.line.Line.{Line}
 use Rattle.reference_tasks.specs.Serving.{RestsNot, HasUnits, IsSetEarly, Serves}

@@ -1,14 +1,14 @@
 -- Tasks besides requests.
 use Rattle.std.proofs.Common.{◌≡◌, ℕ, ◌+◌, List, [], ◌∷◌, ◌++◌, append_assoc, Bool, true, false, Some, None, refl, sym, ap, ◌∙◌, map}
 use Rattle.std.specs.Prelude.{not, ◌||◌}
-use Rattle.transcript_model.specs.Lines as line
-use Rattle.commit_protocol.specs.Messages.{Message}
-use Rattle.commit_protocol.specs.Rows.{Event, Clock, Got, LinkDown, RunDown}
-use Rattle.run_model.specs.Answers as answers
-use Rattle.run_model.specs.Answers.{Restarts, Service, boot_rows, bootable, occupies, outcome_told, prepared_lines, refused_before_reading, task_service}
-use Rattle.run_model.specs.Operations.{first_of, refused_if}
-use Rattle.run_model.specs.Steps.{lines_of_rows, node_after, node_after_rows, occupied, ready_node, shared_after_rows, shared_then}
-use Rattle.run_model.specs.World.{Boots, Lost, Node, Shared, acted, powered}
+use Rattle.reference_index.specs.transcript_model.Lines as line
+use Rattle.log_laws.specs.commit_protocol.Messages.{Message}
+use Rattle.log_laws.specs.commit_protocol.Rows.{Event, Clock, Got, LinkDown, RunDown}
+use Rattle.reference_index.specs.run_model.Answers as answers
+use Rattle.reference_index.specs.run_model.Answers.{Restarts, Service, boot_rows, bootable, occupies, outcome_told, prepared_lines, refused_before_reading, task_service}
+use Rattle.reference_index.specs.run_model.Operations.{first_of, refused_if}
+use Rattle.reference_index.specs.run_model.Steps.{lines_of_rows, node_after, node_after_rows, occupied, ready_node, shared_after_rows, shared_then}
+use Rattle.reference_index.specs.run_model.World.{Boots, Lost, Node, Shared, acted, powered}
 use Rattle.reference_world.specs.Standing.{line_of}
 use Rattle.reference_world.specs.declared.line.Line.{Line}
 use Rattle.reference_tasks.specs.Tasks.{IsTelling, Performs}

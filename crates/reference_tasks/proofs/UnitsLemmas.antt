@@ -1,11 +1,11 @@
 -- What a node has to spare, before and behind what it does.
 use Rattle.std.proofs.Common.{◌≡◌, ℕ, ◌+◌, ◌*◌, ◌≤◌, List, [], ◌∷◌, Bool, true, false, if◌then◌else◌, refl, sym, ap, subst, ◌∙◌, map, arith}
-use Rattle.commit_protocol.specs.Rows.{Event, row}
-use Rattle.commit_protocol.specs.Table.{Act, Accepts, Acknowledges, Leaves, Notes, Prepares, Prints, Releases, Sends, Settles, Undoes}
-use Rattle.commit_protocol.specs.World.{undo_all}
-use Rattle.run_model.specs.Answers.{Service, left_active, powers, spoils, table_rows, unit_key}
-use Rattle.run_model.specs.Steps.{node_after_rows, ready_node, with_unknown_volume}
-use Rattle.run_model.specs.World.{Boots, Lost, Node, Shared, Tables, acted, next_moment, powered, tm_of}
+use Rattle.log_laws.specs.commit_protocol.Rows.{Event, row}
+use Rattle.log_laws.specs.commit_protocol.Table.{Act, Accepts, Acknowledges, Leaves, Notes, Prepares, Prints, Releases, Sends, Settles, Undoes}
+use Rattle.log_laws.specs.commit_protocol.World.{undo_all}
+use Rattle.reference_index.specs.run_model.Answers.{Service, left_active, powers, spoils, table_rows, unit_key}
+use Rattle.reference_index.specs.run_model.Steps.{node_after_rows, ready_node, with_unknown_volume}
+use Rattle.reference_index.specs.run_model.World.{Boots, Lost, Node, Shared, Tables, acted, next_moment, powered, tm_of}
 use Rattle.reference_world.specs.declared.line.Line.{Line}
 use Rattle.reference_node.specs.Telling.{AppliesEvent, HasTime, Restarts}
 use Rattle.reference_node.proofs.TellLemmas.{less_time}

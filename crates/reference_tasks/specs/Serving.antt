@@ -1,11 +1,11 @@
 -- Requests: what a node has to spare for them, which of them tell its table an event, and how they are served.
 use Rattle.std.specs.Prelude.{◌≡◌, ℕ, ◌+◌, ◌*◌, ◌^◌, ◌<◌, ◌≤◌, List, [], ◌∷◌, ◌++◌, map}
 use Rattle.vms_model.specs.Times.{CanBeWritten}
-use Rattle.script_model.specs.Statements as said
-use Rattle.run_model.specs.Answers.{Service}
-use Rattle.run_model.specs.Steps.{Whole, service_effect}
-use Rattle.run_model.specs.World as world
-use Rattle.run_model.specs.World.{Node, Shared}
+use Rattle.script_lang.specs.script_model.Statements as said
+use Rattle.reference_index.specs.run_model.Answers.{Service}
+use Rattle.reference_index.specs.run_model.Steps.{Whole, service_effect}
+use Rattle.reference_index.specs.run_model.World as world
+use Rattle.reference_index.specs.run_model.World.{Node, Shared}
 use Rattle.reference_world.specs.Standing.{line_of}
 use Rattle.reference_world.specs.declared.line.Line.{Line}
 use Rattle.script_lang.specs.declared.statement.Request.{Request}

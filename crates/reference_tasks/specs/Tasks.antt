@@ -1,12 +1,12 @@
 -- What is asked of a node besides requests.
 use Rattle.std.specs.Prelude.{◌≡◌, List, [], ◌++◌, true, false, None, map}
-use Rattle.transcript_model.specs.Lines as line
-use Rattle.commit_protocol.specs.Rows.{Event, Clock, Got, LinkDown, RunDown, Start, Authorise, Begin, JoinRm, Changed, EndTrans, EndBranch, AbortBranch, Replied, InquireBranch, row}
-use Rattle.run_model.specs.Answers as answers
-use Rattle.run_model.specs.Answers.{Service, occupies, powers, refused_before_reading, table_rows}
-use Rattle.run_model.specs.Operations.{refused_if}
-use Rattle.run_model.specs.Steps.{Whole, lines_of_rows, node_after_rows, service_effect, shared_after_rows}
-use Rattle.run_model.specs.World.{Lost, Node, Shared, tm_of}
+use Rattle.reference_index.specs.transcript_model.Lines as line
+use Rattle.log_laws.specs.commit_protocol.Rows.{Event, Clock, Got, LinkDown, RunDown, Start, Authorise, Begin, JoinRm, Changed, EndTrans, EndBranch, AbortBranch, Replied, InquireBranch, row}
+use Rattle.reference_index.specs.run_model.Answers as answers
+use Rattle.reference_index.specs.run_model.Answers.{Service, occupies, powers, refused_before_reading, table_rows}
+use Rattle.reference_index.specs.run_model.Operations.{refused_if}
+use Rattle.reference_index.specs.run_model.Steps.{Whole, lines_of_rows, node_after_rows, service_effect, shared_after_rows}
+use Rattle.reference_index.specs.run_model.World.{Lost, Node, Shared, tm_of}
 use Rattle.net_wire.specs.Messages.{message_of}
 use Rattle.reference_world.specs.Standing.{line_of}
 use Rattle.reference_tasks.specs.declared.tasks.Task.{Task}

@@ -4,5 +4,6 @@
 mod serving;
 mod tasks;
 
+pub use reference_node::Node;
 pub use serving::serve;
 pub use tasks::{Task, TaskShown, perform};

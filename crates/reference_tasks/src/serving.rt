@@ -1,12 +1,12 @@
 // What a node serves of requests.
 ghost use Rattle.std.specs.Prelude.{◌≡◌, ◌+◌, ◌<◌, ◌≤◌, ◌^◌, ℕ, true, false, None, length, OnOk, IfOk};
 ghost use Rattle.vms_model.specs.Limits.{slot_limit};
-ghost use Rattle.run_model.specs.Steps.{ready_node};
-ghost use Rattle.run_model.specs.Answers.{powers, refused_before_reading, service, spoils};
-ghost use Rattle.run_model.specs.World as world;
+ghost use Rattle.reference_index.specs.run_model.Steps.{ready_node};
+ghost use Rattle.reference_index.specs.run_model.Answers.{powers, refused_before_reading, service, spoils};
+ghost use Rattle.reference_index.specs.run_model.World as world;
 ghost use Rattle.script_lang.specs.declared.literals.Literals.{Literals as LiteralsSaid};
 ghost use Rattle.script_lang.specs.Statements.{request_of};
-ghost use Rattle.world_laws.specs.Nodes.{IsKeptDisk, IsKeptNode};
+ghost use Rattle.reference_node.specs.world_laws.Nodes.{IsKeptDisk, IsKeptNode};
 ghost use Rattle.reference_branches.specs.Branches.{shared_of};
 ghost use Rattle.reference_node.specs.Nodes.{node_of, Does};
 ghost use Rattle.reference_node.specs.Telling.{CanTell, HasTime};

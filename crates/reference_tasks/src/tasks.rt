@@ -1,12 +1,12 @@
 // What is asked of a node besides requests.
 ghost use Rattle.std.specs.Prelude.{◌≡◌, ◌+◌, ℕ, [], false, true, map, OnOk, IfOk};
-ghost use Rattle.transcript_model.specs.Lines as model;
-ghost use Rattle.run_model.specs.Answers as answers;
-ghost use Rattle.run_model.specs.Answers.{Service, task_service};
+ghost use Rattle.reference_index.specs.transcript_model.Lines as model;
+ghost use Rattle.reference_index.specs.run_model.Answers as answers;
+ghost use Rattle.reference_index.specs.run_model.Answers.{Service, task_service};
 ghost use Rattle.vms_base.specs.Outcomes.{outcome_of};
 ghost use Rattle.net_wire.specs.Messages.{kind_of, message_of};
 ghost use Rattle.tm_types.specs.Events.{event_of};
-ghost use Rattle.world_laws.specs.Nodes.{IsKeptNode};
+ghost use Rattle.reference_node.specs.world_laws.Nodes.{IsKeptNode};
 ghost use Rattle.reference_world.specs.Standing.{line_of};
 ghost use Rattle.reference_node.specs.Nodes.{node_of};
 ghost use Rattle.reference_branches.specs.Branches.{shared_of};

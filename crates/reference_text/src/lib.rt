@@ -7,9 +7,9 @@ ghost use Rattle.vms_model.specs.Texts.{id_text, is_plain as is_plain_byte, hex_
 ghost use Rattle.vms_model.specs.Keys.{key_text};
 ghost use Rattle.vms_model.specs.Transactions.{reason_text};
 ghost use Rattle.vms_base.specs.Outcomes.{outcome_of, reason_of};
-ghost use Rattle.transcript_model.specs.Lines as model;
+ghost use Rattle.reference_index.specs.transcript_model.Lines as model;
 ghost use Rattle.net_wire.specs.Messages.{kind_of, message_of};
-ghost use Rattle.transcript_model.specs.Lines.{branch_text, message_text, kind_text, bid_text, ids_text, quoted_time, quota_text, image_text, outcome_text, list_text, event_text, record_text, standing_text, line_words, line_text, lines_text};
+ghost use Rattle.reference_index.specs.transcript_model.Lines.{branch_text, message_text, kind_text, bid_text, ids_text, quoted_time, quota_text, image_text, outcome_text, list_text, event_text, record_text, standing_text, line_words, line_text, lines_text};
 ghost use Rattle.vms_base.specs.Ids.{id_of, serial_of};
 ghost use Rattle.reference_index.specs.Standing.{key_of, value_of};
 ghost use Rattle.reference_world.specs.Standing.{line_of, quota_of, standing_of};

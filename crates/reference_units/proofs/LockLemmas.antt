@@ -3,7 +3,7 @@ use Rattle.std.proofs.Common.{◌≡◌, ◌≤◌, List, [], ◌∷◌, Bool, f
 use Rattle.std.specs.Prelude.{ℕ, map, cond}
 use Rattle.vms_model.specs.Ids.{Id}
 use Rattle.vms_model.specs.Keys.{Key}
-use Rattle.run_model.specs.Locks.{Lock, is_locked, not_locked}
+use Rattle.reference_index.specs.run_model.Locks.{Lock, is_locked, not_locked}
 use Rattle.reference_index.specs.declared.keys.Key.{Key as Owned}
 use Rattle.reference_index.specs.Standing.{key_of}
 use Rattle.reference_index.proofs.ListLemmas.{behind_first, parts}

@@ -1,8 +1,8 @@
 -- The lines of a journal, by its first entry.
 use Rattle.std.proofs.Common.{◌≡◌, ◌≤◌, ℕ, ◌+◌, List, [], ◌∷◌, ◌++◌, ap, sym, ◌∙◌, length, get_or, arith}
-use Rattle.transcript_model.specs.Lines.{Line, NormalSpan}
+use Rattle.reference_index.specs.transcript_model.Lines.{Line, NormalSpan}
 use Rattle.unit_laws.specs.Journal.{entry_size, entries_size}
-use Rattle.run_model.specs.Answers.{entry_line, entry_lines}
+use Rattle.reference_index.specs.run_model.Answers.{entry_line, entry_lines}
 use Rattle.reference_index.proofs.ListLemmas.{behind_first, parts}
 use Rattle.reference_units.specs.declared.journal.JournalEntry.{JournalEntry}
 use Rattle.reference_units.specs.Entries.{entry_of, entries_of}

@@ -1,6 +1,6 @@
 // The keys that unsettled branches hold.
 ghost use Rattle.std.specs.Prelude.{◌≡◌, ◌≤◌, List, map, length, option_map, IfOk};
-ghost use Rattle.run_model.specs.Locks as locks;
+ghost use Rattle.reference_index.specs.run_model.Locks as locks;
 ghost use Rattle.vms_base.specs.Ids.{id_of};
 ghost use Rattle.reference_index.specs.Standing.{key_of, lent_key, lock_of as lock_said, locks_of};
 

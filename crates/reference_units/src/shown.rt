@@ -1,8 +1,8 @@
 // The lines of the journal's entries.
 ghost use Rattle.std.specs.Prelude.{◌≡◌, ◌+◌, ◌^◌, ◌<◌, ◌++◌, List, [], ◌∷◌, map, IfOk};
-ghost use Rattle.transcript_model.specs.Lines as lines;
+ghost use Rattle.reference_index.specs.transcript_model.Lines as lines;
 ghost use Rattle.unit_laws.specs.Journal as model;
-ghost use Rattle.run_model.specs.Answers as answers;
+ghost use Rattle.reference_index.specs.run_model.Answers as answers;
 ghost use Rattle.reference_world.specs.Standing.{line_of};
 ghost use Rattle.reference_units.specs.Entries.{entry_of, entries_of, journal_of};
 

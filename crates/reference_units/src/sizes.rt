@@ -1,7 +1,7 @@
 // How many bytes entries take.
 ghost use Rattle.std.specs.Prelude.{◌≡◌, ◌+◌, ◌-◌, ◌*◌, ◌^◌, ◌≤◌, ◌<◌, ℕ, length};
 ghost use Rattle.unit_laws.specs.Journal as model;
-ghost use Rattle.run_model.specs.Answers as answers;
+ghost use Rattle.reference_index.specs.run_model.Answers as answers;
 ghost use Rattle.vms_base.specs.Ids.{id_of};
 ghost use Rattle.reference_units.specs.Entries.{entry_of, entries_of, journal_of, unit_of, units_of};
 

@@ -1,7 +1,7 @@
 // The branches that have changes in the journal and are not settled there.
 ghost use Rattle.std.specs.Prelude.{◌≡◌, ◌+◌, ◌^◌, ◌≤◌, ◌<◌, ℕ, [], length, option_map, IfOk, IfSome};
 ghost use Rattle.unit_laws.specs.Journal as model;
-ghost use Rattle.run_model.specs.World as world;
+ghost use Rattle.reference_index.specs.run_model.World as world;
 ghost use Rattle.vms_base.specs.Ids.{id_of};
 ghost use Rattle.reference_units.specs.Entries.{entry_of, entries_of, unit_of, units_of, counted};
 

@@ -5,9 +5,9 @@ use Rattle.std.specs.Ordering.{eq_by_cmp, is_eq}
 use Rattle.std.specs.Cmp.{alike_right, eq_by_cmp_equiv}
 use Rattle.std.specs.FinMap.{get-remove, remove, entries, entries-insert, entries_sorted, get-entries}
 use Rattle.std.specs.FinMap.Entries.{put, find, where_key, is_sorted-where_key, find-where_key, same_entries}
-use Rattle.vms_model.specs.Keys.{Key}
-use Rattle.records_model.specs.Records.{Records, key_cmp, applied, set_key}
-use Rattle.records_model.proofs.KeyLemmas.{key_cmp_total, key_cmp-IsAntisymmetric}
+use Rattle.vms_base.specs.vms_model.Keys.{Key}
+use Rattle.reference_index.specs.records_model.Records.{Records, key_cmp, applied, set_key}
+use Rattle.reference_index.proofs.records_model.KeyLemmas.{key_cmp_total, key_cmp-IsAntisymmetric}
 use Rattle.reference_index.specs.declared.changes.Change.{Change}
 use Rattle.reference_index.specs.Standing.{changes_of, key_of, value_of}
 use Rattle.reference_index.proofs.ListLemmas.{behind_first, parts}

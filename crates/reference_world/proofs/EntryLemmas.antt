@@ -3,9 +3,9 @@ use Rattle.std.proofs.Common.{◌≡◌, ◌<◌, ◌≤◌, refl, List, [], ◌
 use Rattle.std.specs.FinMap.{empty, entries, entries_sorted, from_entries, get-entries, get-from_entries, insert, entries-insert, len-empty, len-entries, same_entries_map}
 use Rattle.std.specs.FinMap.Entries.{put, same_entries}
 use Rattle.std.specs.declared.cmp.Ordering.{Ordering}
-use Rattle.vms_model.specs.Keys.{Key}
-use Rattle.records_model.specs.Records.{Records, key_cmp}
-use Rattle.records_model.proofs.KeyLemmas.{key_cmp_total, key_cmp-IsAntisymmetric}
+use Rattle.vms_base.specs.vms_model.Keys.{Key}
+use Rattle.reference_index.specs.records_model.Records.{Records, key_cmp}
+use Rattle.reference_index.proofs.records_model.KeyLemmas.{key_cmp_total, key_cmp-IsAntisymmetric}
 use Rattle.reference_index.specs.Standing.{key_of}
 use Rattle.reference_index.proofs.ListLemmas.{behind_first, parts}
 use Rattle.reference_world.specs.declared.world.KeptRow.{KeptRow}

@@ -2,18 +2,18 @@
 use Rattle.std.proofs.Common.{◌≡◌, ◌≤◌, ℕ, List, [], ◌∷◌, Bool, true, false, Some, refl, sym, ap, ◌∙◌, length, get_or}
 use Rattle.std.specs.Prelude.{map, Vec, ◌+◌, ◌*◌, ◌-◌, ◌/◌, cond}
 use Rattle.std.specs.declared.alloc.Global.{Global}
-use Rattle.vms_model.specs.Ids.{Id}
-use Rattle.vms_model.specs.Keys.{Key}
-use Rattle.records_model.specs.Records.{Change}
+use Rattle.vms_base.specs.vms_model.Ids.{Id}
+use Rattle.vms_base.specs.vms_model.Keys.{Key}
+use Rattle.reference_index.specs.records_model.Records.{Change}
 use Rattle.vms_base.specs.Ids.{id_of}
-use Rattle.records_model.specs.History.{History, SettledChanges, LiveChanges as ModelChanges, with_changes, changes_by, changed_it, first_to_change, settled_with, without}
-use Rattle.tree_model.specs.Layouts as layouts
-use Rattle.tree_model.specs.Setting.{layout_changed}
-use Rattle.records_model.specs.Slots.{Slot}
-use Rattle.unit_laws.specs.Layouts.{slot_restored, leaf_restored}
-use Rattle.vms_model.specs.Transactions.{Outcome, Commit, Abort}
-use Rattle.run_model.specs.World as world
-use Rattle.run_model.specs.World.{settled_layout}
+use Rattle.reference_index.specs.records_model.History.{History, SettledChanges, LiveChanges as ModelChanges, with_changes, changes_by, changed_it, first_to_change, settled_with, without}
+use Rattle.reference_index.specs.tree_model.Layouts as layouts
+use Rattle.reference_index.specs.tree_model.Setting.{layout_changed}
+use Rattle.reference_index.specs.records_model.Slots.{Slot}
+use Rattle.reference_index.specs.unit_laws.Layouts.{slot_restored, leaf_restored}
+use Rattle.vms_base.specs.vms_model.Transactions.{Outcome, Commit, Abort}
+use Rattle.reference_index.specs.run_model.World as world
+use Rattle.reference_index.specs.run_model.World.{settled_layout}
 use Rattle.reference_world.specs.declared.world.File.{File}
 use Rattle.reference_world.specs.declared.world.Carried.{Carried}
 use Rattle.reference_world.specs.declared.world.LiveChanges.{LiveChanges}

@@ -1,7 +1,7 @@
 -- Runs of free blocks, with one block more in front.
 use Rattle.std.proofs.Common.{◌≡◌, ℕ, suc, List, Some, ap, ◌∙◌, if◌then◌else◌}
 use Rattle.std.specs.Prelude.{max, nat_le}
-use Rattle.run_model.specs.Extents.{Extent, is_taken, run_from}
+use Rattle.reference_index.specs.run_model.Extents.{Extent, is_taken, run_from}
 use Rattle.reference_world.specs.declared.directory.Runs.{Runs}
 use Rattle.reference_world.specs.Directories.{IsRuns}
 

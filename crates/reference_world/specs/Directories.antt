@@ -1,9 +1,9 @@
 -- Changes of the directory's files, and runs of free blocks.
 use Rattle.std.specs.Prelude.{◌≡◌, ℕ, Bool, List, None, map}
 use Rattle.std.specs.FinMap.{entries}
-use Rattle.vms_model.specs.Keys.{Key}
-use Rattle.run_model.specs.World as world
-use Rattle.run_model.specs.Extents.{Extent, run_from, longest_run, lowest_run}
+use Rattle.vms_base.specs.vms_model.Keys.{Key}
+use Rattle.reference_index.specs.run_model.World as world
+use Rattle.reference_index.specs.run_model.Extents.{Extent, run_from, longest_run, lowest_run}
 use Rattle.reference_world.specs.declared.directory.FileChange.{FileChange}
 use Rattle.reference_world.specs.declared.directory.FileChange.TheVariants as change
 use Rattle.reference_world.specs.declared.directory.Mark.{Mark}

@@ -1,8 +1,8 @@
 -- Records by their keys.
 use Rattle.std.specs.Prelude.{Bool, not}
 use Rattle.std.specs.Ordering.{eq_by_cmp}
-use Rattle.vms_model.specs.Keys.{Key}
-use Rattle.records_model.specs.Records.{key_cmp}
+use Rattle.vms_base.specs.vms_model.Keys.{Key}
+use Rattle.reference_index.specs.records_model.Records.{key_cmp}
 
 -- whether a key is another than this one
 abbrev pub is_other : Key → Key → Bool

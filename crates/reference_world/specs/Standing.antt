@@ -1,20 +1,20 @@
 -- What the code's values stand for.
 use Rattle.std.specs.Prelude.{ℕ, Bool, true, false, List, Option, Some, None, map, option_map}
 use Rattle.std.specs.FinMap.{empty, from_entries}
-use Rattle.vms_model.specs.Ids.{Id}
-use Rattle.vms_model.specs.Keys as key
-use Rattle.vms_model.specs.Transactions as settled
+use Rattle.vms_base.specs.vms_model.Ids.{Id}
+use Rattle.vms_base.specs.vms_model.Keys as key
+use Rattle.vms_base.specs.vms_model.Transactions as settled
 use Rattle.vms_base.specs.Ids.{id_of}
 use Rattle.vms_base.specs.Outcomes.{outcome_of, reason_of}
 use Rattle.vms_base.specs.declared.outcomes.Reason.{Reason}
-use Rattle.records_model.specs.History as history
-use Rattle.records_model.specs.Records.{Records}
-use Rattle.recovery_model.specs.Journal as images
-use Rattle.recovery_model.specs.File as recovery
-use Rattle.script_model.specs.Statements as said
-use Rattle.transcript_model.specs.Lines as model
-use Rattle.run_model.specs.World as world
-use Rattle.commit_protocol.specs.Table as table
+use Rattle.reference_index.specs.records_model.History as history
+use Rattle.reference_index.specs.records_model.Records.{Records}
+use Rattle.reference_index.specs.recovery_model.Journal as images
+use Rattle.reference_index.specs.recovery_model.File as recovery
+use Rattle.reference_index.specs.script_model.Statements as said
+use Rattle.reference_index.specs.transcript_model.Lines as model
+use Rattle.reference_index.specs.run_model.World as world
+use Rattle.net_wire.specs.commit_protocol.Table as table
 use Rattle.net_wire.specs.Messages.{message_of}
 use Rattle.tm_types.specs.Parts.{rm_event_of, log_record_of}
 use Rattle.reference_index.specs.Standing.{value_of, key_of, lent_key, changes_of, layout_of}

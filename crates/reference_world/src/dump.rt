@@ -2,11 +2,11 @@
 ghost use Rattle.std.specs.Prelude.{◌≡◌, ◌++◌, List, [], ◌∷◌, map, IfOk, None};
 ghost use Rattle.std.specs.FinMap.{empty, entries};
 ghost use Rattle.std.specs.FinMap.Entries.{put, find, where_key};
-ghost use Rattle.records_model.specs.Records.{Records, key_cmp, set_key, applied};
-ghost use Rattle.records_model.specs.History.{left_by, on_top, current, records};
-ghost use Rattle.transcript_model.specs.Lines as model;
-ghost use Rattle.run_model.specs.Answers.{shown_record};
-ghost use Rattle.run_model.specs.Steps.{lines_of_rows};
+ghost use Rattle.reference_index.specs.records_model.Records.{Records, key_cmp, set_key, applied};
+ghost use Rattle.reference_index.specs.records_model.History.{left_by, on_top, current, records};
+ghost use Rattle.reference_index.specs.transcript_model.Lines as model;
+ghost use Rattle.reference_index.specs.run_model.Answers.{shown_record};
+ghost use Rattle.reference_index.specs.run_model.Steps.{lines_of_rows};
 ghost use Rattle.reference_index.specs.Standing.{lent_key, lent_value, changes_of};
 ghost use Rattle.reference_world.specs.Standing.{done_of, live_of, history_of, kept_of, rows_of, entry_of, line_of};
 ghost use Rattle.reference_world.specs.Rows.{is_other};

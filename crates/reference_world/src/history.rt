@@ -1,8 +1,8 @@
 // What branches changed of a file.
 ghost use Rattle.std.specs.Prelude.{◌≡◌, true, ℕ, List, [], ◌∷◌, map, option_map, OnOk, IfOk};
 ghost use Rattle.vms_base.specs.Outcomes.{outcome_of};
-ghost use Rattle.records_model.specs.History as history;
-ghost use Rattle.run_model.specs.World as world;
+ghost use Rattle.reference_index.specs.records_model.History as history;
+ghost use Rattle.reference_index.specs.run_model.World as world;
 ghost use Rattle.vms_base.specs.Ids.{id_of};
 ghost use Rattle.reference_index.specs.Standing.{change_of, changes_of, layout_of};
 ghost use Rattle.reference_world.specs.Standing.{live_of, history_of, file_of, serials_of, settlement_of};

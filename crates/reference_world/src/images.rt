@@ -1,11 +1,11 @@
 // The journals of images of a file, and how they follow its changes.
 ghost use Rattle.std.specs.Prelude.{◌≡◌, ◌+◌, ◌^◌, ◌≤◌, ◌<◌, true, IfOk, IfSome};
-ghost use Rattle.vms_model.specs.Ids.{Id as IdSaid};
-ghost use Rattle.records_model.specs.Slots.{size_of};
-ghost use Rattle.unit_laws.specs.Journal.{key_size as key_size_of};
-ghost use Rattle.recovery_model.specs.Journal as images;
-ghost use Rattle.recovery_model.specs.File as recovery;
-ghost use Rattle.run_model.specs.World as world;
+ghost use Rattle.vms_base.specs.vms_model.Ids.{Id as IdSaid};
+ghost use Rattle.reference_index.specs.records_model.Slots.{size_of};
+ghost use Rattle.reference_index.specs.unit_laws.Journal.{key_size as key_size_of};
+ghost use Rattle.reference_index.specs.recovery_model.Journal as images;
+ghost use Rattle.reference_index.specs.recovery_model.File as recovery;
+ghost use Rattle.reference_index.specs.run_model.World as world;
 ghost use Rattle.reference_index.specs.Standing.{key_of, value_of, lent_key, lent_value, change_of, changes_of};
 ghost use Rattle.reference_world.specs.Standing.{branch_key_of, image_of, images_of, carried_of, side_of, settlement_of};
 

@@ -1,6 +1,6 @@
 // Moments that can be written.
 ghost use Rattle.std.specs.Prelude.{◌≡◌, IfOk};
-ghost use Rattle.vms_model.specs.Times.{CanBeWritten};
+ghost use Rattle.vms_base.specs.vms_model.Times.{CanBeWritten};
 
 use std::alloc::AllocError;
 

@@ -3,10 +3,10 @@ use Rattle.std.proofs.Common.{◌≡◌, ⊎_elim, inl, inr, ℕ, ◌<◌, ◌�
 use Rattle.std.proofs.lemmas.List.{same_lists, places}
 use Rattle.std.proofs.lemmas.Bool.{cases_eq, cases_lt}
 use Rattle.std.proofs.lemmas.Nat.{mod_below}
-use Rattle.careful_write.specs.State.{StoreState}
+use Rattle.change_set.specs.careful_write.State.{StoreState}
 use Rattle.file_base.specs.declared.head.FileHead.{FileHead}
 use Rattle.file_base.specs.Bytes.{piece_at, spliced}
-use Rattle.vms_model.specs.Keys.{Key, Number}
+use Rattle.vms_base.specs.vms_model.Keys.{Key, Number}
 use Rattle.change_set.specs.Buckets.{bucket_bytes, with_bucket}
 use Rattle.change_set.specs.Files.{IsPlaced}
 use Rattle.change_set.proofs.BucketLaws.{block_at-with_bucket_other, bucket_bytes_agree, bucket_bytes-with_bucket}

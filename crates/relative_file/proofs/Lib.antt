@@ -6,3 +6,4 @@ pub mod MapLaws
 pub mod Places
 pub mod ReadLaws
 pub mod Scans
+pub mod change_set

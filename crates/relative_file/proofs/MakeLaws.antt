@@ -3,10 +3,10 @@ use Rattle.std.proofs.Common.{◌≡◌, ◌⊎◌, ⊎_elim, inl, inr, ℕ, Boo
 use Rattle.std.proofs.lemmas.List.{same_lists, places, get_or-take, get_or-drop, get_or-append_right, get_or-replicate, get_or_past, length-replicate}
 use Rattle.std.proofs.lemmas.Bool.{cases_lt, cases_eq}
 use Rattle.block_disk.specs.Blocks.{block_at}
-use Rattle.careful_write.specs.State.{IsEither}
-use Rattle.careful_write.specs.Steps.{AgreesOff}
+use Rattle.change_set.specs.careful_write.State.{IsEither}
+use Rattle.change_set.specs.careful_write.Steps.{AgreesOff}
 use Rattle.file_base.specs.declared.head.FileHead.{FileHead}
-use Rattle.vms_model.specs.Keys.{Key, Number, Text, End}
+use Rattle.vms_base.specs.vms_model.Keys.{Key, Number, Text, End}
 use Rattle.file_base.specs.Bytes.{piece_at, spliced}
 use Rattle.change_set.specs.Buckets.{bucket_bytes, with_bucket}
 use Rattle.change_set.specs.Files.{in_extent, AgreesOut}

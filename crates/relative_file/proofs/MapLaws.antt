@@ -1,9 +1,9 @@
 -- The map of a relative file once a cell was written, and its law.
 use Rattle.std.proofs.Common.{◌≡◌, ◌≢◌, ⊎_elim, ℕ, ◌≤◌, ◌+◌, ◌-◌, ◌*◌, ◌/◌, Bool, true, false, List, [], length, take, Option, Some, None, IfSome, option_map, Result, Ok, Err, OnOk, unwrap_or, if◌then◌else◌, refl, sym, ap, subst, ◌∙◌, arith}
 use Rattle.std.proofs.lemmas.Bool.{cases_eq}
-use Rattle.careful_write.specs.State.{StoreState}
+use Rattle.change_set.specs.careful_write.State.{StoreState}
 use Rattle.file_base.specs.declared.head.FileHead.{FileHead}
-use Rattle.vms_model.specs.Keys.{Key, Number, Text, End}
+use Rattle.vms_base.specs.vms_model.Keys.{Key, Number, Text, End}
 use Rattle.change_set.specs.Buckets.{with_bucket}
 use Rattle.change_set.specs.Files.{IsPlaced, StagesIn}
 use Rattle.change_set.specs.Maps.{set_key, same_key, StartsAt, StartsNowhere, key_before, is_after, IsNext, EndsAfter}

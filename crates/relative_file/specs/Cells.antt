@@ -1,11 +1,11 @@
 -- The cells of a relative file, and the map that they mean.
 use Rattle.std.specs.Prelude.{◌≡◌, ◌≤◌, ◌<◌, ℕ, ◌+◌, ◌-◌, ◌*◌, ◌/◌, ◌%◌, ◌&&◌, ◌++◌, Bool, true, List, [], ◌∷◌, length, take, drop, replicate, Option, Some, None, IfSome, option_map, if◌then◌else◌, nat_le, min, slice_index, bytes_eq}
 use Rattle.block_disk.specs.Sizes.{content_start}
-use Rattle.careful_write.specs.Reads.{SameButReads}
-use Rattle.careful_write.specs.State.{StoreState}
+use Rattle.change_set.specs.careful_write.Reads.{SameButReads}
+use Rattle.change_set.specs.careful_write.State.{StoreState}
 use Rattle.file_base.specs.declared.head.FileHead.{FileHead}
 use Rattle.file_base.specs.declared.head.Organization.TheVariants.{Relative}
-use Rattle.vms_model.specs.Keys.{Key, Number, Text, End}
+use Rattle.vms_base.specs.vms_model.Keys.{Key, Number, Text, End}
 use Rattle.file_base.specs.Bytes.{piece_at, spliced}
 use Rattle.change_set.specs.Buckets.{bucket_bytes, with_bucket, with_numbers}
 use Rattle.change_set.specs.Maps.{Map}

@@ -1,8 +1,8 @@
 //! A bucket of a file: a header, and cells behind it.
 ghost use Rattle.std.specs.Prelude.{◌↔◌, ◌≡◌, ◌≤◌, ◌+◌, ◌-◌, ◌*◌, List, IsTrue, Some, OnOk, IfSome, length, take};
 ghost use Rattle.block_disk.specs.Sizes.{content_start};
-ghost use Rattle.careful_write.specs.Down.{answered};
-ghost use Rattle.careful_write.specs.Reads.{SameButReads};
+ghost use Rattle.change_set.specs.careful_write.Down.{answered};
+ghost use Rattle.change_set.specs.careful_write.Reads.{SameButReads};
 ghost use Rattle.frame_pool.specs.Pool.{IsOut};
 ghost use Rattle.change_set.specs.Buckets.{frame_of, with_frame, LiesInHome};
 ghost use Rattle.byteorder.specs.Endian.{little_bytes};
@@ -10,8 +10,7 @@ ghost use Rattle.relative_file.specs.Cells.{cells_in, front_of, empty_bucket, as
 
 use block_disk::Disk;
 use byteorder::{ByteOrder, LittleEndian};
-use careful_write::{Down, Store};
-use change_set::load_bucket;
+use change_set::{Down, Store, load_bucket};
 use file_base::{FileHead, splice, splice_zeros};
 use frame_pool::Frame;
 

@@ -1,7 +1,7 @@
 //! A cell: the record's length, and room for the longest record.
 ghost use Rattle.std.specs.Prelude.{◌≡◌, ◌≤◌, ◌<◌, ◌+◌, ◌*◌, ◌/◌, ◌%◌, ℕ, [], ◌∷◌, true, false, Some, None, IfSome, IfNone, length};
 ghost use Rattle.byteorder.specs.Endian.{little_bytes, little_number};
-ghost use Rattle.vms_model.specs.Limits.{record_limit};
+ghost use Rattle.vms_base.specs.vms_model.Limits.{record_limit};
 ghost use Rattle.file_base.specs.Bytes.{piece_at, spliced};
 ghost use Rattle.relative_file.specs.Cells.{record_in, cell_of, FirstIn, NoneIn};
 

@@ -2,11 +2,11 @@
 ghost use Rattle.std.specs.Prelude.{◌≡◌, ◌≤◌, ◌<◌, ◌+◌, ◌-◌, ◌*◌, ◌/◌, ◌^◌, ℕ, List, Bool, true, false, Option, Some, None, length, OnOk, OnErr, IfOk, IfSome, IfNone, option_map, unwrap_or, slice_set};
 ghost use Rattle.std.specs.Option.{option_copied};
 ghost use Rattle.block_disk.specs.Sizes.{content_start, greatest_disk_size};
-ghost use Rattle.vms_model.specs.Limits.{record_limit};
-ghost use Rattle.careful_write.specs.Down.{answered};
-ghost use Rattle.careful_write.specs.Reads.{SameButReads};
+ghost use Rattle.vms_base.specs.vms_model.Limits.{record_limit};
+ghost use Rattle.change_set.specs.careful_write.Down.{answered};
+ghost use Rattle.change_set.specs.careful_write.Reads.{SameButReads};
 ghost use Rattle.frame_pool.specs.Pool.{IsOut};
-ghost use Rattle.careful_write.specs.Sizes.{group_limit};
+ghost use Rattle.change_set.specs.careful_write.Sizes.{group_limit};
 ghost use Rattle.file_base.specs.Bytes.{piece_at, spliced};
 ghost use Rattle.change_set.specs.Buckets.{frame_of, with_frame, bucket_bytes, with_bucket, with_numbers};
 ghost use Rattle.change_set.specs.Files.{IsPlaced, free_frames, fell, unstaged};
@@ -15,8 +15,7 @@ ghost use Rattle.relative_file.specs.Cells.{IsRelative, has_cell, cells_in, firs
 use crate::bucket::{cells, read_bucket};
 use crate::cell::{first_record, read_cell, write_cell};
 use block_disk::Disk;
-use careful_write::{Down, Store};
-use change_set::{give_frame, stage_bucket, take_frame};
+use change_set::{Down, Store, give_frame, stage_bucket, take_frame};
 use file_base::FileHead;
 use frame_pool::Frame;
 use vms_base::Record;

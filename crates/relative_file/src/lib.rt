@@ -7,4 +7,5 @@ mod file;
 mod make;
 mod relative;
 
+pub use change_set::{Held, Place, RecordFile};
 pub use relative::RelativeFile;

@@ -1,18 +1,17 @@
 //! The empty relative file.
 ghost use Rattle.std.specs.Prelude.{◌≡◌, ◌≤◌, ◌<◌, ◌+◌, ◌-◌, ◌*◌, ◌/◌, ℕ, List, Option, Some, None, [], length, take, OnOk, OnErr, IfSome, option_map};
 ghost use Rattle.block_disk.specs.Sizes.{content_start};
-ghost use Rattle.careful_write.specs.Down.{Counts};
-ghost use Rattle.careful_write.specs.State.{IsIdle};
+ghost use Rattle.change_set.specs.careful_write.Down.{Counts};
+ghost use Rattle.change_set.specs.careful_write.State.{IsIdle};
 ghost use Rattle.frame_pool.specs.Pool.{IsOut};
-ghost use Rattle.careful_write.specs.Sizes.{group_limit};
+ghost use Rattle.change_set.specs.careful_write.Sizes.{group_limit};
 ghost use Rattle.change_set.specs.Buckets.{frame_of, with_frame};
 ghost use Rattle.change_set.specs.Files.{IsPlaced, free_frames, in_extent, AgreesOut, LeavesOut, unstaged};
 ghost use Rattle.relative_file.specs.Cells.{IsRelative, cells_in, empty_bucket, EmptyTo, Empties};
 
 use crate::bucket::fill_empty;
 use block_disk::Disk;
-use careful_write::{Down, Store};
-use change_set::{give_frame, stage_bucket, take_frame};
+use change_set::{Down, Store, give_frame, stage_bucket, take_frame};
 use file_base::FileHead;
 use frame_pool::Frame;
 

@@ -1,9 +1,9 @@
 //! A relative file as a map from numbers to records.
 ghost use Rattle.std.specs.Prelude.{◌≡◌, ◌≤◌, ◌<◌, ◌+◌, ◌-◌, ◌*◌, ℕ, List, Bool, true, false, Option, Some, None, [], length, OnOk, OnErr, IfOk, IfSome, IfNone, option_map, unwrap_or};
 ghost use Rattle.std.specs.Option.{option_copied};
-ghost use Rattle.careful_write.specs.State.{StoreState};
+ghost use Rattle.change_set.specs.careful_write.State.{StoreState};
 ghost use Rattle.vms_base.specs.Keys.{key_of};
-ghost use Rattle.careful_write.specs.Reads.{SameButReads};
+ghost use Rattle.change_set.specs.careful_write.Reads.{SameButReads};
 ghost use Rattle.change_set.specs.Files.{IsPlaced, StagesIn, free_frames, fell};
 ghost use Rattle.change_set.specs.Maps.{set_key};
 ghost use Rattle.relative_file.specs.Cells.{map_of, IsRelative, IsLaidOut, Suits};
@@ -11,8 +11,7 @@ ghost use Rattle.relative_file.specs.Cells.{map_of, IsRelative, IsLaidOut, Suits
 use crate::file::{get_cell, next_cell, set_cell};
 use crate::make::make_file;
 use block_disk::Disk;
-use careful_write::{Down, Store};
-use change_set::{Held, Place, RecordFile, number_behind};
+use change_set::{Down, Held, Place, RecordFile, Store, number_behind};
 use file_base::FileHead;
 use vms_base::{Key, Record};
 
@@ -61,7 +60,7 @@ fn set_record<D: Disk>(
 
 impl RecordFile for RelativeFile {
     ghost use Rattle.std.specs.Prelude.{◌≡◌, ℕ, Some, refl};
-    ghost use Rattle.tree_model.specs.Layouts.{no_layout};
+    ghost use Rattle.change_set.specs.tree_model.Layouts.{no_layout};
     ghost use Rattle.relative_file.specs.Cells.{map_of, IsLaidOut, IsRelative, Suits, Anything};
     ghost use Rattle.relative_file.specs.Local.{local_law, valid_local_law};
 

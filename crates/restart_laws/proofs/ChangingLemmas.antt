@@ -7,30 +7,30 @@ use Rattle.std.proofs.lemmas.List.{take-append-drop, length-take-le, drop_all}
 use Rattle.file_base.specs.declared.head.FileHead.{FileHead}
 use Rattle.file_base.specs.declared.head.Organization.{Organization as Kept}
 use Rattle.file_base.specs.declared.head.Organization.TheVariants.{Sequential, Relative, Indexed}
-use Rattle.change_set.specs.Files.{SameFile}
-use Rattle.change_set.specs.Maps.{Map, same_key, set_key}
-use Rattle.change_set.proofs.NumberKeys.{same_test, other_test}
-use Rattle.record_files.specs.Any as any
-use Rattle.record_files.specs.Any.{map_of, map_by, FormBy, LaidOutBy, SuitsBy, RestoresBy, IsLaidOut, Suits, Restores, room_at, room_by}
-use Rattle.seq_file.specs.Layout as sequential
-use Rattle.seq_file.specs.Layout.{IsRecord, records_in, capacity}
-use Rattle.seq_file.specs.Placing.{buckets_for}
-use Rattle.seq_file.specs.Records.{record_at, map_of_list, list_set, cut_from, slot_sizes, MaySet}
-use Rattle.seq_file.proofs.FileLaws.{used_is}
-use Rattle.seq_file.proofs.MapLaws.{map_set, map_cut}
-use Rattle.seq_file.proofs.RecordLaws.{record_at_past}
+use Rattle.directory_model.specs.change_set.Files.{SameFile}
+use Rattle.directory_model.specs.change_set.Maps.{Map, same_key, set_key}
+use Rattle.directory_model.proofs.change_set.NumberKeys.{same_test, other_test}
+use Rattle.directory_model.specs.record_files.Any as any
+use Rattle.directory_model.specs.record_files.Any.{map_of, map_by, FormBy, LaidOutBy, SuitsBy, RestoresBy, IsLaidOut, Suits, Restores, room_at, room_by}
+use Rattle.directory_model.specs.seq_file.Layout as sequential
+use Rattle.directory_model.specs.seq_file.Layout.{IsRecord, records_in, capacity}
+use Rattle.directory_model.specs.seq_file.Placing.{buckets_for}
+use Rattle.directory_model.specs.seq_file.Records.{record_at, map_of_list, list_set, cut_from, slot_sizes, MaySet}
+use Rattle.directory_model.proofs.seq_file.FileLaws.{used_is}
+use Rattle.directory_model.proofs.seq_file.MapLaws.{map_set, map_cut}
+use Rattle.directory_model.proofs.seq_file.RecordLaws.{record_at_past}
 use Rattle.vms_model.specs.Ids.{Id}
 use Rattle.vms_model.specs.Keys.{Key, Number, Text, End}
-use Rattle.records_model.specs.Records.{Change}
-use Rattle.records_model.specs.History.{LiveChanges, is_held, records, with_change, with_changes}
+use Rattle.index_model.specs.records_model.Records.{Change}
+use Rattle.index_model.specs.records_model.History.{LiveChanges, is_held, records, with_change, with_changes}
 use Rattle.unit_laws.specs.Units.{HasLatest, Represents, SerialsDiffer, has_changes, is_changed, map_in, is_free, moves_end, end_is_free}
 use Rattle.unit_laws.specs.Journal.{Journal}
 use Rattle.unit_laws.proofs.Tests.{picked, passed}
-use Rattle.sequence_laws.specs.Undoing.{GoesBack}
-use Rattle.run_model.specs.Locks.{is_locked}
-use Rattle.run_model.specs.Operations.{in_order, removed}
-use Rattle.run_model.specs.World as world
-use Rattle.run_model.specs.World.{Node, File, AreUnitsOf, TellsUnits, acted, changed_file}
+use Rattle.directory_model.specs.sequence_laws.Undoing.{GoesBack}
+use Rattle.world_laws.specs.run_model.Locks.{is_locked}
+use Rattle.world_laws.specs.run_model.Operations.{in_order, removed}
+use Rattle.world_laws.specs.run_model.World as world
+use Rattle.world_laws.specs.run_model.World.{Node, File, AreUnitsOf, TellsUnits, acted, changed_file}
 use Rattle.directory_model.specs.Files.{AreFiles, IsFile, IsNamed, IsWithin, file_at, organized_by}
 use Rattle.directory_model.specs.Restoring.{AreRestorable, CanRestoreBy}
 use Rattle.directory_model.specs.Laws.{SameBut}

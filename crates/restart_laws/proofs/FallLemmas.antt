@@ -4,17 +4,17 @@ use Rattle.std.specs.FinMap.{get}
 use Rattle.file_base.specs.declared.head.FileHead.{FileHead}
 use Rattle.file_base.specs.declared.head.Organization.{Organization as Kept}
 use Rattle.file_base.specs.declared.head.Organization.TheVariants.{Sequential, Relative, Indexed}
-use Rattle.record_files.specs.Any as any
-use Rattle.record_files.specs.Any.{map_of}
+use Rattle.directory_model.specs.record_files.Any as any
+use Rattle.directory_model.specs.record_files.Any.{map_of}
 use Rattle.vms_model.specs.Keys.{Key, Text}
-use Rattle.records_model.specs.Records.{Change}
-use Rattle.records_model.specs.Slots.{Slot, with_value, lookup, IsOrdered}
-use Rattle.tree_model.specs.Layouts.{Leaf, Layout, slots_along}
-use Rattle.records_model.specs.History.{records, current, changes_key}
+use Rattle.index_model.specs.records_model.Records.{Change}
+use Rattle.index_model.specs.records_model.Slots.{Slot, with_value, lookup, IsOrdered}
+use Rattle.index_model.specs.tree_model.Layouts.{Leaf, Layout, slots_along}
+use Rattle.index_model.specs.records_model.History.{records, current, changes_key}
 use Rattle.unit_laws.specs.Units.{Map, map_in, earliest_before, Represents, IsOrderly}
 use Rattle.unit_laws.specs.Layouts.{slot_restored, leaf_restored, layout_restored}
 use Rattle.unit_laws.proofs.RepresentLemmas.{group_keeps}
-use Rattle.run_model.specs.World.{File}
+use Rattle.world_laws.specs.run_model.World.{File}
 use Rattle.directory_model.specs.Files.{IsFile, IsPlace, AgreesOnCarried, head_at, file_at}
 use Rattle.directory_model.specs.Restoring.{AlikeBare, bare, bare_leaf, bare_layout, IsLeft, IsPlaceLeft, IsPlaceRestorable, CanRestore, IsLayoutOf, IsGrouped, IsPlaceGrouped}
 use Rattle.directory_model.proofs.Moving.{carried_moved, head_moved, same_organization}

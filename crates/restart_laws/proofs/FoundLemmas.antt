@@ -6,32 +6,32 @@ use Rattle.std.proofs.lemmas.Bool.Decides.{nat_tests}
 use Rattle.std.proofs.lemmas.List.{length-take-le}
 use Rattle.std.proofs.lemmas.Nat.{mod_below, div-add-mod', mul-le}
 use Rattle.std.proofs.lemmas.List.Elements.{All-head, All-tail}
-use Rattle.block_disk.specs.Blocks.{block_at}
+use Rattle.careful_write.specs.block_disk.Blocks.{block_at}
 use Rattle.careful_write.specs.State.{EachWhole}
 use Rattle.file_base.specs.declared.head.FileHead.{FileHead}
 use Rattle.file_base.specs.Bytes.{piece_at}
 use Rattle.bucket_page.specs.Pages.{u16_at, key_in}
 use Rattle.bucket_page.proofs.Orders.{key_there}
-use Rattle.change_set.specs.Buckets.{bucket_bytes}
+use Rattle.directory_model.specs.change_set.Buckets.{bucket_bytes}
 use Rattle.vms_model.specs.Keys.{Number, Text}
-use Rattle.records_model.specs.Slots.{Slot, same_bytes, slot_at, value_in, lookup}
-use Rattle.records_model.proofs.SlotLaws.{same_bytes_are}
-use Rattle.seq_file.specs.Layout.{IsRecord}
-use Rattle.seq_file.specs.Records.{record_at}
-use Rattle.tree_model.specs.Layouts.{slots_along}
+use Rattle.index_model.specs.records_model.Slots.{Slot, same_bytes, slot_at, value_in, lookup}
+use Rattle.index_model.proofs.records_model.SlotLaws.{same_bytes_are}
+use Rattle.directory_model.specs.seq_file.Layout.{IsRecord}
+use Rattle.directory_model.specs.seq_file.Records.{record_at}
+use Rattle.index_model.specs.tree_model.Layouts.{slots_along}
 use Rattle.index_model.specs.Indexes.{Entry}
 use Rattle.index_model.specs.Trees.{child_of, leaf_at}
-use Rattle.index_blocks.specs.Buckets.{bucket_at as leaf_bytes}
-use Rattle.index_blocks.specs.Levels.{AllAre, leaf_entries}
-use Rattle.indexed_file.specs.Chain.{kind_of, slot_of, value_of, keeps_record, all_keep, slots_in, IsLeaf}
-use Rattle.indexed_tree.specs.Files as indexed
-use Rattle.indexed_tree.specs.Maps.{all_slots}
-use Rattle.indexed_tree.specs.Rooted.{IsRooted}
-use Rattle.relative_file.specs.Cells as relative
-use Rattle.relative_file.specs.Cells.{IsRelative, has_cell, cells_in, cells_end, first_of, place_of, bucket_at, cell_at, record_in, size_in}
-use Rattle.relative_file.specs.Local.{bucket_within}
-use Rattle.relative_file.proofs.Places.{place_within, places_fit}
-use Rattle.relative_file.proofs.ReadLaws.{length-as_read}
+use Rattle.directory_model.specs.index_blocks.Buckets.{bucket_at as leaf_bytes}
+use Rattle.directory_model.specs.index_blocks.Levels.{AllAre, leaf_entries}
+use Rattle.directory_model.specs.indexed_file.Chain.{kind_of, slot_of, value_of, keeps_record, all_keep, slots_in, IsLeaf}
+use Rattle.directory_model.specs.indexed_tree.Files as indexed
+use Rattle.directory_model.specs.indexed_tree.Maps.{all_slots}
+use Rattle.directory_model.specs.indexed_tree.Rooted.{IsRooted}
+use Rattle.directory_model.specs.relative_file.Cells as relative
+use Rattle.directory_model.specs.relative_file.Cells.{IsRelative, has_cell, cells_in, cells_end, first_of, place_of, bucket_at, cell_at, record_in, size_in}
+use Rattle.directory_model.specs.relative_file.Local.{bucket_within}
+use Rattle.directory_model.proofs.relative_file.Places.{place_within, places_fit}
+use Rattle.directory_model.proofs.relative_file.ReadLaws.{length-as_read}
 use Rattle.directory_model.specs.Files.{IsWithin}
 
 -- Sequential files: a record of the list is one of the file.

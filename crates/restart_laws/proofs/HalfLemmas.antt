@@ -10,38 +10,38 @@ use Rattle.std.specs.FinMap.{get}
 use Rattle.file_base.specs.declared.head.FileHead.{FileHead}
 use Rattle.file_base.specs.declared.head.Organization.{Organization as Kept}
 use Rattle.file_base.specs.declared.head.Organization.TheVariants.{Sequential, Relative, Indexed}
-use Rattle.record_files.specs.Any as any
-use Rattle.record_files.specs.Any.{map_of}
-use Rattle.tree_model.specs.Layouts.{Leaf, Layout, no_layout, slots_along}
+use Rattle.directory_model.specs.record_files.Any as any
+use Rattle.directory_model.specs.record_files.Any.{map_of}
+use Rattle.index_model.specs.tree_model.Layouts.{Leaf, Layout, no_layout, slots_along}
 use Rattle.index_model.specs.Indexes.{Entry}
 use Rattle.index_model.specs.Trees.{child_of, leaf_at}
-use Rattle.index_blocks.specs.Buckets.{bucket_at}
-use Rattle.index_blocks.specs.Levels.{AllAre, leaf_entries}
-use Rattle.indexed_file.specs.Chain as leaf
-use Rattle.indexed_file.specs.Chain.{kind_of, slots_in, IsLeaf}
-use Rattle.indexed_tree.specs.Files as indexed
-use Rattle.indexed_tree.specs.Maps.{all_slots}
-use Rattle.indexed_tree.specs.Rooted.{layout_in}
-use Rattle.relative_file.specs.Cells as relative
-use Rattle.seq_file.specs.Layout.{records_in}
-use Rattle.seq_file.specs.Records.{map_of_list, record_at}
-use Rattle.sequence_laws.specs.Undoing.{GoesBack, StandsWhole, absent_at, is_taken_away, lowest_absent}
+use Rattle.directory_model.specs.index_blocks.Buckets.{bucket_at}
+use Rattle.directory_model.specs.index_blocks.Levels.{AllAre, leaf_entries}
+use Rattle.directory_model.specs.indexed_file.Chain as leaf
+use Rattle.directory_model.specs.indexed_file.Chain.{kind_of, slots_in, IsLeaf}
+use Rattle.directory_model.specs.indexed_tree.Files as indexed
+use Rattle.directory_model.specs.indexed_tree.Maps.{all_slots}
+use Rattle.directory_model.specs.indexed_tree.Rooted.{layout_in}
+use Rattle.directory_model.specs.relative_file.Cells as relative
+use Rattle.directory_model.specs.seq_file.Layout.{records_in}
+use Rattle.directory_model.specs.seq_file.Records.{map_of_list, record_at}
+use Rattle.directory_model.specs.sequence_laws.Undoing.{GoesBack, StandsWhole, absent_at, is_taken_away, lowest_absent}
 use Rattle.vms_model.specs.Ids.{Id}
 use Rattle.vms_model.specs.Keys.{Key, Number, Text}
-use Rattle.records_model.specs.Records.{Change}
+use Rattle.index_model.specs.records_model.Records.{Change}
 use Rattle.bucket_page.specs.Pages.{slots_of}
-use Rattle.indexed_file.proofs.FileLaws.{all_hold}
-use Rattle.indexed_file.proofs.SetLaws.{AllHold, held_here}
-use Rattle.records_model.specs.Slots.{Slot, lookup, room_in, room_of, same_bytes, size_of, slot_at, value_in, with_value, IsOrdered}
-use Rattle.records_model.proofs.SlotLaws.{behind_absent, if_false, if_true, same_bytes_are, same_self}
-use Rattle.records_model.specs.History.{LiveChanges, same_id, changes_by, changes_key, current, records}
-use Rattle.records_model.proofs.RecordsLemmas.{same_key}
+use Rattle.directory_model.proofs.indexed_file.FileLaws.{all_hold}
+use Rattle.directory_model.proofs.indexed_file.SetLaws.{AllHold, held_here}
+use Rattle.index_model.specs.records_model.Slots.{Slot, lookup, room_in, room_of, same_bytes, size_of, slot_at, value_in, with_value, IsOrdered}
+use Rattle.index_model.proofs.records_model.SlotLaws.{behind_absent, if_false, if_true, same_bytes_are, same_self}
+use Rattle.index_model.specs.records_model.History.{LiveChanges, same_id, changes_by, changes_key, current, records}
+use Rattle.index_model.proofs.records_model.RecordsLemmas.{same_key}
 use Rattle.unit_laws.specs.Units.{Map, Apart, HasImages, HasLatest, IsImage, SerialsDiffer, earliest_before, is_of, latest_after, map_in, restored}
 use Rattle.unit_laws.specs.Layouts.{leaf_restored, layout_restored, slot_restored}
 use Rattle.unit_laws.proofs.LiveLemmas.{clash, id_is}
 use Rattle.unit_laws.proofs.Tests.{both_ways, or_either, or_first, or_second, passed, picked}
-use Rattle.run_model.specs.World as world
-use Rattle.run_model.specs.World.{AreUnitsOf, File, IsHalfUndone, IsKept, IsOnItsWay, Node, Organization, TellsUnits, half_undone, leaving, live_leaving}
+use Rattle.world_laws.specs.run_model.World as world
+use Rattle.world_laws.specs.run_model.World.{AreUnitsOf, File, IsHalfUndone, IsKept, IsOnItsWay, Node, Organization, TellsUnits, half_undone, leaving, live_leaving}
 use Rattle.world_laws.proofs.HalfLemmas.{all_leaving, earliest_leaving, keys_leaving, latest_leaving, now_leaving}
 use Rattle.directory_model.specs.Files.{IsFile, IsPlace, file_at, head_at, organized_by}
 use Rattle.directory_model.proofs.Places.{file_mapped}

@@ -12,3 +12,5 @@ pub mod StandLemmas
 pub mod SetLemmas
 pub mod SequenceSetLemmas
 pub mod ChangingLemmas
+pub mod directory_model
+pub mod file_images

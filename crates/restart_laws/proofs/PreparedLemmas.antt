@@ -3,19 +3,19 @@ use Rattle.std.proofs.Common.{◌≡◌, ℕ, Bool, true, false, cond, List, [],
 use Rattle.std.specs.Option.{option_map}
 use Rattle.std.specs.List.{AllByRecursion}
 use Rattle.file_base.specs.declared.head.FileHead.{FileHead}
-use Rattle.record_files.specs.Any.{map_of}
+use Rattle.directory_model.specs.record_files.Any.{map_of}
 use Rattle.vms_model.specs.Ids.{Id}
 use Rattle.vms_model.specs.Keys.{Key}
-use Rattle.records_model.specs.Records.{Change}
-use Rattle.records_model.specs.History.{LiveChanges, same_id, changes_by, changes_key, current, without}
+use Rattle.index_model.specs.records_model.Records.{Change}
+use Rattle.index_model.specs.records_model.History.{LiveChanges, same_id, changes_by, changes_key, current, without}
 use Rattle.unit_laws.specs.Units.{Map, Apart, HasLatest, IsOrderly, SerialsDiffer, earliest_before, has_changes, map_in}
 use Rattle.unit_laws.specs.Journal.{Journal, PreparedEntry, RecoveryUnit, entries_for, find_unit, trimmed, units_in, with_entries, with_settled}
 use Rattle.unit_laws.specs.JournalLaws.{unit_or_new, with_more}
 use Rattle.unit_laws.proofs.LiveLemmas.{clash, id_is, left_so, others_left}
 use Rattle.unit_laws.proofs.TrimLemmas.{settles_unit, trim_keeps_units}
 use Rattle.unit_laws.proofs.UnitLemmas.{changes_make_unit, prepares_unit}
-use Rattle.commit_protocol.specs.Table as table
-use Rattle.run_model.specs.World.{Node, File, Settlement, IsPreparedUnit, Tables, acted, settled_file, settlement_of}
+use Rattle.world_laws.specs.commit_protocol.Table as table
+use Rattle.world_laws.specs.run_model.World.{Node, File, Settlement, IsPreparedUnit, Tables, acted, settled_file, settlement_of}
 use Rattle.directory_model.specs.Files.{IsFile, IsPlace, head_at, file_at}
 use Rattle.directory_model.specs.Restoring.{IsRestored, IsPlacePrepared, IsPlaceRestored, StandsPrepared}
 use Rattle.directory_model.proofs.Acts.{settled_directory}

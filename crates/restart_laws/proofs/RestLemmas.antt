@@ -7,20 +7,20 @@ use Rattle.std.specs.FinMap.{get}
 use Rattle.file_base.specs.declared.head.FileHead.{FileHead}
 use Rattle.file_base.specs.declared.head.Organization.{Organization as Kept}
 use Rattle.file_base.specs.declared.head.Organization.TheVariants.{Sequential, Relative, Indexed}
-use Rattle.record_files.specs.Any as any
-use Rattle.record_files.specs.Any.{map_of}
-use Rattle.indexed_tree.specs.Rooted.{layout_in}
+use Rattle.directory_model.specs.record_files.Any as any
+use Rattle.directory_model.specs.record_files.Any.{map_of}
+use Rattle.directory_model.specs.indexed_tree.Rooted.{layout_in}
 use Rattle.vms_model.specs.Keys.{Key, Text}
-use Rattle.records_model.specs.Slots.{Slot, same_bytes, slot_at, value_in, lookup, IsOrdered}
-use Rattle.tree_model.specs.Layouts.{Leaf, Layout, slots_along}
-use Rattle.records_model.specs.History.{LiveChanges, changes_key, current}
-use Rattle.records_model.proofs.SlotLaws.{same_self, same_bytes_are, behind_absent, if_true, if_false}
+use Rattle.index_model.specs.records_model.Slots.{Slot, same_bytes, slot_at, value_in, lookup, IsOrdered}
+use Rattle.index_model.specs.tree_model.Layouts.{Leaf, Layout, slots_along}
+use Rattle.index_model.specs.records_model.History.{LiveChanges, changes_key, current}
+use Rattle.index_model.proofs.records_model.SlotLaws.{same_self, same_bytes_are, behind_absent, if_true, if_false}
 use Rattle.unit_laws.specs.Units.{Map, HasLatest, IsOrderly, earliest_before, map_in, restored}
 use Rattle.unit_laws.specs.Journal.{Journal, RecoveryUnit, find_unit, units_in}
 use Rattle.unit_laws.specs.JournalLaws.{is_unit}
 use Rattle.unit_laws.proofs.Tests.{both_ways}
 use Rattle.vms_model.specs.Ids.{Id}
-use Rattle.run_model.specs.World.{File, IsPreparedUnit}
+use Rattle.world_laws.specs.run_model.World.{File, IsPreparedUnit}
 use Rattle.directory_model.specs.Files.{IsFile, IsPlace, head_at, file_at}
 use Rattle.directory_model.specs.Restoring.{AlikeBare, bare, bare_leaf, IsLeft, IsPlaceLeft, IsPlacePrepared, IsLayoutOf}
 use Rattle.restart_laws.specs.Falls.{AllPrepared, RestsAsFiles}

@@ -6,32 +6,32 @@ use Rattle.std.proofs.lemmas.Bool.{false_from_ne_true}
 use Rattle.file_base.specs.declared.head.FileHead.{FileHead}
 use Rattle.file_base.specs.declared.head.Organization.{Organization as Kept}
 use Rattle.file_base.specs.declared.head.Organization.TheVariants.{Sequential, Relative, Indexed}
-use Rattle.change_set.specs.Files.{SameFile}
-use Rattle.record_files.specs.Any as any
-use Rattle.relative_file.specs.Cells as relative
-use Rattle.indexed_file.specs.Chain as leaf
-use Rattle.indexed_tree.specs.Files as indexed
-use Rattle.indexed_tree.specs.Maps.{all_slots}
-use Rattle.indexed_tree.specs.Rooted.{layout_in}
-use Rattle.seq_file.specs.Layout as sequential
-use Rattle.seq_file.proofs.FileLaws.{used_is}
+use Rattle.directory_model.specs.change_set.Files.{SameFile}
+use Rattle.directory_model.specs.record_files.Any as any
+use Rattle.directory_model.specs.relative_file.Cells as relative
+use Rattle.directory_model.specs.indexed_file.Chain as leaf
+use Rattle.directory_model.specs.indexed_tree.Files as indexed
+use Rattle.directory_model.specs.indexed_tree.Maps.{all_slots}
+use Rattle.directory_model.specs.indexed_tree.Rooted.{layout_in}
+use Rattle.directory_model.specs.seq_file.Layout as sequential
+use Rattle.directory_model.proofs.seq_file.FileLaws.{used_is}
 use Rattle.vms_model.specs.Ids.{Id}
 use Rattle.vms_model.specs.Keys.{Key, Number, Text, End}
-use Rattle.records_model.specs.Records.{Change}
-use Rattle.records_model.specs.Slots.{Slot, same_bytes, slot_at, room_in, room_of, size_of, with_value}
-use Rattle.tree_model.specs.Layouts.{Layout, slots_along}
-use Rattle.records_model.specs.History.{LiveChanges, same_id, changes_key, changes_by, settled_with, without}
-use Rattle.records_model.proofs.SlotLaws.{if_true, if_false}
+use Rattle.index_model.specs.records_model.Records.{Change}
+use Rattle.index_model.specs.records_model.Slots.{Slot, same_bytes, slot_at, room_in, room_of, size_of, with_value}
+use Rattle.index_model.specs.tree_model.Layouts.{Layout, slots_along}
+use Rattle.index_model.specs.records_model.History.{LiveChanges, same_id, changes_key, changes_by, settled_with, without}
+use Rattle.index_model.proofs.records_model.SlotLaws.{if_true, if_false}
 use Rattle.unit_laws.specs.Units.{Map, earliest_before, with_before_images, is_changed, Apart, HasImages, Represents, moves_end, has_changes, OneMovesEnd}
 use Rattle.unit_laws.specs.Layouts.{slot_restored, layout_restored}
 use Rattle.unit_laws.proofs.Tests.{both_ways, or_first, or_second}
 use Rattle.unit_laws.proofs.LiveLemmas.{clash, left_so, no_such}
 use Rattle.unit_laws.proofs.RestoredLemmas.{changed_of}
-use Rattle.sequence_laws.specs.Undoing.{GoesBack}
-use Rattle.sequence_laws.proofs.SequenceLemmas.{same_records}
-use Rattle.sequence_laws.proofs.OthersLemmas.{other_goes_back}
-use Rattle.sequence_laws.proofs.ChangeLemmas.{nothing_goes_back}
-use Rattle.run_model.specs.World.{File, Organization, Settlement, settled_file, OneMovesEndOf}
+use Rattle.directory_model.specs.sequence_laws.Undoing.{GoesBack}
+use Rattle.directory_model.proofs.sequence_laws.SequenceLemmas.{same_records}
+use Rattle.directory_model.proofs.sequence_laws.OthersLemmas.{other_goes_back}
+use Rattle.directory_model.proofs.sequence_laws.ChangeLemmas.{nothing_goes_back}
+use Rattle.world_laws.specs.run_model.World.{File, Organization, Settlement, settled_file, OneMovesEndOf}
 use Rattle.directory_model.specs.Files.{organized_by, head_at, file_at}
 use Rattle.directory_model.specs.Restoring.{CanRestore, CanRestoreBy, IsLeft, IsPlaceLeft, IsRestored, IsPlaceRestored, IsPlaceRestorable}
 use Rattle.directory_model.proofs.Acts.{settled_directory}

@@ -7,22 +7,22 @@ use Rattle.std.proofs.lemmas.List.Elements.{All-cons, All-head, All-nil, All-tai
 use Rattle.file_base.specs.declared.head.FileHead.{FileHead}
 use Rattle.vms_model.specs.Ids.{Id}
 use Rattle.vms_model.specs.Keys.{Key, Number}
-use Rattle.records_model.specs.Records.{Change, key_cmp}
-use Rattle.records_model.specs.History.{LiveChanges, same_id, changes_key, with_change, with_changes}
-use Rattle.records_model.proofs.RecordsLemmas.{same_key}
-use Rattle.seq_file.specs.Layout.{IsRecord, capacity}
-use Rattle.seq_file.specs.Placing.{buckets_for}
-use Rattle.seq_file.specs.Records.{map_of_list, list_set, slot_sizes}
-use Rattle.seq_file.proofs.MapLaws.{map_set}
-use Rattle.seq_file.proofs.RecordLaws.{record_at_push, list_set_none}
+use Rattle.index_model.specs.records_model.Records.{Change, key_cmp}
+use Rattle.index_model.specs.records_model.History.{LiveChanges, same_id, changes_key, with_change, with_changes}
+use Rattle.index_model.proofs.records_model.RecordsLemmas.{same_key}
+use Rattle.directory_model.specs.seq_file.Layout.{IsRecord, capacity}
+use Rattle.directory_model.specs.seq_file.Placing.{buckets_for}
+use Rattle.directory_model.specs.seq_file.Records.{map_of_list, list_set, slot_sizes}
+use Rattle.directory_model.proofs.seq_file.MapLaws.{map_set}
+use Rattle.directory_model.proofs.seq_file.RecordLaws.{record_at_push, list_set_none}
 use Rattle.unit_laws.specs.Units.{Map, Represents, HasImages, HasLatest, SerialsDiffer, is_changed, is_of, latest_after, is_free, moves_end, end_is_free, with_key}
 use Rattle.unit_laws.proofs.Tests.{and_first, and_second, not_true, or_first, or_second}
 use Rattle.unit_laws.proofs.LiveLemmas.{clash, id_itself, free_changes, once_change}
 use Rattle.unit_laws.proofs.RepresentLemmas.{change_keeps}
-use Rattle.sequence_laws.specs.Undoing.{GoesBack}
-use Rattle.sequence_laws.specs.Laws.{IsChangeOf}
-use Rattle.sequence_laws.proofs.ChangeLemmas.{nothing_goes_back, change_goes_back, change_beside_goes_back}
-use Rattle.run_model.specs.Operations.{removed}
+use Rattle.directory_model.specs.sequence_laws.Undoing.{GoesBack}
+use Rattle.directory_model.specs.sequence_laws.Laws.{IsChangeOf}
+use Rattle.directory_model.proofs.sequence_laws.ChangeLemmas.{nothing_goes_back, change_goes_back, change_beside_goes_back}
+use Rattle.world_laws.specs.run_model.Operations.{removed}
 use Rattle.directory_model.proofs.ReadingLists.{numbered}
 use Rattle.directory_model.proofs.ReadingPlaces.{first_few}
 use Rattle.restart_laws.proofs.ListLemmas.{all_as, both_as, change_all}

@@ -5,17 +5,17 @@ use Rattle.std.specs.Ordering.{is_eq}
 use Rattle.std.specs.List.{AllByRecursion}
 use Rattle.file_base.specs.declared.head.FileHead.{FileHead}
 use Rattle.file_base.specs.declared.head.Organization.TheVariants.{Relative, Indexed}
-use Rattle.change_set.specs.Files.{SameFile}
-use Rattle.relative_file.specs.Cells as relative
-use Rattle.indexed_file.specs.Chain as leaf
-use Rattle.indexed_tree.specs.Files as indexed
-use Rattle.indexed_tree.specs.Rooted.{IsRooted}
+use Rattle.directory_model.specs.change_set.Files.{SameFile}
+use Rattle.directory_model.specs.relative_file.Cells as relative
+use Rattle.directory_model.specs.indexed_file.Chain as leaf
+use Rattle.directory_model.specs.indexed_tree.Files as indexed
+use Rattle.directory_model.specs.indexed_tree.Rooted.{IsRooted}
 use Rattle.vms_model.specs.Ids.{Id}
 use Rattle.vms_model.specs.Keys.{Key, Number, Text, End}
-use Rattle.records_model.specs.Records.{Change}
-use Rattle.records_model.specs.Slots.{size_of}
-use Rattle.records_model.specs.History.{LiveChanges, same_id, changes_key, with_change}
-use Rattle.records_model.proofs.KeyLemmas.{key_cmp_total}
+use Rattle.index_model.specs.records_model.Records.{Change}
+use Rattle.index_model.specs.records_model.Slots.{size_of}
+use Rattle.index_model.specs.records_model.History.{LiveChanges, same_id, changes_key, with_change}
+use Rattle.index_model.proofs.records_model.KeyLemmas.{key_cmp_total}
 use Rattle.unit_laws.specs.Units.{earliest_before, is_changed, is_of, SerialsDiffer}
 use Rattle.unit_laws.proofs.Tests.{or_one, or_other}
 use Rattle.directory_model.specs.Files.{IsWithin}

@@ -2,18 +2,18 @@
 use Rattle.std.proofs.Common.{◌≡◌, ℕ, List, [], ◌∷◌, map, Option, Some, None, refl, sym, ap, subst, ◌∙◌}
 use Rattle.std.specs.List.{AllByRecursion}
 use Rattle.file_base.specs.declared.head.FileHead.{FileHead}
-use Rattle.change_set.specs.Files.{AgreesOn}
-use Rattle.change_set.specs.Maps.{Map}
-use Rattle.record_files.specs.Any as any
-use Rattle.record_files.specs.Any.{map_of, IsLaidOut}
-use Rattle.record_files.specs.Local.{layout_local_law, local_law, valid_local_law}
-use Rattle.records_model.specs.Slots.{Slot}
-use Rattle.tree_model.specs.Layouts.{Leaf, Layout}
-use Rattle.records_model.specs.History.{LiveChanges, records}
+use Rattle.directory_model.specs.change_set.Files.{AgreesOn}
+use Rattle.directory_model.specs.change_set.Maps.{Map}
+use Rattle.directory_model.specs.record_files.Any as any
+use Rattle.directory_model.specs.record_files.Any.{map_of, IsLaidOut}
+use Rattle.directory_model.specs.record_files.Local.{layout_local_law, local_law, valid_local_law}
+use Rattle.index_model.specs.records_model.Slots.{Slot}
+use Rattle.index_model.specs.tree_model.Layouts.{Leaf, Layout}
+use Rattle.index_model.specs.records_model.History.{LiveChanges, records}
 use Rattle.unit_laws.specs.Units.{map_in, HasImages, HasLatest, Represents}
 use Rattle.unit_laws.specs.Journal.{Journal}
 use Rattle.unit_laws.specs.Layouts.{slot_restored, leaf_restored, layout_restored}
-use Rattle.run_model.specs.World.{File, IsPreparedUnit}
+use Rattle.world_laws.specs.run_model.World.{File, IsPreparedUnit}
 use Rattle.directory_model.specs.Files.{AgreesOnFile, head_at, file_at, layout_of}
 use Rattle.directory_model.specs.Restoring.{AlikeBare, bare_layout, IsLeft, IsPlaceLeft, IsPlacePrepared, IsGrouped, IsRestored}
 use Rattle.directory_model.proofs.Standing.{carried_stands}

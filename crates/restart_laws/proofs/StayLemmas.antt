@@ -8,32 +8,32 @@ use Rattle.file_base.specs.declared.head.FileHead.{FileHead}
 use Rattle.file_base.specs.declared.head.Marks.{Marks}
 use Rattle.file_base.specs.declared.head.Save.{Save}
 use Rattle.file_base.specs.declared.head.Span.{Span}
-use Rattle.vms_base.specs.declared.times.Moment.{Moment}
+use Rattle.file_base.specs.vms_base.declared.times.Moment.{Moment}
 use Rattle.file_base.specs.declared.head.Organization.{Organization as Kept}
 use Rattle.file_base.specs.declared.head.Organization.TheVariants.{Sequential, Relative, Indexed}
-use Rattle.change_set.specs.Files.{AgreesOn}
-use Rattle.change_set.specs.Maps.{Map}
-use Rattle.seq_file.specs.Layout.{records_in}
-use Rattle.seq_file.specs.Local as sequential
-use Rattle.relative_file.specs.Cells as relative
-use Rattle.indexed_file.specs.Chain as leaf
-use Rattle.indexed_tree.specs.Files as indexed
-use Rattle.record_files.specs.Indexed as local
-use Rattle.indexed_tree.specs.Rooted.{IsRooted}
-use Rattle.record_files.specs.Any.{FormBy, LaidOutBy}
+use Rattle.directory_model.specs.change_set.Files.{AgreesOn}
+use Rattle.directory_model.specs.change_set.Maps.{Map}
+use Rattle.directory_model.specs.seq_file.Layout.{records_in}
+use Rattle.directory_model.specs.seq_file.Local as sequential
+use Rattle.directory_model.specs.relative_file.Cells as relative
+use Rattle.directory_model.specs.indexed_file.Chain as leaf
+use Rattle.directory_model.specs.indexed_tree.Files as indexed
+use Rattle.directory_model.specs.record_files.Indexed as local
+use Rattle.directory_model.specs.indexed_tree.Rooted.{IsRooted}
+use Rattle.directory_model.specs.record_files.Any.{FormBy, LaidOutBy}
 use Rattle.vms_model.specs.Ids.{Id}
 use Rattle.vms_model.specs.Keys.{Key, Number, Text, End}
 use Rattle.vms_model.specs.Transactions.{Outcome, Commit}
-use Rattle.records_model.specs.Records.{Change}
-use Rattle.records_model.specs.Slots.{Slot, room_of, size_of}
-use Rattle.records_model.specs.History.{History, LiveChanges, changed_with, same_id, settled_at, settled_with, with_changes, without}
+use Rattle.index_model.specs.records_model.Records.{Change}
+use Rattle.index_model.specs.records_model.Slots.{Slot, room_of, size_of}
+use Rattle.index_model.specs.records_model.History.{History, LiveChanges, changed_with, same_id, settled_at, settled_with, with_changes, without}
 use Rattle.unit_laws.specs.Units.{earliest_before}
 use Rattle.unit_laws.proofs.LiveLemmas.{by_changes, left_so}
-use Rattle.sequence_laws.specs.Undoing.{GoesBack}
-use Rattle.sequence_laws.proofs.SequenceLemmas.{same_records}
-use Rattle.run_model.specs.Locks.{is_locked}
-use Rattle.run_model.specs.World as world
-use Rattle.run_model.specs.World.{Node, File, Settlement, acted, changed_file, directly_changed, settled_file}
+use Rattle.directory_model.specs.sequence_laws.Undoing.{GoesBack}
+use Rattle.directory_model.proofs.sequence_laws.SequenceLemmas.{same_records}
+use Rattle.world_laws.specs.run_model.Locks.{is_locked}
+use Rattle.world_laws.specs.run_model.World as world
+use Rattle.world_laws.specs.run_model.World.{Node, File, Settlement, acted, changed_file, directly_changed, settled_file}
 use Rattle.world_laws.proofs.DirectLemmas.{live_same}
 use Rattle.directory_model.specs.Files.{AreFiles, IsFoundAt, IsNamed, IsPlace, AgreesOnFile, head_at, file_at}
 use Rattle.directory_model.specs.Restoring.{AreRestorable, CanRestore, CanRestoreBy, IsPlaceRestorable}

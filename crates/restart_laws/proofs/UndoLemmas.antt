@@ -6,25 +6,25 @@ use Rattle.std.proofs.lemmas.List.{map-append, length-map}
 use Rattle.file_base.specs.declared.head.FileHead.{FileHead}
 use Rattle.file_base.specs.declared.head.Organization.{Organization as Kept}
 use Rattle.file_base.specs.declared.head.Organization.TheVariants.{Sequential, Relative, Indexed}
-use Rattle.record_files.specs.Any as any
-use Rattle.record_files.specs.Any.{map_of}
-use Rattle.indexed_file.specs.Chain as leaf
-use Rattle.indexed_tree.specs.Files as indexed
-use Rattle.indexed_tree.specs.Rooted.{layout_in}
+use Rattle.directory_model.specs.record_files.Any as any
+use Rattle.directory_model.specs.record_files.Any.{map_of}
+use Rattle.directory_model.specs.indexed_file.Chain as leaf
+use Rattle.directory_model.specs.indexed_tree.Files as indexed
+use Rattle.directory_model.specs.indexed_tree.Rooted.{layout_in}
 use Rattle.vms_model.specs.Ids.{Id}
 use Rattle.vms_model.specs.Keys.{Key, Text}
 use Rattle.vms_model.specs.Transactions.{Outcome, Abort}
-use Rattle.records_model.specs.Records.{Change}
-use Rattle.records_model.specs.Slots.{Slot, same_bytes, bytes_before, slot_at, value_in, room_in, lookup, size_of, with_value, AllBehind, IsOrdered}
-use Rattle.tree_model.specs.Layouts.{Leaf, slots_along}
-use Rattle.records_model.specs.History.{LiveChanges, same_id, records, changes_key, changes_by, settled_at}
-use Rattle.records_model.proofs.RecordsLemmas.{same_key}
-use Rattle.records_model.proofs.SlotLaws.{same_bytes_are, if_true, if_false}
+use Rattle.index_model.specs.records_model.Records.{Change}
+use Rattle.index_model.specs.records_model.Slots.{Slot, same_bytes, bytes_before, slot_at, value_in, room_in, lookup, size_of, with_value, AllBehind, IsOrdered}
+use Rattle.index_model.specs.tree_model.Layouts.{Leaf, slots_along}
+use Rattle.index_model.specs.records_model.History.{LiveChanges, same_id, records, changes_key, changes_by, settled_at}
+use Rattle.index_model.proofs.records_model.RecordsLemmas.{same_key}
+use Rattle.index_model.proofs.records_model.SlotLaws.{same_bytes_are, if_true, if_false}
 use Rattle.unit_laws.specs.Units.{Map, map_in, is_of, earliest_before, Represents, IsOrderly}
 use Rattle.unit_laws.specs.Layouts.{slot_restored, leaf_restored, layout_restored}
 use Rattle.unit_laws.proofs.Tests.{both_ways}
 use Rattle.unit_laws.proofs.HistoryLaws.{aborts_one, undoes_one}
-use Rattle.run_model.specs.World.{Node, File, Settlement, AreUnitsOf, settled_file, settled_layout}
+use Rattle.world_laws.specs.run_model.World.{Node, File, Settlement, AreUnitsOf, settled_file, settled_layout}
 use Rattle.directory_model.specs.Files.{AgreesOnCarried, head_at, file_at, layout_of}
 use Rattle.directory_model.specs.Restoring.{AlikeBare, bare, bare_layout, IsLeft, IsPlaceLeft, AreLeft, IsRestored, IsPlaceRestored, AreRestored, IsPlaceRestorable, AreRestorable, CanRestore, CanRestoreBy, IsLayoutOf}
 use Rattle.directory_model.specs.Laws.{carrying, settled_buckets}

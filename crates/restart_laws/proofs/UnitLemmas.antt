@@ -10,8 +10,8 @@ use Rattle.std.proofs.lemmas.List.{get_or-set_same, get_or-set_other}
 use Rattle.vms_model.specs.Ids.{Id}
 use Rattle.vms_model.specs.Keys.{Key}
 use Rattle.vms_model.specs.Transactions.{Outcome, Commit, Abort, SegFail}
-use Rattle.records_model.specs.Records.{Change, Found, Records}
-use Rattle.records_model.specs.History.{History, LiveChanges, same_id, records, on_top, changes_by, changed_with, current, settled_at, with_changes, without}
+use Rattle.index_model.specs.records_model.Records.{Change, Found, Records}
+use Rattle.index_model.specs.records_model.History.{History, LiveChanges, same_id, records, on_top, changes_by, changed_with, current, settled_at, with_changes, without}
 use Rattle.unit_laws.specs.Units.{SerialsDiffer, Represents, IsOrderly, HasLatest, map_in, has_changes}
 use Rattle.unit_laws.specs.Journal.{Journal, JournalEntry, ChangeEntry, PreparedEntry, SettledEntry, RecoveryUnit, empty_journal, entries_for, entries_from, find_unit, is_of_file, is_of_units, is_settled_in, note_of, serial_in, trimmed, units_in, with_entries, with_settled}
 use Rattle.unit_laws.specs.JournalLaws.{HasNotes, is_unit}
@@ -20,10 +20,10 @@ use Rattle.unit_laws.proofs.HistoryLaws.{changes_more, commits_one}
 use Rattle.unit_laws.proofs.LiveLemmas.{id_is}
 use Rattle.unit_laws.proofs.NoteLemmas.{changes_keep_notes, changes_elsewhere_keep_notes, prepares_keep_notes, settles_keep_notes, unchanged_has_notes}
 use Rattle.unit_laws.proofs.TrimLemmas.{found_onto, had_onto, trim_keeps_units}
-use Rattle.run_model.specs.Locks.{is_locked}
-use Rattle.run_model.specs.World as world
-use Rattle.run_model.specs.World.{Node, File, Mark, Organization, Settlement, TellsUnits, AreUnitsOf, IsPreparedUnit, IsReached, OneMovesEndOf, acted, changed_file, directly_changed, marked_file, recovered_file, saved_file, settled_file, settlement, find_file}
-use Rattle.commit_protocol.specs.Table as table
+use Rattle.world_laws.specs.run_model.Locks.{is_locked}
+use Rattle.world_laws.specs.run_model.World as world
+use Rattle.world_laws.specs.run_model.World.{Node, File, Mark, Organization, Settlement, TellsUnits, AreUnitsOf, IsPreparedUnit, IsReached, OneMovesEndOf, acted, changed_file, directly_changed, marked_file, recovered_file, saved_file, settled_file, settlement, find_file}
+use Rattle.world_laws.specs.commit_protocol.Table as table
 use Rattle.world_laws.proofs.DirectLemmas.{live_same, none_of}
 use Rattle.restart_laws.proofs.ListLemmas.{all_as}
 use Rattle.directory_model.specs.Files.{IsFoundAt, file_at}

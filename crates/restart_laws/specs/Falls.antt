@@ -2,13 +2,13 @@
 use Rattle.std.specs.Prelude.{◌≡◌, ℕ, List, [], true, Option, Some}
 use Rattle.vms_model.specs.Ids.{Id}
 use Rattle.file_base.specs.declared.head.FileHead.{FileHead}
-use Rattle.change_set.specs.Files.{AgreesOn}
-use Rattle.record_files.specs.Any as any
-use Rattle.record_files.specs.Any.{IsLaidOut}
+use Rattle.directory_model.specs.change_set.Files.{AgreesOn}
+use Rattle.directory_model.specs.record_files.Any as any
+use Rattle.directory_model.specs.record_files.Any.{IsLaidOut}
 use Rattle.vms_model.specs.Transactions.{Abort}
 use Rattle.unit_laws.specs.Journal.{Journal, RecoveryUnit, find_unit, units_in}
-use Rattle.commit_protocol.specs.Table as table
-use Rattle.run_model.specs.World.{Node, File, Settlement, AreUnitsOf, Tables, acted, settlement_of}
+use Rattle.world_laws.specs.commit_protocol.Table as table
+use Rattle.world_laws.specs.run_model.World.{Node, File, Settlement, AreUnitsOf, Tables, acted, settlement_of}
 use Rattle.directory_model.specs.Files.{AgreesOnFile, AreFiles, head_at}
 use Rattle.directory_model.specs.Laws.{settled_buckets}
 use Rattle.directory_model.specs.Restoring.{AreRestorable, AreLeft, AreGrouped, AreRestored, IsLeft, IsGrouped, IsRestored, StandPrepared}

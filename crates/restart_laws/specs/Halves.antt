@@ -3,13 +3,13 @@ use Rattle.std.specs.Prelude.{◌≡◌, ℕ, List, [], ◌∷◌, true, false, 
 use Rattle.std.specs.Str.{bytes_eq}
 use Rattle.std.specs.List.{AllByRecursion}
 use Rattle.file_base.specs.declared.head.FileHead.{FileHead}
-use Rattle.record_files.specs.Any.{map_of}
+use Rattle.directory_model.specs.record_files.Any.{map_of}
 use Rattle.vms_model.specs.Ids.{Id}
 use Rattle.vms_model.specs.Keys.{Key}
-use Rattle.records_model.specs.History.{LiveChanges, changes_by, changes_key, same_id}
+use Rattle.index_model.specs.records_model.History.{LiveChanges, changes_by, changes_key, same_id}
 use Rattle.unit_laws.specs.Units.{Map, HasLatest, earliest_before, latest_after}
 use Rattle.unit_laws.specs.Journal.{Journal}
-use Rattle.run_model.specs.World.{AreUnitsOf, File, IsHalfUndone, IsOnItsWay, Node, Sequential, TellsUnits, half_undone}
+use Rattle.world_laws.specs.run_model.World.{AreUnitsOf, File, IsHalfUndone, IsOnItsWay, Node, Sequential, TellsUnits, half_undone}
 use Rattle.directory_model.specs.Files.{AreFiles, IsFile, file_at, head_at}
 use Rattle.directory_model.specs.Restoring.{AreLeft, AreRestorable, CanRestore, IsLeft}
 

@@ -4,19 +4,19 @@ use Rattle.std.specs.List.{AllByRecursion}
 use Rattle.vms_model.specs.Limits.{file_limit}
 use Rattle.file_base.specs.declared.head.FileHead.{FileHead}
 use Rattle.file_base.specs.declared.head.Organization.TheVariants.{Sequential}
-use Rattle.change_set.specs.Files.{AgreesOn, SameFile}
-use Rattle.change_set.specs.Maps.{set_key}
-use Rattle.record_files.specs.Any as any
-use Rattle.record_files.specs.Any.{map_of, IsLaidOut, Suits, Restores, room_at}
-use Rattle.seq_file.specs.Records.{cut_from}
+use Rattle.directory_model.specs.change_set.Files.{AgreesOn, SameFile}
+use Rattle.directory_model.specs.change_set.Maps.{set_key}
+use Rattle.directory_model.specs.record_files.Any as any
+use Rattle.directory_model.specs.record_files.Any.{map_of, IsLaidOut, Suits, Restores, room_at}
+use Rattle.directory_model.specs.seq_file.Records.{cut_from}
 use Rattle.vms_model.specs.Ids.{Id}
 use Rattle.vms_model.specs.Keys.{Key}
 use Rattle.vms_model.specs.Transactions.{Commit, Abort}
-use Rattle.records_model.specs.Records.{Change}
-use Rattle.records_model.specs.History.{LiveChanges, is_held, same_id}
-use Rattle.run_model.specs.Operations.{in_order, removed}
-use Rattle.run_model.specs.World.{Node, File, Mark, Settlement, AreUnitsOf, Formats, Creates, Marks, Saves, Tables, Changes, Directs, acted, settlement_of}
-use Rattle.commit_protocol.specs.Table as table
+use Rattle.index_model.specs.records_model.Records.{Change}
+use Rattle.index_model.specs.records_model.History.{LiveChanges, is_held, same_id}
+use Rattle.world_laws.specs.run_model.Operations.{in_order, removed}
+use Rattle.world_laws.specs.run_model.World.{Node, File, Mark, Settlement, AreUnitsOf, Formats, Creates, Marks, Saves, Tables, Changes, Directs, acted, settlement_of}
+use Rattle.world_laws.specs.commit_protocol.Table as table
 use Rattle.directory_model.specs.Files.{AreFiles, IsFoundAt, IsNamed, IsWithin, AgreesOnFile, head_at, file_at}
 use Rattle.directory_model.specs.Restoring.{AreRestorable, AreRestored}
 use Rattle.directory_model.specs.Laws.{SameBut}

@@ -4,13 +4,13 @@ use Rattle.std.specs.List.{list_any}
 use Rattle.vms_model.specs.Ids.{Id}
 use Rattle.vms_model.specs.Keys.{Key}
 use Rattle.vms_model.specs.Transactions.{Commit}
-use Rattle.records_model.specs.Records.{Change, Found, Records}
-use Rattle.records_model.specs.History.{LiveChanges, current}
+use Rattle.index_model.specs.records_model.Records.{Change, Found, Records}
+use Rattle.index_model.specs.records_model.History.{LiveChanges, current}
 use Rattle.unit_laws.specs.Units.{end_is_free, has_changes, moves_end}
 use Rattle.unit_laws.specs.Journal.{is_of_file, is_settled_in}
 use Rattle.unit_laws.specs.JournalLaws.{is_unit}
-use Rattle.commit_protocol.specs.Table as table
-use Rattle.run_model.specs.World.{Node, File, Organization, Sequential, Relative, Indexed, Settlement, AreUnitsOf, IsReached, Formats, Boots, Creates, Mark, Marks, Saves, Recovers, Draws, Clocks, Tables, Changes, Holds, Directs, acted, find_file}
+use Rattle.world_laws.specs.commit_protocol.Table as table
+use Rattle.world_laws.specs.run_model.World.{Node, File, Organization, Sequential, Relative, Indexed, Settlement, AreUnitsOf, IsReached, Formats, Boots, Creates, Mark, Marks, Saves, Recovers, Draws, Clocks, Tables, Changes, Holds, Directs, acted, find_file}
 use Rattle.directory_model.specs.Laws.{AreFree}
 
 -- where changes move the end of a sequential file, that is free for the branch: no other branch moved it

@@ -7,8 +7,8 @@ use Rattle.std.specs.Prelude.{max}
 use Rattle.careful_write.specs.State.{IsIdle}
 use Rattle.journal_model.specs.Entries.{Entry}
 use Rattle.journal_model.specs.Ring.{ring_size}
-use Rattle.unit_aborts.specs.Aborting.{Abortion, Aborts, BreaksOff, HasRoom, MayAbort, abort_entry, has_changes}
-use Rattle.unit_aborts.specs.Growing.{GrowsBy}
+use Rattle.unit_restarts.specs.unit_aborts.Aborting.{Abortion, Aborts, BreaksOff, HasRoom, MayAbort, abort_entry, has_changes}
+use Rattle.unit_restarts.specs.unit_aborts.Growing.{GrowsBy}
 use Rattle.unit_journal.specs.Entries.{settled_entry}
 use Rattle.unit_journal.specs.Groups.{Grows, GrowsOnce}
 use Rattle.unit_journal.specs.Settling.{entry_if, next_moment, span_with}
@@ -29,7 +29,7 @@ use Rattle.rms_units.specs.State.{AreAscending, AreWithin, IsEarly, IsInOrder, U
 use Rattle.rms_units.proofs.OrderLemmas.{ring_of}
 use Rattle.rms_units.proofs.PositionLemmas.{ascending_gone, owed_gone}
 use Rattle.rms_units.proofs.RoomLemmas.{owed_least, room_to_settle}
-use Rattle.unit_aborts.proofs.ImageLemmas.{fit_on, low_less, low_on}
+use Rattle.unit_restarts.proofs.unit_aborts.ImageLemmas.{fit_on, low_less, low_on}
 use Rattle.rms_units.proofs.SettledLemmas.{bytes_of, next_bound, next_later, order_settled_in, with_end}
 
 -- What an abort asks for.

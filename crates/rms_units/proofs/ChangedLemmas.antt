@@ -5,7 +5,7 @@ use Rattle.careful_write.specs.State.{IsReady, OneContent, content}
 use Rattle.careful_write.specs.declared.down.Down.{Down}
 use Rattle.file_base.specs.declared.head.FileHead.{FileHead}
 use Rattle.journal_model.specs.Entries.{Entry, spelling}
-use Rattle.record_files.specs.Any.{IsFile, IsLaidOut}
+use Rattle.volume_files.specs.record_files.Any.{IsFile, IsLaidOut}
 use Rattle.record_locks.specs.Locks.{Lock, holder, with_locks}
 use Rattle.record_operations.specs.declared.errors.RecErr.{RecErr}
 use Rattle.record_operations.specs.Causes.{Cause, IfRefused, down_in}
@@ -30,7 +30,7 @@ use Rattle.unit_journal.specs.Entries.{change_entry}
 use Rattle.key_changes.specs.Changing.{after_change, before_change, keys_asked, locks_refuse}
 use Rattle.kept_files.specs.Own.{own_change}
 use Rattle.rms_units.specs.Making.{CommitsKey, EntersKey}
-use Rattle.unit_cuts.specs.Records.{OfRecords}
+use Rattle.key_changes.specs.unit_cuts.Records.{OfRecords}
 use Rattle.rms_units.specs.State.{UnitsState}
 use Rattle.rms_units.proofs.Refusing.{either_way, refused_so}
 

@@ -17,7 +17,7 @@ use Rattle.vms_model.specs.Ids.{Id}
 use Rattle.vms_model.specs.Keys.{Key, Number, End}
 use Rattle.key_changes.specs.Changing.{held_against, keys_refused, locks_refuse}
 use Rattle.rms_units.proofs.RoomLemmas.{not_refused}
-use Rattle.unit_cuts.specs.Truncating.{keys_down}
+use Rattle.key_changes.specs.unit_cuts.Truncating.{keys_down}
 
 -- Refusals.
 

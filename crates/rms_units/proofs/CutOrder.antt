@@ -22,15 +22,15 @@ use Rattle.image_appends.proofs.Growing.{below_length}
 use Rattle.image_room.specs.Room.{AllSettlementsFit, images_refused}
 use Rattle.vms_base.specs.declared.ids.Tid.{Tid}
 use Rattle.volume_format.specs.declared.home.Home.{Home}
-use Rattle.unit_cuts.specs.Moving.{FitCut}
-use Rattle.unit_cuts.specs.Truncating.{CommitsCut, CutEntries, CutsFile, EntersCut, begins_at, span_behind}
-use Rattle.unit_cuts.proofs.CutFrames.{images_catalog, images_size}
+use Rattle.key_changes.specs.unit_cuts.Moving.{FitCut}
+use Rattle.key_changes.specs.unit_cuts.Truncating.{CommitsCut, CutEntries, CutsFile, EntersCut, begins_at, span_behind}
+use Rattle.key_changes.proofs.unit_cuts.CutFrames.{images_catalog, images_size}
 use Rattle.rms_units.specs.Making.{AreLow}
 use Rattle.rms_units.proofs.ImageLemmas.{kept_same, span_same}
 use Rattle.rms_units.proofs.ImageOrder.{FileGrows, all_noted, grows_both, grows_on, grows_same, moved_is}
 use Rattle.rms_units.proofs.ImageSound.{length_both, sound_both}
 use Rattle.rms_units.proofs.SettledLemmas.{order_own}
-use Rattle.unit_cuts.proofs.CutEntering.{long_front}
+use Rattle.key_changes.proofs.unit_cuts.CutEntering.{long_front}
 use Rattle.rms_units.proofs.OrderLemmas.{owed_set, sound_longer}
 use Rattle.rms_units.proofs.PositionLemmas.{ascend_longer, ascending_within, each_put}
 

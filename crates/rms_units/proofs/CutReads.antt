@@ -16,8 +16,8 @@ use Rattle.volume.specs.State.{SameVolume, VolumeState}
 use Rattle.volume_files.specs.Staging.{TellsCut}
 use Rattle.volume_format.specs.Home.{ru_block_of}
 use Rattle.image_appends.specs.Images.{HasRoom}
-use Rattle.unit_cuts.specs.Records.{OfRecords}
-use Rattle.unit_cuts.specs.Truncating.{AllTold, BreaksCut, CommitsCut, CutEntries, CutsFile, EntersCut, MakesCut, TellCut, TellsCutIf, WritesBehind, WritesImages, cut_entries, keys_cut, span_behind, with_entries_if}
+use Rattle.key_changes.specs.unit_cuts.Records.{OfRecords}
+use Rattle.key_changes.specs.unit_cuts.Truncating.{AllTold, BreaksCut, CommitsCut, CutEntries, CutsFile, EntersCut, MakesCut, TellCut, TellsCutIf, WritesBehind, WritesImages, cut_entries, keys_cut, span_behind, with_entries_if}
 use Rattle.rms_units.specs.State.{UnitsState}
 use Rattle.rms_units.specs.Truncating.{IsCut, IsDirectCut, cut_refused_after_reading, direct_cut_refused_after_reading}
 

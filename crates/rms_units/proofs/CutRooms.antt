@@ -2,15 +2,15 @@
 use Rattle.std.proofs.Common.{◌≡◌, ℕ, ◌+◌, ◌-◌, ◌*◌, ◌<◌, ◌≤◌, ◌^◌, Bool, true, false, Option, Some, None, sym, ap, subst, ◌∙◌, arith}
 use Rattle.change_set.specs.Maps.{Map, empty_map}
 use Rattle.file_base.specs.declared.head.FileHead.{FileHead}
-use Rattle.journal_store.specs.Rings.{IsRing}
+use Rattle.unit_journal.specs.journal_store.Rings.{IsRing}
 use Rattle.unit_journal.specs.Room.{journal_refused}
 use Rattle.unit_table.specs.Units.{OpenUnit, has_changed}
 use Rattle.volume.specs.Catalogs.{head_at}
 use Rattle.volume.specs.State.{VolumeState}
 use Rattle.image_appends.specs.Images.{HasRoom}
 use Rattle.image_room.specs.Room.{images_refused}
-use Rattle.unit_cuts.specs.Moving.{ImagesFit}
-use Rattle.unit_cuts.specs.Truncating.{entry_sizes, keys_cut}
+use Rattle.key_changes.specs.unit_cuts.Moving.{ImagesFit}
+use Rattle.key_changes.specs.unit_cuts.Truncating.{entry_sizes, keys_cut}
 use Rattle.rms_units.specs.State.{IsEarly, IsInOrder, UnitsState}
 use Rattle.rms_units.specs.Truncating.{cut_refused_after_reading, direct_cut_refused_after_reading}
 use Rattle.rms_units.proofs.ImageSound.{rooms_to_change, rooms_to_settle}

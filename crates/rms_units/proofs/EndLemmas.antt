@@ -4,7 +4,7 @@ use Rattle.std.specs.Prelude.{◌⊎◌, option_map, slice_index_or}
 use Rattle.std.specs.List.{flat_map}
 use Rattle.std.proofs.lemmas.Bool.{cases_eq}
 use Rattle.file_base.specs.declared.head.FileHead.{FileHead}
-use Rattle.file_settlements.specs.Settling.{EntersSettled, SettlesFiles, heads_settled}
+use Rattle.kept_files.specs.file_settlements.Settling.{EntersSettled, SettlesFiles, heads_settled}
 use Rattle.image_appends.proofs.Growing.{below_length}
 use Rattle.image_appends.specs.Images.{heads_with_both}
 use Rattle.image_appends.specs.Settling.{heads_from}
@@ -13,22 +13,22 @@ use Rattle.image_room.specs.Room.{images_end}
 use Rattle.journal_format.proofs.Decoding.{entry_size}
 use Rattle.journal_model.specs.Entries.{Entry, IsEntry, spelling}
 use Rattle.kept_files.specs.Own.{only}
-use Rattle.log_laws.specs.Slots.{Slots}
-use Rattle.commit_protocol.specs.Messages.{LogRecord, Name}
-use Rattle.unit_aborts.specs.Aborting.{Abortion, Aborts}
-use Rattle.unit_aborts.specs.Growing.{GrowsBy}
-use Rattle.unit_aborts.specs.Reopening.{HasTaken, Reopens, broken, full, taken}
-use Rattle.unit_aborts.specs.declared.reopening.AbortedUnit.{AbortedUnit}
+use Rattle.unit_entries.specs.log_laws.Slots.{Slots}
+use Rattle.unit_entries.specs.commit_protocol.Messages.{LogRecord, Name}
+use Rattle.unit_restarts.specs.unit_aborts.Aborting.{Abortion, Aborts}
+use Rattle.unit_restarts.specs.unit_aborts.Growing.{GrowsBy}
+use Rattle.unit_restarts.specs.unit_aborts.Reopening.{HasTaken, Reopens, broken, full, taken}
+use Rattle.unit_restarts.specs.unit_aborts.declared.reopening.AbortedUnit.{AbortedUnit}
 use Rattle.ru_journal.specs.Told.{UnitTold}
-use Rattle.unit_cuts.proofs.CutFrames.{images_catalog}
-use Rattle.unit_cuts.proofs.OwnLemmas.{settled_long}
-use Rattle.unit_cuts.specs.Moving.{FitCut}
-use Rattle.unit_cuts.specs.Truncating.{CommitsCut, CutEntries, EntersCut}
+use Rattle.key_changes.proofs.unit_cuts.CutFrames.{images_catalog}
+use Rattle.key_changes.proofs.unit_cuts.OwnLemmas.{settled_long}
+use Rattle.key_changes.specs.unit_cuts.Moving.{FitCut}
+use Rattle.key_changes.specs.unit_cuts.Truncating.{CommitsCut, CutEntries, EntersCut}
 use Rattle.unit_journal.specs.Entries.{settled_entry}
 use Rattle.unit_journal.specs.Groups.{Grows}
 use Rattle.unit_journal.specs.Settling.{MakesSettlement}
 use Rattle.unit_table.specs.Units.{OpenUnit}
-use Rattle.unit_undo.specs.Undoing.{GoesOn, Journals, journals_at, journals_of}
+use Rattle.unit_restarts.specs.unit_undo.Undoing.{GoesOn, Journals, journals_at, journals_of}
 use Rattle.unit_votes.specs.Voting.{AbortsLogged, MakesLogged, Settlement}
 use Rattle.vms_base.specs.Ids.{serial_of, tid_of}
 use Rattle.vms_base.specs.declared.ids.Serial.{Serial}

@@ -20,7 +20,7 @@ use Rattle.image_room.specs.Room.{AllSettlementsFit, SettlementsFit, images_refu
 use Rattle.image_room.proofs.Entered.{BothLonger, both_at, grow, kept_grow}
 use Rattle.image_room.proofs.Keeping.{LongerBy, afters_have_room, befores_have_room, changers_set, fits_beside, fits_unsettled, ring_room, wanted_more}
 use Rattle.kept_files.specs.Own.{only}
-use Rattle.unit_cuts.specs.Truncating.{CutEntries, head_behind, span_if}
+use Rattle.key_changes.specs.unit_cuts.Truncating.{CutEntries, head_behind, span_if}
 use Rattle.rms_units.proofs.ImageLemmas.{kept_same, span_same}
 
 -- The journals of one file have so many bytes more, where it keeps them, and the other files are as they were.

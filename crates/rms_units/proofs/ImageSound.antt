@@ -7,12 +7,12 @@ use Rattle.file_base.specs.declared.head.Span.{Span}
 use Rattle.journal_model.specs.Entries.{Entry}
 use Rattle.journal_model.specs.Ring.{ring_size}
 use Rattle.unit_table.specs.Units.{OpenUnit, changers, unit_at}
-use Rattle.unit_aborts.proofs.ImageLemmas.{fit_told}
+use Rattle.unit_restarts.proofs.unit_aborts.ImageLemmas.{fit_told}
 use Rattle.unit_journal.specs.Settling.{span_with}
 use Rattle.volume.specs.declared.catalog.Catalog.{Catalog}
 use Rattle.volume.specs.Catalogs.{IsSound, head_at}
 use Rattle.volume.specs.State.{VolumeState}
-use Rattle.file_settlements.specs.Settling.{heads_settled}
+use Rattle.kept_files.specs.file_settlements.Settling.{heads_settled}
 use Rattle.image_appends.specs.declared.side.Side.{Side}
 use Rattle.image_appends.specs.declared.side.Side.TheVariants.{After, Before}
 use Rattle.image_appends.specs.Images.{FileHasRoom, HasRoom, heads_with, heads_with_both, is_kept, span_of}

@@ -21,3 +21,7 @@ pub mod VoteLemmas
 pub mod ImageLemmas
 pub mod ImageOrder
 pub mod ImageSound
+pub mod image_appends
+pub mod seq_file
+pub mod unit_cuts
+pub mod unit_journal

@@ -23,7 +23,7 @@ use Rattle.rms_units.specs.Calls.{MakesEntry}
 use Rattle.key_changes.specs.Changing.{after_change, before_change}
 use Rattle.rms_units.specs.Making.{CommitsBranch, CommitsKey, EntersImages, EntersKey}
 use Rattle.unit_journal.specs.Entries.{change_entry, settled_entry}
-use Rattle.file_settlements.specs.Settling.{EntersSettled}
+use Rattle.kept_files.specs.file_settlements.Settling.{EntersSettled}
 use Rattle.image_appends.proofs.Growing.{change_long}
 use Rattle.image_appends.specs.Images.{content_with_both, heads_with_both}
 use Rattle.kept_files.specs.Own.{only, own_change}

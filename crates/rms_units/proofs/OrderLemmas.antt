@@ -8,7 +8,7 @@ use Rattle.file_base.specs.declared.head.Span.{Span}
 use Rattle.journal_format.proofs.Decoding.{entry_size}
 use Rattle.journal_model.specs.Entries.{Entry, IsEntry, spelling}
 use Rattle.journal_model.specs.Ring.{ring_size}
-use Rattle.journal_store.specs.Rings.{IsRing}
+use Rattle.unit_journal.specs.journal_store.Rings.{IsRing}
 use Rattle.unit_table.specs.Units.{OpenUnit, has_changed, owed, owed_for, unit_at, with_position}
 use Rattle.volume_files.specs.Staging.{StagesFile}
 use Rattle.image_appends.specs.Images.{heads_with_both}

@@ -16,7 +16,7 @@ use Rattle.volume.specs.State.{SameVolume, VolumeState}
 use Rattle.rms_units.specs.Calls.{ReadRefused, read_refused_before_reading}
 use Rattle.key_changes.specs.Changing.{keys_refused}
 use Rattle.rms_units.specs.Reading.{Finds}
-use Rattle.unit_cuts.specs.Records.{OfRecords}
+use Rattle.key_changes.specs.unit_cuts.Records.{OfRecords}
 use Rattle.rms_units.specs.State.{IsInOrder, UnitsState}
 use Rattle.rms_units.proofs.Refusing.{refused_by, second_is}
 

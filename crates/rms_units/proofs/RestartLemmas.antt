@@ -5,7 +5,7 @@ use Rattle.std.proofs.lemmas.Bool.{cases_eq}
 use Rattle.std.proofs.lemmas.List.Elements.{All-from_recursion}
 use Rattle.journal_model.specs.Ring.{ring_size}
 use Rattle.record_locks.specs.Locks.{Lock}
-use Rattle.unit_aborts.specs.Aborting.{MayAbort}
+use Rattle.unit_restarts.specs.unit_aborts.Aborting.{MayAbort}
 use Rattle.unit_entries.specs.Opening.{AscendWithin}
 use Rattle.unit_table.specs.Places.{AreInOrder, count_at, occurrences}
 use Rattle.unit_table.specs.Units as table

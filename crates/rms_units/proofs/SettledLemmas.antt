@@ -25,10 +25,10 @@ use Rattle.volume_format.specs.declared.home.Ending.{Ending}
 use Rattle.volume_format.specs.declared.home.Ending.TheVariants as ending
 use Rattle.volume_format.specs.declared.home.Home.{Home}
 use Rattle.volume_files.proofs.Places.{within_list}
-use Rattle.file_settlements.specs.Settling.{EntersSettled, SettlesFiles}
+use Rattle.kept_files.specs.file_settlements.Settling.{EntersSettled, SettlesFiles}
 use Rattle.image_appends.specs.Settling.{heads_from}
 use Rattle.kept_files.specs.Own.{only}
-use Rattle.unit_cuts.proofs.OwnLemmas.{settled_long}
+use Rattle.key_changes.proofs.unit_cuts.OwnLemmas.{settled_long}
 use Rattle.image_room.specs.Room.{AllSettlementsFit, ImagesAreLow, images_refused}
 use Rattle.rms_units.specs.Making.{AreLow}
 use Rattle.rms_units.specs.Calls.{Commits, CommitsNot, is_some_change}
@@ -36,7 +36,7 @@ use Rattle.rms_units.specs.State.{AreAscending, IsEarly, IsInOrder, UnitsState, 
 use Rattle.rms_units.proofs.PositionLemmas.{ascending_from, ascending_gone, ascending_longer, ascending_within, from_bounds, owed_gone}
 use Rattle.rms_units.proofs.ImageOrder.{FileGrows, all_direct, grows_on, grows_own}
 use Rattle.image_room.proofs.Entered.{long_from}
-use Rattle.unit_aborts.proofs.ImageLemmas.{long_told, low_less, sound_told}
+use Rattle.unit_restarts.proofs.unit_aborts.ImageLemmas.{long_told, low_less, sound_told}
 use Rattle.rms_units.proofs.ImageSound.{all_entered, low_left, sound_own}
 use Rattle.rms_units.proofs.RoomLemmas.{owed_least, room_to_settle}
 

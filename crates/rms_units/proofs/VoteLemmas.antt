@@ -2,12 +2,12 @@
 use Rattle.std.proofs.Common.{◌≡◌, ℕ, ◌+◌, ◌-◌, ◌<◌, ◌≤◌, ◌^◌, ◌==◌, Bool, true, false, List, [], ◌∷◌, Option, Some, None, length, slice_set, if◌then◌else◌, not, refl, sym, ap, subst, ◌∙◌, arith}
 use Rattle.careful_write.specs.State.{IsIdle}
 use Rattle.change_set.specs.Files.{free_frames}
-use Rattle.commit_protocol.specs.Messages.{LogRecord, Name}
+use Rattle.unit_entries.specs.commit_protocol.Messages.{LogRecord, Name}
 use Rattle.file_base.specs.declared.head.Span.{Span}
 use Rattle.journal_model.specs.Entries.{Entry}
 use Rattle.journal_model.specs.Ring.{ring_size}
-use Rattle.log_laws.specs.Slots.{Slots}
-use Rattle.unit_aborts.specs.Aborting.{abort_entry}
+use Rattle.unit_entries.specs.log_laws.Slots.{Slots}
+use Rattle.unit_restarts.specs.unit_aborts.Aborting.{abort_entry}
 use Rattle.unit_journal.specs.Entries.{settled_entry}
 use Rattle.unit_journal.specs.Groups.{GrowsOnce}
 use Rattle.unit_journal.specs.Settling.{next_moment, span_with}
@@ -34,7 +34,7 @@ use Rattle.rms_units.proofs.PositionLemmas.{ascend_longer, ascending_gone, ascen
 use Rattle.rms_units.proofs.SettledLemmas.{bytes_of, has_some, next_bound, next_later, order_settled_in, owed_some, sound_with, with_blocks, with_end, with_first}
 use Rattle.image_room.specs.Room.{AllSettlementsFit, ImagesAreLow}
 use Rattle.rms_units.proofs.ImageOrder.{fits_gone, fits_same_files}
-use Rattle.unit_aborts.proofs.ImageLemmas.{fit_on, low_less, low_on}
+use Rattle.unit_restarts.proofs.unit_aborts.ImageLemmas.{fit_on, low_less, low_on}
 use Rattle.volume_files.proofs.Places.{within_list}
 
 -- what sets a record of the log leaves what is kept of the volume

@@ -1,6 +1,6 @@
 -- What an abort of a unit promises.
 use Rattle.std.specs.Prelude.{◌≡◌, ℕ}
-use Rattle.unit_aborts.specs.Aborting.{Abortion, Aborts, BreaksOff}
+use Rattle.unit_restarts.specs.unit_aborts.Aborting.{Abortion, Aborts, BreaksOff}
 use Rattle.unit_journal.specs.Settling.{next_moment}
 use Rattle.unit_table.specs.Units.{OpenUnit}
 use Rattle.vms_base.specs.Ids.{serial_of, tid_of}

@@ -3,7 +3,7 @@ use Rattle.std.specs.Prelude.{◌≡◌, ◌⊎◌, ◌≤◌, ℕ, ◌+◌, Lis
 use Rattle.file_base.specs.declared.head.FileHead.{FileHead}
 use Rattle.file_base.specs.declared.head.Organization.{Organization}
 use Rattle.file_base.specs.declared.head.Organization.TheVariants.{Sequential, Relative, Indexed}
-use Rattle.record_files.specs.Any.{IsFile, IsLaidOut, map_of, reads_of}
+use Rattle.volume_files.specs.record_files.Any.{IsFile, IsLaidOut, map_of, reads_of}
 use Rattle.record_locks.specs.Locks.{Lock, holder, with_locks}
 use Rattle.unit_table.specs.Units.{OpenUnit, has_changed, with_position, with_unit, unit_at, earliest}
 use Rattle.vms_base.specs.Keys.{key_of}
@@ -35,9 +35,9 @@ use Rattle.unit_journal.specs.Groups.{Breaks}
 use Rattle.unit_journal.specs.Leaving.{FellIn}
 use Rattle.unit_journal.specs.Room.{entry_size, journal_refused}
 use Rattle.unit_journal.specs.Settling.{entry_if, next_moment}
-use Rattle.file_settlements.specs.Settling.{SettlesFiles}
+use Rattle.kept_files.specs.file_settlements.Settling.{SettlesFiles}
 use Rattle.rms_units.specs.Reading.{Finds, FindsNone, read_keys}
-use Rattle.unit_cuts.specs.Records.{OfRecords}
+use Rattle.key_changes.specs.unit_cuts.Records.{OfRecords}
 use Rattle.rms_units.specs.State.{UnitsState, unit_of, without_place}
 use Rattle.rms_units.specs.Truncating.{ChangesCut, CutBroke, CutRefused, DirectCutBroke, DirectCutRefused, DirectsCut}
 

@@ -11,7 +11,7 @@ use Rattle.unit_table.specs.Units.{OpenUnit}
 use Rattle.volume.specs.State.{VolumeState}
 use Rattle.volume_files.specs.Staging.{StagesFile, TellsSet}
 use Rattle.volume_format.specs.declared.home.Ending.TheVariants as ending
-use Rattle.file_settlements.specs.Settling.{EntersSettled}
+use Rattle.kept_files.specs.file_settlements.Settling.{EntersSettled}
 use Rattle.kept_files.specs.Own.{only}
 use Rattle.unit_journal.specs.Entries.{settled_entry}
 use Rattle.image_appends.specs.declared.side.Side.TheVariants.{After, Before}

@@ -15,8 +15,8 @@ use Rattle.vms_model.specs.Keys.{Key, End}
 use Rattle.volume.specs.State.{SameVolume, VolumeState}
 use Rattle.key_changes.specs.Changing.{keys_refused, locks_refuse}
 use Rattle.rms_units.specs.State.{UnitsState}
-use Rattle.unit_cuts.specs.Records.{OfRecords}
-use Rattle.unit_cuts.specs.Truncating.{BreaksCut, CommitsCut, CutEntries, MakesCut, begins_at, entry_sizes, keys_cut, removed_from}
+use Rattle.key_changes.specs.unit_cuts.Records.{OfRecords}
+use Rattle.key_changes.specs.unit_cuts.Truncating.{BreaksCut, CommitsCut, CutEntries, MakesCut, begins_at, entry_sizes, keys_cut, removed_from}
 
 -- Which records go.
 

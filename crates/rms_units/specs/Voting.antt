@@ -1,7 +1,7 @@
 -- What votes promise, and the settlements of prepared units and of those whose outcome others are to be told.
 use Rattle.std.specs.Prelude.{◌≡◌, ℕ, Bool, true, false, List, [], ◌∷◌, Option, Some, None}
-use Rattle.commit_protocol.specs.Messages.{LogRecord, Name}
-use Rattle.log_laws.specs.Slots.{Slots, forgotten, put_in, settled_in}
+use Rattle.unit_entries.specs.commit_protocol.Messages.{LogRecord, Name}
+use Rattle.unit_entries.specs.log_laws.Slots.{Slots, forgotten, put_in, settled_in}
 use Rattle.unit_journal.specs.Entries.{settled_entry}
 use Rattle.unit_journal.specs.Groups.{Breaks}
 use Rattle.unit_journal.specs.Settling.{entry_if, next_moment}

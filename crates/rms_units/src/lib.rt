@@ -15,4 +15,5 @@ pub use key_changes::{KeyChange, is_same};
 pub use record_operations::{ReadOp, RecErr, RecordOp, form_refusal, read_refusal};
 pub use tokens::{ActiveUnit, BeginErr, PreparedUnit, SettledUnit, Vote, next_prepared};
 pub use unit_restarts::{AbortedUnit, Restarted};
+pub use unit_votes::write_record;
 pub use units::Units;

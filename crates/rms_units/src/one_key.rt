@@ -5,7 +5,7 @@ ghost use Rattle.vms_model.specs.Limits.{branch_limit, change_limit, lock_limit,
 ghost use Rattle.careful_write.specs.Down.{Counts};
 ghost use Rattle.change_set.specs.Files.{IsPlaced, free_frames};
 ghost use Rattle.journal_model.specs.Ring.{ring_size};
-ghost use Rattle.record_files.specs.Any.{IsFile, IsLaidOut};
+ghost use Rattle.volume_files.specs.record_files.Any.{IsFile, IsLaidOut};
 ghost use Rattle.record_locks.specs.Locks.{holder, with_locks};
 ghost use Rattle.unit_table.specs.Units.{OpenUnit, has_changed, owed, unit_at, with_position, with_unit};
 ghost use Rattle.vms_base.specs.Ids.{serial_of, tid_of};
@@ -21,7 +21,7 @@ ghost use Rattle.key_changes.specs.Changing.{IsFormed, MayBegin, after_change, b
 ghost use Rattle.unit_journal.specs.Groups.{Breaks, Grows};
 ghost use Rattle.unit_journal.specs.Leaving.{FellIn};
 ghost use Rattle.unit_journal.specs.Room.{entry_size as entry_said, journal_refused};
-ghost use Rattle.unit_cuts.specs.Records.{OfRecords};
+ghost use Rattle.key_changes.specs.unit_cuts.Records.{OfRecords};
 ghost use Rattle.rms_units.specs.State.{IsEarly, IsInOrder, UnitsState};
 
 use crate::making::set_key;

@@ -10,11 +10,11 @@ ghost use Rattle.record_operations.specs.Asking.{read_file_in};
 ghost use Rattle.unit_journal.specs.Leaving.{FellIn};
 ghost use Rattle.record_operations.specs.Causes.{IfRefused, first_cause};
 ghost use Rattle.volume.specs.State.{SameVolume};
-ghost use Rattle.record_files.specs.Any.{reads_of};
+ghost use Rattle.volume_files.specs.record_files.Any.{reads_of};
 ghost use Rattle.rms_units.specs.Calls.{ReadsFew};
 ghost use Rattle.key_changes.specs.Changing.{held_against, locks_refuse};
 ghost use Rattle.rms_units.specs.Reading.{Finds, FindsNone, NextIsNot, missing, read_keys};
-ghost use Rattle.unit_cuts.specs.Records.{OfRecords};
+ghost use Rattle.key_changes.specs.unit_cuts.Records.{OfRecords};
 
 use block_disk::Disk;
 use file_base::FileHead;

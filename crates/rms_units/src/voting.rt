@@ -4,7 +4,7 @@ ghost use Rattle.vms_model.specs.Limits.{branch_limit, moment_ceiling};
 ghost use Rattle.vms_model.specs.Blocks.{log_start};
 ghost use Rattle.careful_write.specs.Down.{Counts};
 ghost use Rattle.lmcp_log.specs.Log.{slot_of};
-ghost use Rattle.log_laws.specs.Slots.{has_free, has_slot};
+ghost use Rattle.unit_entries.specs.log_laws.Slots.{has_free, has_slot};
 ghost use Rattle.record_locks.specs.Locks.{released};
 ghost use Rattle.unit_journal.specs.Groups.{Grows};
 ghost use Rattle.unit_table.specs.Units.{OpenUnit, unit_at, without_place};

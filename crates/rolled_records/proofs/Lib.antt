@@ -1,2 +1,3 @@
 pub mod ReadLemmas
 pub mod RollLemmas
+pub mod file_images

@@ -9,29 +9,29 @@ use Rattle.vms_model.specs.Ids.{Id}
 use Rattle.vms_model.specs.Keys.{Key}
 use Rattle.vms_base.specs.declared.outcomes.Outcome.{Outcome}
 use Rattle.records_model.specs.Records.{Records}
-use Rattle.journal_model.specs.Entries as disk
-use Rattle.journal_model.specs.Entries.{IsEntry, is_key}
+use Rattle.journal_format.specs.journal_model.Entries as disk
+use Rattle.journal_format.specs.journal_model.Entries.{IsEntry, is_key}
 use Rattle.journal_format.specs.Heads.{entry_of, kind_code, flag_of}
 use Rattle.journal_format.specs.declared.head.EntryKind.{EntryKind}
 use Rattle.journal_format.specs.declared.head.EntryKind.TheVariants as kind
 use Rattle.journal_format.specs.declared.head.EntryHead.{EntryHead}
-use Rattle.journal_model.specs.Ring.{IsJournal, StandsAt}
+use Rattle.journal_format.specs.journal_model.Ring.{IsJournal, StandsAt}
 use Rattle.careful_write.specs.State.{StoreState}
 use Rattle.journal_store.specs.Reading.{Stands, ReadsAt}
 use Rattle.journal_store.specs.Refusing.{Stays}
-use Rattle.unit_entries.specs.Reading.{AreRead, placed}
-use Rattle.unit_entries.proofs.StoreLemmas.{stays_read, fell_later}
-use Rattle.unit_entries.specs.Keys.{key_in}
+use Rattle.image_laws.specs.unit_entries.Reading.{AreRead, placed}
+use Rattle.image_laws.proofs.unit_entries.StoreLemmas.{stays_read, fell_later}
+use Rattle.image_laws.specs.unit_entries.Keys.{key_in}
 use Rattle.recovery_model.specs.Journal.{Entry, Changed, Settled, Below, rolled_forward, rolled_back}
 use Rattle.recovery_model.specs.File.{Placed, ImageJournal, IsPlace, all_of, since, entries_length}
 use Rattle.recovery_model.specs.Places.{set_entry, sets_at, no_entry, applied_places, undone_places, header_of}
 use Rattle.recovery_model.specs.Laws.{PlacesAreRolled}
-use Rattle.image_entries.specs.Entries.{AreHeadsOf, ReadFails}
-use Rattle.image_entries.specs.declared.reading.ReadErr.{ReadErr}
-use Rattle.image_entries.specs.declared.reading.ReadErr.TheVariants.{Memory, Down}
-use Rattle.image_entries.specs.Changes.{key_of_kind, image_of_kind, changed_key, changed_image}
+use Rattle.image_laws.specs.image_entries.Entries.{AreHeadsOf, ReadFails}
+use Rattle.image_laws.specs.image_entries.declared.reading.ReadErr.{ReadErr}
+use Rattle.image_laws.specs.image_entries.declared.reading.ReadErr.TheVariants.{Memory, Down}
+use Rattle.image_laws.specs.image_entries.Changes.{key_of_kind, image_of_kind, changed_key, changed_image}
 use Rattle.image_journals.specs.Headers.{header_told}
-use Rattle.file_images.specs.Images.{key_bytes, image_bytes, entry_by, disk_entries, HasImageJournal, IsOf, AreOf}
+use Rattle.image_laws.specs.file_images.Images.{key_bytes, image_bytes, entry_by, disk_entries, HasImageJournal, IsOf, AreOf}
 use Rattle.image_laws.specs.Laws.{ReadsEntries, IsPlacedIn, ImagesAreRead, ImagesArePlaced}
 use Rattle.rolled_records.specs.Rolling.{set_changed, HasEntryAt, told_entries, StandIn, RollsTo, SetsEntry, SetsAt, SetsPlaces, ReadsFrom, RollsForward, RollsBack}
 use Rattle.rolled_records.specs.declared.rolling.Images.{Images}

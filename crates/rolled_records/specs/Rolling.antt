@@ -6,13 +6,13 @@ use Rattle.vms_model.specs.Keys.{Key}
 use Rattle.file_base.specs.declared.head.Organization.{Organization}
 use Rattle.file_base.specs.declared.head.Span.{Span}
 use Rattle.records_model.specs.Records.{Records, set_key}
-use Rattle.journal_model.specs.Entries.{IsEntry}
-use Rattle.journal_model.specs.Ring.{StandsAt}
+use Rattle.journal_format.specs.journal_model.Entries.{IsEntry}
+use Rattle.journal_format.specs.journal_model.Ring.{StandsAt}
 use Rattle.journal_format.specs.declared.head.EntryHead.{EntryHead}
 use Rattle.recovery_model.specs.Journal.{Entry, Below, rolled_forward, rolled_back}
 use Rattle.recovery_model.specs.File.{Placed, ImageJournal, IsPlace, all_of, since}
 use Rattle.recovery_model.specs.Places.{no_entry, set_entry, sets_at}
-use Rattle.file_images.specs.Images.{entry_by, HasImageJournal, IsOf, AreOf}
+use Rattle.image_laws.specs.file_images.Images.{entry_by, HasImageJournal, IsOf, AreOf}
 use Rattle.image_laws.specs.Laws.{IsPlacedIn, ReadsEntries}
 use Rattle.rolled_records.specs.declared.rolling.Images.{Images}
 

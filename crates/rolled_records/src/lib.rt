@@ -4,5 +4,6 @@
 mod reading;
 mod rolling;
 
+pub use image_laws::images_follow;
 pub use reading::read_records;
 pub use rolling::{Images, roll_back, roll_forward};

@@ -2,7 +2,7 @@
 ghost use Rattle.std.specs.Prelude.{◌≡◌, ◌≤◌, ℕ, IfOk, IfErr, IfSome, OnOk};
 ghost use Rattle.std.specs.FinMap.{get};
 ghost use Rattle.change_set.specs.Files.{IsPlaced, free_frames};
-ghost use Rattle.image_entries.specs.Entries.{ReadFails};
+ghost use Rattle.image_laws.specs.image_entries.Entries.{ReadFails};
 ghost use Rattle.journal_store.specs.Refusing.{Stays};
 ghost use Rattle.record_files.specs.Any.{IsFile, IsLaidOut, map_of};
 ghost use Rattle.vms_model.specs.Keys as model;
@@ -11,7 +11,7 @@ use block_disk::Disk;
 use careful_write::Store;
 use change_set::{Place, RecordFile};
 use file_base::FileHead;
-use image_entries::ReadErr;
+use image_laws::ReadErr;
 use record_files::AnyFile;
 use record_maps::RecordMap;
 use std::alloc::Global;

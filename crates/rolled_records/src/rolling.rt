@@ -1,8 +1,8 @@
 // Records in memory, rolled by the images of a journal.
 ghost use Rattle.std.specs.Prelude.{◌≡◌, ◌≤◌, ◌<◌, ◌^◌, IfOk, IfErr, IfSome, OnOk, length};
-ghost use Rattle.image_entries.specs.Changes.{changed_image as image_said, changed_key as key_said};
-ghost use Rattle.image_entries.specs.Entries.{ReadFails};
-ghost use Rattle.image_entries.specs.declared.reading.ReadErr.TheVariants.{Memory};
+ghost use Rattle.image_laws.specs.image_entries.Changes.{changed_image as image_said, changed_key as key_said};
+ghost use Rattle.image_laws.specs.image_entries.Entries.{ReadFails};
+ghost use Rattle.image_laws.specs.image_entries.declared.reading.ReadErr.TheVariants.{Memory};
 ghost use Rattle.journal_store.specs.Refusing.{Stays};
 ghost use Rattle.journal_store.specs.Rings.{IsRing};
 ghost use Rattle.rolled_records.specs.Rolling.{set_changed, SetsEntry, SetsAt, SetsPlaces, ReadsFrom, RollsForward, RollsBack};
@@ -10,9 +10,8 @@ ghost use Rattle.rolled_records.specs.Rolling.{set_changed, SetsEntry, SetsAt, S
 use block_disk::Disk;
 use careful_write::Store;
 use file_base::{Organization, Span};
-use image_entries::{ImageEntries, ReadErr, changed_image, changed_key, read_entries};
 use image_journals::{applied, undone};
-use image_laws::images_follow;
+use image_laws::{ImageEntries, ReadErr, changed_image, changed_key, images_follow, read_entries};
 use journal_format::EntryHead;
 use journal_store::entry_at;
 use record_maps::RecordMap;

@@ -1,7 +1,7 @@
 -- Rows that are done one after another.
 use Rattle.std.proofs.Common.{◌≡◌, ◌≤◌, ◌+◌, ℕ, suc, List, [], ◌∷◌, ◌++◌, Bool, true, false, Option, Some, None, Result, Ok, Err, refl, sym, ap, subst, length, take, drop, arith}
 use Rattle.emitter_model.specs.Emitting.{Shown, Emits}
-use Rattle.transcript_model.specs.Lines.{Line}
+use Rattle.emitter_model.specs.transcript_model.Lines.{Line}
 use Rattle.emitter_model.proofs.EmittingLemmas.{emits_nothing, emits_on}
 use Rattle.run_model.specs.World.{Act, Node, Shared, fallen}
 use Rattle.run_model.specs.Answers.{Row}

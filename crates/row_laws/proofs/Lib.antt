@@ -1,3 +1,4 @@
 pub mod Naming
 pub mod MayLemmas
 pub mod Composing
+pub mod log_laws

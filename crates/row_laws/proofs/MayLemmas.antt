@@ -1,18 +1,18 @@
 -- Each act of a row may be done where its turn comes.
 use Rattle.std.proofs.Common.{◌≡◌, ◌≤◌, ◌+◌, List, [], ◌∷◌, true, refl, sym, subst, length, arith}
 use Rattle.vms_model.specs.Ids.{Id}
-use Rattle.commit_protocol.specs.Allowed.{allowed}
-use Rattle.commit_protocol.specs.Effects.{act_effects}
-use Rattle.commit_protocol.specs.Limits.{ActsLawful, TmWithin}
-use Rattle.commit_protocol.specs.Rows.{Event, row}
-use Rattle.commit_protocol.specs.Standing.{AllStand, BeginsNothing, HasApartLog}
-use Rattle.commit_protocol.specs.Table.{Act, Tm, after_act, branch_serials, record_serials}
-use Rattle.commit_protocol.proofs.Serials.{apart_distinct, parts_apart, unique_of}
-use Rattle.commit_protocol.proofs.StandingRows.{rows_stand}
-use Rattle.commit_protocol.proofs.WithinRows.{effects_lawful}
-use Rattle.log_laws.specs.Slots.{HasSlot, LogTells, Slots, size, slots_after}
-use Rattle.log_laws.proofs.Slotting.{TmApart, act_tells}
-use Rattle.log_laws.proofs.RowSlots.{act_size, apart_after, finds_slot, length_slots}
+use Rattle.run_model.specs.commit_protocol.Allowed.{allowed}
+use Rattle.run_model.specs.commit_protocol.Effects.{act_effects}
+use Rattle.run_model.specs.commit_protocol.Limits.{ActsLawful, TmWithin}
+use Rattle.run_model.specs.commit_protocol.Rows.{Event, row}
+use Rattle.run_model.specs.commit_protocol.Standing.{AllStand, BeginsNothing, HasApartLog}
+use Rattle.run_model.specs.commit_protocol.Table.{Act, Tm, after_act, branch_serials, record_serials}
+use Rattle.run_model.proofs.commit_protocol.Serials.{apart_distinct, parts_apart, unique_of}
+use Rattle.run_model.proofs.commit_protocol.StandingRows.{rows_stand}
+use Rattle.run_model.proofs.commit_protocol.WithinRows.{effects_lawful}
+use Rattle.run_model.specs.log_laws.Slots.{HasSlot, LogTells, Slots, size, slots_after}
+use Rattle.run_model.proofs.log_laws.Slotting.{TmApart, act_tells}
+use Rattle.run_model.proofs.log_laws.RowSlots.{act_size, apart_after, finds_slot, length_slots}
 use Rattle.row_laws.specs.May.{AllNamed, IsOfMessage, IsTold, MayDo, MayDoAll}
 use Rattle.row_laws.proofs.Naming.{rows_named}
 

@@ -4,12 +4,12 @@ use Rattle.std.specs.List.{AllByRecursion, list_any}
 use Rattle.std.proofs.Common.{◌≡◌, Bool, true, false, List, [], ◌∷◌, ◌++◌, Option, Some, None, refl, ap, sym, subst, ◌∙◌}
 use Rattle.vms_model.specs.Ids.{Id}
 use Rattle.vms_model.specs.Transactions.{Reason, SyncFail, Timeout, CommFail, SegFail, Vetoed, Aborted as ByRequest}
-use Rattle.commit_protocol.specs.Messages.{Name, Kind, Join, JoinOk, JoinNo, Prepare, Yes, ReadOnly, No, Commit, Abort, Ack, Inquire, Message, RmEvent, PrepareEvent, CommitEvent, AbortEvent, Reply, LogRecord, same_id}
-use Rattle.commit_protocol.specs.Table.{Key, Branch, State, Joining, Active, Ending, Voting, Prepared, Child, Tm, Act, Line, Started, Ended, Told, Notes, Accepts, Prepares, Settles, Leaves, Acknowledges, Releases, Undoes, Sends, Prints, first, key_of, find, find_serial, put, table_after, holding, is_first, holds, waits_for}
-use Rattle.commit_protocol.specs.Rows as rows
-use Rattle.commit_protocol.specs.Rows.{Event, row, got, sends_all, tells, joined, interested, told_abort, ended, to_each, yes_of, serials, commits, commits_if_all, aborts, aborts_telling, refuses, undone_quietly, abort_running, abort_by_state, aborted_if, casts, casts_if_all, begins_vote, voting, votes_if_ended, asked_branch, ending, begins_ending, which_event, with_vote, with_reply, ended_branch, has_bid, joined_as, refuses_join, grants_join, all_taken, sweep, is_due, is_cut_off, is_under, is_other, is_empty, all_replied, all_voted, lacks_vote, refused, is_veto, is_forget}
-use Rattle.commit_protocol.specs.Standing.{BeginsNothing}
-use Rattle.commit_protocol.proofs.Lists.{find-put, find-key}
+use Rattle.run_model.specs.commit_protocol.Messages.{Name, Kind, Join, JoinOk, JoinNo, Prepare, Yes, ReadOnly, No, Commit, Abort, Ack, Inquire, Message, RmEvent, PrepareEvent, CommitEvent, AbortEvent, Reply, LogRecord, same_id}
+use Rattle.run_model.specs.commit_protocol.Table.{Key, Branch, State, Joining, Active, Ending, Voting, Prepared, Child, Tm, Act, Line, Started, Ended, Told, Notes, Accepts, Prepares, Settles, Leaves, Acknowledges, Releases, Undoes, Sends, Prints, first, key_of, find, find_serial, put, table_after, holding, is_first, holds, waits_for}
+use Rattle.run_model.specs.commit_protocol.Rows as rows
+use Rattle.run_model.specs.commit_protocol.Rows.{Event, row, got, sends_all, tells, joined, interested, told_abort, ended, to_each, yes_of, serials, commits, commits_if_all, aborts, aborts_telling, refuses, undone_quietly, abort_running, abort_by_state, aborted_if, casts, casts_if_all, begins_vote, voting, votes_if_ended, asked_branch, ending, begins_ending, which_event, with_vote, with_reply, ended_branch, has_bid, joined_as, refuses_join, grants_join, all_taken, sweep, is_due, is_cut_off, is_under, is_other, is_empty, all_replied, all_voted, lacks_vote, refused, is_veto, is_forget}
+use Rattle.run_model.specs.commit_protocol.Standing.{BeginsNothing}
+use Rattle.run_model.proofs.commit_protocol.Lists.{find-put, find-key}
 use Rattle.row_laws.specs.May.{AllNamed, IsNamed, IsOfMessage}
 
 -- Acts that tell no more than their effects.

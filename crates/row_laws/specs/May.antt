@@ -1,12 +1,12 @@
 -- What each act of a row finds where it is done, behind those before it.
 use Rattle.std.specs.Prelude.{◌≡◌, ◌≤◌, ◌||◌, List, [], ◌∷◌, Some, true, false, not, length}
 use Rattle.vms_model.specs.Ids.{Id}
-use Rattle.commit_protocol.specs.Effects.{Effect, act_effects}
-use Rattle.commit_protocol.specs.Limits.{AllLawful}
-use Rattle.commit_protocol.specs.Rows.{Event, Got, is_empty}
-use Rattle.commit_protocol.specs.Standing.{HasApartLog, Stands}
-use Rattle.commit_protocol.specs.Table.{Act, Accepts, Branch, Line, Prepares, Prints, Started, Tm, Undoes, after_act, find, holding, table_after}
-use Rattle.log_laws.specs.Slots.{HasSlot, LogTells, Slots, size, slots_after}
+use Rattle.run_model.specs.commit_protocol.Effects.{Effect, act_effects}
+use Rattle.run_model.specs.commit_protocol.Limits.{AllLawful}
+use Rattle.run_model.specs.commit_protocol.Rows.{Event, Got, is_empty}
+use Rattle.run_model.specs.commit_protocol.Standing.{HasApartLog, Stands}
+use Rattle.run_model.specs.commit_protocol.Table.{Act, Accepts, Branch, Line, Prepares, Prints, Started, Tm, Undoes, after_act, find, holding, table_after}
+use Rattle.run_model.specs.log_laws.Slots.{HasSlot, LogTells, Slots, size, slots_after}
 
 -- What an act tells that its effect does not: the effect of a branch that joined or started names no transaction, which is this; a branch that is prepared stands
 -- there, and has changed something or has managers to tell. No row undoes a unit: only a boot does.

@@ -6,12 +6,12 @@
 
 ghost use Rattle.std.specs.Prelude.{◌≡◌, ◌≤◌, true, length};
 ghost use Rattle.vms_model.specs.Ids.{Id};
-ghost use Rattle.commit_protocol.specs.Allowed.{allowed};
-ghost use Rattle.commit_protocol.specs.Limits.{TmWithin};
-ghost use Rattle.commit_protocol.specs.Rows.{Event, row};
-ghost use Rattle.commit_protocol.specs.Standing.{BeginsNothing};
-ghost use Rattle.commit_protocol.specs.Table.{Act, Tm, after_act};
-ghost use Rattle.log_laws.specs.Slots.{Slots, slots_after};
+ghost use Rattle.run_model.specs.commit_protocol.Allowed.{allowed};
+ghost use Rattle.run_model.specs.commit_protocol.Limits.{TmWithin};
+ghost use Rattle.run_model.specs.commit_protocol.Rows.{Event, row};
+ghost use Rattle.run_model.specs.commit_protocol.Standing.{BeginsNothing};
+ghost use Rattle.run_model.specs.commit_protocol.Table.{Act, Tm, after_act};
+ghost use Rattle.run_model.specs.log_laws.Slots.{Slots, slots_after};
 ghost use Rattle.row_laws.specs.May.{IsOfMessage, IsTold, MayDo, MayDoAll};
 
 /// Where the log tells a table, each act of each row of it by which no branch begins may be done where its turn comes; and behind an act that may be

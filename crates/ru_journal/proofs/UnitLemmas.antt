@@ -4,11 +4,11 @@ use Rattle.std.proofs.lemmas.Bool.{false≢true}
 use Rattle.std.proofs.lemmas.List.{length-append}
 use Rattle.std.specs.List.{AllByRecursion, list_any, remove}
 use Rattle.indexmap.specs.IndexSet.{insert_key}
-use Rattle.vms_model.specs.Ids.{Id}
+use Rattle.vms_base.specs.vms_model.Ids.{Id}
 use Rattle.vms_base.specs.Ids.{serial_of}
-use Rattle.records_model.specs.History.{same_id}
+use Rattle.table_keys.specs.records_model.History.{same_id}
 use Rattle.table_keys.specs.declared.key.BranchKey.{BranchKey}
-use Rattle.journal_model.specs.Entries.{Entry}
+use Rattle.journal_format.specs.journal_model.Entries.{Entry}
 use Rattle.ru_journal.specs.declared.unit.UnitInfo.{UnitInfo}
 use Rattle.ru_journal.specs.Told.{UnitTold, find_unit, with_unit, without_unit, more_told, first_told, units_after}
 use Rattle.ru_journal.specs.Units.{unit_of, id_of_key, IsPlace}

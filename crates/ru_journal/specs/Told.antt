@@ -1,10 +1,10 @@
 -- What the entries of a recovery unit journal tell, as a function of them.
 use Rattle.std.specs.Prelude.{ℕ, ◌+◌, ◌^◌, ◌==◌, ◌&&◌, ◌||◌, not, bit_or, List, [], ◌∷◌, ◌++◌, Bool, true, false, Option, Some, None, length, nat_le, is_some, if◌then◌else◌}
 use Rattle.std.specs.List.{list_any}
-use Rattle.vms_model.specs.Ids.{Id}
-use Rattle.vms_model.specs.Limits.{branch_limit, change_limit}
-use Rattle.records_model.specs.History.{same_id}
-use Rattle.journal_model.specs.Entries.{Entry}
+use Rattle.vms_base.specs.vms_model.Ids.{Id}
+use Rattle.vms_base.specs.vms_model.Limits.{branch_limit, change_limit}
+use Rattle.table_keys.specs.records_model.History.{same_id}
+use Rattle.journal_format.specs.journal_model.Entries.{Entry}
 
 -- A branch that has changes in the journal and is not settled there: where its first change begins, how many it made, in which files (the bit of each file's
 -- number), and whether it is prepared.

@@ -1,13 +1,13 @@
 -- The units that the code's values are.
 use Rattle.std.specs.Prelude.{◌≡◌, ℕ, ◌<◌, ◌≤◌, ◌+◌, true, List, Some, None, Vec, length, map, take, slice_get, vec_capacity}
 use Rattle.std.specs.List.{AllByRecursion}
-use Rattle.vms_model.specs.Ids.{Id}
-use Rattle.vms_model.specs.Limits.{branch_limit, change_limit, entry_limit}
+use Rattle.vms_base.specs.vms_model.Ids.{Id}
+use Rattle.vms_base.specs.vms_model.Limits.{branch_limit, change_limit, entry_limit}
 use Rattle.vms_base.specs.Ids.{tid_of, serial_of}
 use Rattle.table_keys.specs.declared.key.BranchKey.{BranchKey}
 use Rattle.ru_journal.specs.declared.unit.UnitInfo.{UnitInfo}
 use Rattle.indexmap.specs.IndexSet.{IndexSet, spare}
-use Rattle.records_model.specs.History.{same_id}
+use Rattle.table_keys.specs.records_model.History.{same_id}
 use Rattle.ru_journal.specs.Told.{UnitTold, find_unit}
 
 abbrev pub unit_of : UnitInfo → UnitTold

@@ -1,8 +1,8 @@
 // What the entries of a journal told so far.
 ghost use Rattle.std.specs.Prelude.{◌≡◌, ℕ, ◌<◌, ◌≤◌, ◌+◌, ◌*◌, ◌==◌, ◌++◌, List, [], ◌∷◌, Option, Some, None, false, length, map, option_map, option_copied, IfOk, OnOk, OnErr, IfSome, IfNone, is_err, vec_capacity, if◌then◌else◌};
 ghost use Rattle.std.specs.List.{list_any};
-ghost use Rattle.vms_model.specs.Limits.{branch_limit, entry_limit, file_limit};
-ghost use Rattle.records_model.specs.History.{same_id};
+ghost use Rattle.vms_base.specs.vms_model.Limits.{branch_limit, entry_limit, file_limit};
+ghost use Rattle.table_keys.specs.records_model.History.{same_id};
 ghost use Rattle.vms_base.specs.Ids.{serial_of};
 ghost use Rattle.indexmap.specs.IndexSet.{spare};
 ghost use Rattle.journal_format.specs.Heads.{entry_of, kind_code};

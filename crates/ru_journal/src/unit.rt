@@ -1,7 +1,7 @@
 // A recovery unit that is not settled.
 ghost use Rattle.std.specs.Prelude.{◌≡◌, ◌<◌, ◌≤◌, ◌+◌, ◌==◌, ◌||◌, ◌&&◌, ℕ, false, not, []};
-ghost use Rattle.vms_model.specs.Limits.{change_limit, file_limit};
-ghost use Rattle.records_model.specs.History.{same_id};
+ghost use Rattle.vms_base.specs.vms_model.Limits.{change_limit, file_limit};
+ghost use Rattle.table_keys.specs.records_model.History.{same_id};
 ghost use Rattle.vms_base.specs.Ids.{id_of};
 ghost use Rattle.journal_format.specs.Heads.{entry_of};
 

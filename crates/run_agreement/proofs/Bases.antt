@@ -4,15 +4,15 @@ use Rattle.std.specs.List.{AllByRecursion}
 use Rattle.std.proofs.lemmas.List.{length-replicate}
 use Rattle.std.proofs.Common.{◌≡◌, ◌≤◌, ℕ, zero, suc, take, Bool, true, false, List, [], ◌∷◌, Option, Some, None, ◌⊎◌, inl, inr, refl, ap, sym, subst, ◌∙◌, arith}
 use Rattle.std.proofs.lemmas.Bool.{leb-true}
-use Rattle.transcript_model.specs.Lines as line
-use Rattle.transcript_model.specs.Lines.{Line, Cause}
-use Rattle.script_model.specs.Statements as said
-use Rattle.script_model.specs.Statements.{Statement, At, Deliver, LinkDown, Settle, Request, Init, Boot, Fuse, Clock, Reading, Blank, Says, Bad}
+use Rattle.run_model.specs.transcript_model.Lines as line
+use Rattle.run_model.specs.transcript_model.Lines.{Line, Cause}
+use Rattle.run_model.specs.script_model.Statements as said
+use Rattle.run_model.specs.script_model.Statements.{Statement, At, Deliver, LinkDown, Settle, Request, Init, Boot, Fuse, Clock, Reading, Blank, Says, Bad}
 use Rattle.commit_protocol.specs.Messages.{Name, LogRecord}
 use Rattle.commit_protocol.specs.World.{In}
 use Rattle.commit_protocol.specs.Agreement.{Distinct}
-use Rattle.log_laws.specs.Slots.{records_in, prepared_of, committed_of}
-use Rattle.unit_laws.specs.Journal.{empty_journal, is_settled_in}
+use Rattle.run_model.specs.log_laws.Slots.{records_in, prepared_of, committed_of}
+use Rattle.run_model.specs.unit_laws.Journal.{empty_journal, is_settled_in}
 use Rattle.commit_protocol.specs.Table as table
 use Rattle.commit_protocol.specs.Table.{record_serials}
 use Rattle.run_model.specs.World as world

@@ -3,10 +3,10 @@ use Rattle.std.specs.Prelude.{if◌then◌else◌}
 use Rattle.std.specs.Str.{bytes_eq}
 use Rattle.std.proofs.Common.{◌≡◌, ℕ, Bool, true, false, List, [], ◌∷◌, ◌++◌, Option, Some, None, ◌⊎◌, inl, inr, refl, ap, sym, subst, ◌∙◌}
 use Rattle.std.proofs.lemmas.Bool.{both_ways}
-use Rattle.transcript_model.specs.Lines as line
-use Rattle.transcript_model.specs.Lines.{Line}
-use Rattle.script_model.specs.Statements.{Statement, At, Deliver, LinkDown, Settle, Init, Reading, Blank, Says, Bad}
-use Rattle.script_model.specs.Grammar.{reading}
+use Rattle.run_model.specs.transcript_model.Lines as line
+use Rattle.run_model.specs.transcript_model.Lines.{Line}
+use Rattle.run_model.specs.script_model.Statements.{Statement, At, Deliver, LinkDown, Settle, Init, Reading, Blank, Says, Bad}
+use Rattle.run_model.specs.script_model.Grammar.{reading}
 use Rattle.commit_protocol.specs.Messages.{Name}
 use Rattle.commit_protocol.specs.Table.{coordinator_of}
 use Rattle.commit_protocol.proofs.Lists.{cases_name}

@@ -5,11 +5,11 @@ use Rattle.std.proofs.lemmas.Bool.{both_ways}
 use Rattle.std.proofs.lemmas.List.{length-append}
 use Rattle.vms_model.specs.Ids.{Id}
 use Rattle.vms_model.specs.Transactions.{Abort as ToAbort}
-use Rattle.records_model.specs.History.{same_id}
-use Rattle.unit_laws.specs.Units.{Map}
-use Rattle.unit_laws.specs.Journal.{RecoveryUnit, find_unit, active_units, units_in, with_settled}
-use Rattle.unit_laws.specs.JournalLaws.{is_unit}
-use Rattle.unit_laws.proofs.TrimLemmas.{settles_unit}
+use Rattle.run_model.specs.records_model.History.{same_id}
+use Rattle.run_model.specs.unit_laws.Units.{Map}
+use Rattle.run_model.specs.unit_laws.Journal.{RecoveryUnit, find_unit, active_units, units_in, with_settled}
+use Rattle.run_model.specs.unit_laws.JournalLaws.{is_unit}
+use Rattle.run_model.proofs.unit_laws.TrimLemmas.{settles_unit}
 use Rattle.commit_protocol.specs.Messages.{Name, LogRecord, PreparedRecord}
 use Rattle.commit_protocol.specs.Table as table
 use Rattle.commit_protocol.specs.Table.{Key, Branch, Prepared, Undoes, Tm, restarted, record_key, branch_of, branches_of, prepared_records, record_serials, branch_serials, find, cut, cut_keys, same_key}
@@ -31,9 +31,9 @@ use Rattle.commit_protocol.proofs.Ordering.{any_order, restart_in_any_order}
 use Rattle.commit_protocol.proofs.LogSteps.{logs_apart}
 use Rattle.commit_protocol.proofs.Within.{length_cut}
 use Rattle.commit_protocol.proofs.Serials.{in_serial, serial_in}
-use Rattle.log_laws.specs.Slots.{Slots, LogTells, AreUnwaiting, records_in, prepared_of, committed_of, size}
-use Rattle.log_laws.proofs.Reading.{prepared_keys, prepared_is, is_prepared_one, committed_is, is_committed_one, all_again, kind_or}
-use Rattle.log_laws.proofs.RowSlots.{among}
+use Rattle.run_model.specs.log_laws.Slots.{Slots, LogTells, AreUnwaiting, records_in, prepared_of, committed_of, size}
+use Rattle.run_model.proofs.log_laws.Reading.{prepared_keys, prepared_is, is_prepared_one, committed_is, is_committed_one, all_again, kind_or}
+use Rattle.run_model.proofs.log_laws.RowSlots.{among}
 use Rattle.run_model.specs.World as world
 use Rattle.run_model.specs.World.{Act, Boots, ComesUp, Tables, Node, Durable, Shared, Call, Outturn, Lost, Taken, Half, Sound, acted, booted, prepared_left, prepared_serials, powered, unpowered, with_half, aborted_prepared, fallen, is_durable, next_moment, tm_of}
 use Rattle.run_model.specs.Answers.{Row, boot_rows, table_rows, unit_key}

@@ -5,13 +5,13 @@ use Rattle.std.proofs.lemmas.Bool.{both_ways, cases_Bool}
 use Rattle.vms_model.specs.Ids.{Id}
 use Rattle.vms_model.specs.Keys as keys
 use Rattle.vms_model.specs.Transactions.{Commit as ToCommit}
-use Rattle.records_model.specs.Records.{Change, Records}
-use Rattle.records_model.specs.History.{same_id}
-use Rattle.unit_laws.specs.Units.{has_changes}
-use Rattle.unit_laws.specs.Journal.{RecoveryUnit, find_unit, units_in, entries_for}
-use Rattle.unit_laws.specs.JournalLaws.{unit_or_new, with_more, HasEntered}
-use Rattle.unit_laws.proofs.UnitLemmas.{changes_make_unit}
-use Rattle.unit_laws.proofs.TrimLemmas.{trim_keeps_units}
+use Rattle.run_model.specs.records_model.Records.{Change, Records}
+use Rattle.run_model.specs.records_model.History.{same_id}
+use Rattle.run_model.specs.unit_laws.Units.{has_changes}
+use Rattle.run_model.specs.unit_laws.Journal.{RecoveryUnit, find_unit, units_in, entries_for}
+use Rattle.run_model.specs.unit_laws.JournalLaws.{unit_or_new, with_more, HasEntered}
+use Rattle.run_model.proofs.unit_laws.UnitLemmas.{changes_make_unit}
+use Rattle.run_model.proofs.unit_laws.TrimLemmas.{trim_keeps_units}
 use Rattle.commit_protocol.specs.Messages.{Name}
 use Rattle.commit_protocol.specs.Table as table
 use Rattle.commit_protocol.specs.Table.{Key, Branch, State, Joining, Active, Ending, Voting, Prepared, Notes, first, child, same_key, find, find_serial, put, branch_serials, record_serials}
@@ -24,15 +24,15 @@ use Rattle.commit_protocol.specs.Opening.{Opening}
 use Rattle.commit_protocol.proofs.Lists.{told_id, told_key, same_key-refl, find-put, find-put_other, find_serial-key}
 use Rattle.commit_protocol.proofs.Serials.{parts_apart, apart_distinct, act_apart}
 use Rattle.commit_protocol.proofs.Bridge.{node_same, node_other}
-use Rattle.log_laws.specs.Slots.{size}
-use Rattle.log_laws.proofs.RowSlots.{changed_tells}
+use Rattle.run_model.specs.log_laws.Slots.{size}
+use Rattle.run_model.proofs.log_laws.RowSlots.{changed_tells}
 use Rattle.run_model.specs.World as world
 use Rattle.run_model.specs.World.{Act, Creates, Mark, Marks, Saves, Recovers, Changes, Holds, Directs, Arms, Clocks, Declares, Falls, Node, Shared, File, Settlement, acted, shared_after, is_durable, fallen, tm_of, find_branch, with_changed}
 use Rattle.run_model.specs.Answers.{Row, unit_key}
 use Rattle.run_model.specs.Steps as steps
 use Rattle.run_model.specs.Steps.{node_after_rows, shared_after_rows, shared_then, if_durable, act_begun}
 use Rattle.run_agreement.specs.Seen.{Face, IsTold, IsLeft, ArePrepared, IsBegun, raw, landed, outcome_of, has_volume}
-use Rattle.transcript_model.specs.Lines.{Line}
+use Rattle.run_model.specs.transcript_model.Lines.{Line}
 use Rattle.run_agreement.specs.Following.{Faces, Follows}
 use Rattle.run_agreement.proofs.Found.{some_is}
 use Rattle.run_agreement.proofs.Faces.{put_face, put_here, follows_same, follows_crash, follows_settles}
@@ -359,9 +359,9 @@ changes_told x b file cs ks some t w = telling (acted (Changes b.key.tid b.key.s
     log : TellsLog (acted (Changes b.key.tid b.key.serial file cs ks) x)
     log =
         let e : rows.row (tm_of x) (rows.Changed b.key.serial) ≡ Notes (has_changed b) ∷ [] = ap (note_row has_changed) (branch_found b.key.serial x.volatile.branches b w.found) ∙ ap (note_state has_changed b) (state_of x b w) in
-        let P : List table.Act → Type 0 = λ acts. Rattle.log_laws.specs.Slots.AllTell acts (tm_of x) x.durable.log in
+        let P : List table.Act → Type 0 = λ acts. Rattle.run_model.specs.log_laws.Slots.AllTell acts (tm_of x) x.durable.log in
         let l = subst P e (changed_tells (tm_of x) x.durable.log (find_serial b.key.serial x.volatile.branches) (λ d f. find_serial-key b.key.serial x.volatile.branches d f) t.log) in
-        let Q : table.Tm → Type 0 = λ m. Rattle.log_laws.specs.Slots.LogTells m x.durable.log in
+        let Q : table.Tm → Type 0 = λ m. Rattle.run_model.specs.log_laws.Slots.LogTells m x.durable.log in
         let R : table.Tm → Type 0 = λ m. Rattle.commit_protocol.specs.Standing.HasApartLog m in
         let z : protocol.Node = raw [] x in
         let a = (act_apart z (Notes (has_changed b)) (parts_apart (branch_serials x.volatile.branches) (record_serials x.volatile.records) t.apart) (b, here_of x b w)).log in

@@ -5,8 +5,8 @@ use Rattle.std.proofs.Common.{◌≡◌, ℕ, ◌+◌, ◌≤◌, ◌<◌, lengt
 use Rattle.std.proofs.lemmas.Bool.{leb-false, lt-ltb}
 use Rattle.vms_model.specs.Ids.{Id}
 use Rattle.vms_model.specs.Limits.{branch_limit}
-use Rattle.transcript_model.specs.Lines as line
-use Rattle.transcript_model.specs.Lines.{Line}
+use Rattle.run_model.specs.transcript_model.Lines as line
+use Rattle.run_model.specs.transcript_model.Lines.{Line}
 use Rattle.commit_protocol.specs.Messages.{Name}
 use Rattle.commit_protocol.specs.Table as table
 use Rattle.commit_protocol.specs.Table.{Key, Branch}
@@ -19,8 +19,8 @@ use Rattle.commit_protocol.proofs.Following.{tables_follow}
 use Rattle.commit_protocol.proofs.LogSteps.{logs_apart}
 use Rattle.commit_protocol.specs.Opening.{Opening}
 use Rattle.commit_protocol.proofs.Lists.{in_slice}
-use Rattle.log_laws.specs.Slots.{size}
-use Rattle.log_laws.proofs.RowSlots.{row_size}
+use Rattle.run_model.specs.log_laws.Slots.{size}
+use Rattle.run_model.proofs.log_laws.RowSlots.{row_size}
 use Rattle.run_model.specs.World as world
 use Rattle.run_model.specs.World.{Act, Draws, Labels, Numbers, Label, Node, Shared, acted, shared_after, with_serial, find_label, tm_of}
 use Rattle.run_model.specs.Operations.{first_of, refused_if}
@@ -157,7 +157,7 @@ may_begin x r t =
     rw (one, two) refl
 
 -- there is room after the row
-fits_more : (x : Node) (e : Event) → HasRoom x → IsTold [] x → Rattle.log_laws.specs.Slots.branches_added e ≡ 1 → size (table.after (row (tm_of x) e) (tm_of x)) ≤ length x.durable.log
+fits_more : (x : Node) (e : Event) → HasRoom x → IsTold [] x → Rattle.run_model.specs.log_laws.Slots.branches_added e ≡ 1 → size (table.after (row (tm_of x) e) (tm_of x)) ≤ length x.durable.log
 fits_more x e r t one =
     let grown = row_size (tm_of x) e t.apart in
     let P : ℕ → Type 0 = λ m. size (table.after (row (tm_of x) e) (tm_of x)) ≤ size (tm_of x) + m in

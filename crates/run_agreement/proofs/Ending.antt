@@ -3,9 +3,9 @@ use Rattle.std.specs.Prelude.{if◌then◌else◌, ◌&&◌, ◌||◌, not}
 use Rattle.std.proofs.Common.{◌≡◌, ℕ, Bool, true, false, List, [], ◌∷◌, ◌++◌, Option, Some, None, inl, inr, refl, ap, sym, subst, ◌∙◌}
 use Rattle.std.proofs.lemmas.Bool.{cases_Bool}
 use Rattle.vms_model.specs.Transactions.{Outcome, Reason, Commit as ToCommit, Aborted as ByRequest, SyncFail}
-use Rattle.transcript_model.specs.Lines as line
-use Rattle.transcript_model.specs.Lines.{Line, Normal, Pending, TransactionAborted}
-use Rattle.script_model.specs.Statements.{At, EndTrans, Init}
+use Rattle.run_model.specs.transcript_model.Lines as line
+use Rattle.run_model.specs.transcript_model.Lines.{Line, Normal, Pending, TransactionAborted}
+use Rattle.run_model.specs.script_model.Statements.{At, EndTrans, Init}
 use Rattle.commit_protocol.specs.Messages.{Name, Message, RmEvent, Prepare, LogRecord}
 use Rattle.commit_protocol.specs.Table.{Key, Branch, State, Joining, Active, Ending, Voting, Prepared, Act, Notes, Accepts, Prepares, Settles, Leaves, Acknowledges, Releases, Undoes, Sends, Prints, first, is_first, find, holding}
 use Rattle.commit_protocol.specs.Rows as rows

@@ -14,8 +14,8 @@ use Rattle.commit_protocol.specs.Opening.{Opening, IsAgreeing, opened}
 use Rattle.commit_protocol.proofs.Lists.{in_slice}
 use Rattle.commit_protocol.proofs.Opened.{agreement_from}
 use Rattle.commit_protocol.proofs.Running.{run-append}
-use Rattle.log_laws.specs.Slots.{size}
-use Rattle.log_laws.proofs.RowSlots.{row_size}
+use Rattle.run_model.specs.log_laws.Slots.{size}
+use Rattle.run_model.proofs.log_laws.RowSlots.{row_size}
 use Rattle.run_model.specs.World as world
 use Rattle.run_model.specs.World.{Act, Node, Shared, acted, tm_of}
 use Rattle.run_model.specs.Answers.{Row}
@@ -200,7 +200,7 @@ pub record RowsGo (o : Opening) (n : Name) (rs : List Row) (x : Node) (s : Share
   pub cut : (j : ℕ) (begun b : Bool) (fs : Faces) (p : protocol.World) → IsUpAt o n x s fs p → Arrives o n b (cut_node rs j begun x) (shared_after_rows (take j rs) s) fs p
 
 -- the size after a row by which no branch begins
-pub fits_after : (o : Opening) (n : Name) (x : Node) (s : Shared) (fs : Faces) (p : protocol.World) (e : Event) → IsUpAt o n x s fs p → Rattle.log_laws.specs.Slots.branches_added e ≡ 0 → size (table.after (row (tm_of x) e) (tm_of x)) ≤ length x.durable.log
+pub fits_after : (o : Opening) (n : Name) (x : Node) (s : Shared) (fs : Faces) (p : protocol.World) (e : Event) → IsUpAt o n x s fs p → Rattle.run_model.specs.log_laws.Slots.branches_added e ≡ 0 → size (table.after (row (tm_of x) e) (tm_of x)) ≤ length x.durable.log
 fits_after o n x s fs p e h none =
     let one = row_size (tm_of x) e h.told.apart in
     let P : ℕ → Type 0 = λ m. size (table.after (row (tm_of x) e) (tm_of x)) ≤ size (tm_of x) + m in
@@ -209,7 +209,7 @@ fits_after o n x s fs p e h none =
     omega arith
 
 -- an event that draws nothing
-pub given_goes : (o : Opening) (n : Name) (e : Event) (rs : List Row) (x : Node) (s : Shared) → draws_none e ≡ true → allowed (tm_of x) e ≡ true → Rattle.log_laws.specs.Slots.branches_added e ≡ 0
+pub given_goes : (o : Opening) (n : Name) (e : Event) (rs : List Row) (x : Node) (s : Shared) → draws_none e ≡ true → allowed (tm_of x) e ≡ true → Rattle.run_model.specs.log_laws.Slots.branches_added e ≡ 0
     → ((fs : Faces) (p : protocol.World) → IsUpAt o n x s fs p → Match rs (row (tm_of x) e) [] x) → RowsGo o n rs x s
 given_goes o n e rs x s none may few match = record {
   whole = λ b fs p h.

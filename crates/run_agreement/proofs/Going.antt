@@ -1,7 +1,7 @@
 -- Parts with which a statement does not end: they are done whole.
 use Rattle.std.specs.Prelude.{not}
 use Rattle.std.proofs.Common.{◌≡◌, ℕ, true, false, List, [], ◌∷◌, Option, Some, None, refl, ap, sym, subst, ◌∙◌}
-use Rattle.transcript_model.specs.Lines.{Line}
+use Rattle.run_model.specs.transcript_model.Lines.{Line}
 use Rattle.commit_protocol.specs.Messages.{Name, Message}
 use Rattle.commit_protocol.specs.Table as table
 use Rattle.commit_protocol.specs.Table.{Branch, Tm}

@@ -15,8 +15,8 @@ use Rattle.commit_protocol.proofs.Running.{goes_run}
 use Rattle.commit_protocol.proofs.Gathered.{is_shown}
 use Rattle.commit_protocol.proofs.Opened.{good_opened}
 use Rattle.commit_protocol.proofs.Serials.{parts_apart, apart_distinct, in_serial, serial_in}
-use Rattle.log_laws.specs.Slots.{records_in, committed_of}
-use Rattle.log_laws.proofs.Reading.{permuted_to, permuted_back, committed_distinct, all_again}
+use Rattle.run_model.specs.log_laws.Slots.{records_in, committed_of}
+use Rattle.run_model.proofs.log_laws.Reading.{permuted_to, permuted_back, committed_distinct, all_again}
 use Rattle.run_model.specs.World.{World, Node, Durable, find_node, prepared_left}
 use Rattle.run_model.specs.Transcript.{Entry}
 use Rattle.run_agreement.specs.Seen.{Resolution, Face, IsFace, IsLeft, landed, left_keys, has_volume, image_of, outcome_of, raw}
@@ -143,7 +143,7 @@ face_image taken x f is = elim (cases_Bool x.up) [
 ]
   where
     restored : (bs : List Rattle.commit_protocol.specs.Table.Branch) → prepared_records (branches_of (prepared_records bs)) ≡ prepared_records bs
-    restored bs = Rattle.log_laws.proofs.Reading.kept_again bs (prepared_records bs) (λ q i. i)
+    restored bs = Rattle.run_model.proofs.log_laws.Reading.kept_again bs (prepared_records bs) (λ q i. i)
 
 -- The images of the nodes of a rack.
 

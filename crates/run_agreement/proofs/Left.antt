@@ -2,15 +2,15 @@
 use Rattle.std.specs.Prelude.{if◌then◌else◌}
 use Rattle.std.proofs.Common.{◌≡◌, Bool, true, false, List, [], ◌∷◌, Option, Some, None, ◌⊎◌, inl, inr, refl, ap, sym, subst, ◌∙◌}
 use Rattle.vms_model.specs.Ids.{Id}
-use Rattle.records_model.specs.History.{same_id}
+use Rattle.run_model.specs.records_model.History.{same_id}
 use Rattle.commit_protocol.specs.Messages.{LogRecord, PreparedRecord, CommittedRecord}
 use Rattle.commit_protocol.specs.Table.{Key, Branch, record_key, prepared_record, prepared_records}
 use Rattle.commit_protocol.specs.World.{In, crashed}
 use Rattle.commit_protocol.specs.Opening.{DistinctKeys, AreRearranged}
-use Rattle.log_laws.specs.Slots.{records_in, prepared_of}
-use Rattle.log_laws.proofs.Slotting.{in_state}
-use Rattle.log_laws.proofs.Reading.{read_records}
-use Rattle.log_laws.proofs.RowSlots.{prepared_in}
+use Rattle.run_model.specs.log_laws.Slots.{records_in, prepared_of}
+use Rattle.run_model.proofs.log_laws.Slotting.{in_state}
+use Rattle.run_model.proofs.log_laws.Reading.{read_records}
+use Rattle.run_model.proofs.log_laws.RowSlots.{prepared_in}
 use Rattle.run_model.specs.World.{Node, find_record, without_record, records_by, prepared_serials, prepared_left, tm_of}
 use Rattle.run_agreement.specs.Seen.{IsTold, IsLeft, raw}
 use Rattle.run_agreement.proofs.Found.{some_is}

@@ -4,10 +4,10 @@ use Rattle.std.specs.Str.{bytes_eq}
 use Rattle.std.proofs.Common.{◌≡◌, Bool, true, false, List, [], ◌∷◌, ◌++◌, Option, Some, None, inl, inr, refl, ap, sym, subst, ◌∙◌}
 use Rattle.std.proofs.lemmas.Bool.{both_ways, cases_Bool}
 use Rattle.vms_model.specs.Transactions.{Outcome}
-use Rattle.script_model.specs.Statements.{Reading, Blank, Says, Bad}
-use Rattle.script_model.specs.Grammar.{reading}
-use Rattle.transcript_model.specs.Lines.{Line}
-use Rattle.unit_laws.specs.Journal.{units_in}
+use Rattle.run_model.specs.script_model.Statements.{Reading, Blank, Says, Bad}
+use Rattle.run_model.specs.script_model.Grammar.{reading}
+use Rattle.run_model.specs.transcript_model.Lines.{Line}
+use Rattle.run_model.specs.unit_laws.Journal.{units_in}
 use Rattle.commit_protocol.specs.Messages.{Name, LogRecord, same_name}
 use Rattle.commit_protocol.specs.Table.{Key}
 use Rattle.commit_protocol.specs.World as protocol
@@ -15,8 +15,8 @@ use Rattle.commit_protocol.specs.World.{In, Step, run}
 use Rattle.commit_protocol.specs.Opening.{Opening, Image, IsAgreeing, AreRearranged, DistinctKeys, image_in, image_at, in_rack, node_of, opened, settled_in, accepted_in}
 use Rattle.commit_protocol.specs.Orders.{IsPermuted}
 use Rattle.commit_protocol.proofs.Lists.{same_name-eq, same_name-ne}
-use Rattle.log_laws.specs.Slots.{records_in, committed_of}
-use Rattle.log_laws.proofs.Reading.{is_prepared_one}
+use Rattle.run_model.specs.log_laws.Slots.{records_in, committed_of}
+use Rattle.run_model.proofs.log_laws.Reading.{is_prepared_one}
 use Rattle.run_model.specs.World as world
 use Rattle.run_model.specs.World.{World, Node, Sound, Settlement, IsLogInOrder, find_node, prepared_left}
 use Rattle.run_model.specs.Transcript.{Entry, Turn}

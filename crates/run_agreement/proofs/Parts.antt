@@ -4,8 +4,8 @@ use Rattle.std.specs.Option.{option_and_then}
 use Rattle.std.proofs.Common.{◌≡◌, ℕ, Bool, true, false, List, [], ◌∷◌, ◌++◌, Option, Some, None, inl, inr, refl, ap, sym, subst, ◌∙◌}
 use Rattle.std.proofs.lemmas.Bool.{cases_Bool}
 use Rattle.vms_model.specs.Ids.{Id}
-use Rattle.transcript_model.specs.Lines.{Cause}
-use Rattle.script_model.specs.Statements.{Init}
+use Rattle.run_model.specs.transcript_model.Lines.{Cause}
+use Rattle.run_model.specs.script_model.Statements.{Init}
 use Rattle.commit_protocol.specs.Messages.{Name, Message, Inquire}
 use Rattle.commit_protocol.specs.Table as table
 use Rattle.commit_protocol.specs.Table.{Key, Branch, State, Sends, coordinator_of}

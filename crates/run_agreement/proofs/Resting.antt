@@ -8,10 +8,10 @@ use Rattle.std.proofs.lemmas.Bool.{both_ways, cases_Bool}
 use Rattle.vms_model.specs.Ids.{Id}
 use Rattle.vms_model.specs.Transactions.{Commit as ToCommit, Abort as ToAbort, Aborted as ByRequest}
 use Rattle.vms_model.specs.Limits.{boot_limit, moment_limit, position_limit}
-use Rattle.transcript_model.specs.Lines as line
-use Rattle.transcript_model.specs.Lines.{Line, Cause}
-use Rattle.script_model.specs.Statements.{Settle}
-use Rattle.records_model.specs.History.{same_id}
+use Rattle.run_model.specs.transcript_model.Lines as line
+use Rattle.run_model.specs.transcript_model.Lines.{Line, Cause}
+use Rattle.run_model.specs.script_model.Statements.{Settle}
+use Rattle.run_model.specs.records_model.History.{same_id}
 use Rattle.commit_protocol.specs.Messages as message
 use Rattle.commit_protocol.specs.Messages.{Name, Kind, Message, Inquire, Ack, CommitEvent, AbortEvent}
 use Rattle.commit_protocol.specs.Table as table

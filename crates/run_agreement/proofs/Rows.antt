@@ -13,8 +13,8 @@ use Rattle.run_model.specs.Answers.{Row, table_rows}
 use Rattle.run_model.specs.Steps.{shared_then, node_after_rows, shared_after_rows, if_durable, act_begun}
 use Rattle.run_model.specs.Steps as steps
 use Rattle.run_agreement.specs.Seen.{Face, IsTold, IsDownFace, IsBegun, IsLeft, raw, landed, has_volume}
-use Rattle.log_laws.specs.Slots.{slots_after}
-use Rattle.log_laws.proofs.RowSlots.{length_slots}
+use Rattle.run_model.specs.log_laws.Slots.{slots_after}
+use Rattle.run_model.proofs.log_laws.RowSlots.{length_slots}
 use Rattle.run_agreement.specs.Following.{Faces, Follows}
 use Rattle.run_agreement.proofs.Faces.{put_face, put_here, put_there, face_after, follows_same, follows_act, follows_crash}
 use Rattle.run_agreement.proofs.Left.{told_left}

@@ -4,8 +4,8 @@ use Rattle.std.specs.Option.{option_and_then}
 use Rattle.std.proofs.Common.{◌≡◌, ℕ, take, map, Bool, true, false, List, [], ◌∷◌, Option, Some, None, refl, ap, sym, subst, ◌∙◌}
 use Rattle.std.proofs.lemmas.Bool.{both_ways}
 use Rattle.vms_model.specs.Ids.{Id}
-use Rattle.transcript_model.specs.Lines as line
-use Rattle.transcript_model.specs.Lines.{Line, Cause}
+use Rattle.run_model.specs.transcript_model.Lines as line
+use Rattle.run_model.specs.transcript_model.Lines.{Line, Cause}
 use Rattle.commit_protocol.specs.Messages.{Name}
 use Rattle.commit_protocol.specs.Table.{Key, Branch, first, is_first, find, find_serial}
 use Rattle.commit_protocol.specs.Rows.{Event, row}
@@ -15,8 +15,8 @@ use Rattle.commit_protocol.specs.World.{In, draws_none}
 use Rattle.commit_protocol.specs.Opening.{Opening}
 use Rattle.commit_protocol.specs.Standing.{BeginsNothing}
 use Rattle.commit_protocol.proofs.Lists.{find_serial-key, same_key-true}
-use Rattle.log_laws.specs.Slots.{IsFresh, branches_added}
-use Rattle.script_model.specs.Statements as said
+use Rattle.run_model.specs.log_laws.Slots.{IsFresh, branches_added}
+use Rattle.run_model.specs.script_model.Statements as said
 use Rattle.run_model.specs.World as world
 use Rattle.run_model.specs.World.{Act, Arms, Clocks, ComesUp, Node, Shared, Label, File, Call, DiskCounts, Outturn, acted, find_branch, serial_labelled, powered, unpowered, tm_of}
 use Rattle.run_model.specs.Operations.{first_of, refused_if}

@@ -3,15 +3,15 @@ use Rattle.std.specs.Prelude.{if◌then◌else◌, ◌||◌, not, nat_lt, ◌==�
 use Rattle.std.proofs.Common.{◌≡◌, ℕ, Bool, true, false, List, [], ◌∷◌, ◌++◌, Option, Some, None, ◌⊎◌, inl, inr, refl, ap, sym, subst, ◌∙◌, drop, bytes_eq}
 use Rattle.vms_model.specs.Ids.{Id}
 use Rattle.vms_model.specs.Limits.{boot_limit, moment_limit, position_limit}
-use Rattle.transcript_model.specs.Lines as line
-use Rattle.transcript_model.specs.Lines.{Line, Cause}
-use Rattle.script_model.specs.Statements.{Settle}
+use Rattle.run_model.specs.transcript_model.Lines as line
+use Rattle.run_model.specs.transcript_model.Lines.{Line, Cause}
+use Rattle.run_model.specs.script_model.Statements.{Settle}
 use Rattle.commit_protocol.specs.Messages.{Name, Message}
 use Rattle.commit_protocol.specs.Table.{Branch, coordinator_of, find}
 use Rattle.commit_protocol.specs.Rows.{down}
 use Rattle.commit_protocol.specs.World.{In}
 use Rattle.commit_protocol.specs.Opening.{IsAgreeing}
-use Rattle.records_model.specs.History.{same_id}
+use Rattle.run_model.specs.records_model.History.{same_id}
 use Rattle.commit_protocol.proofs.Lists.{cases_name, find_serial-key}
 use Rattle.run_model.specs.World as world
 use Rattle.run_model.specs.World.{World, Node, Shared, DiskCounts, Outturn, find_node, with_node, find_branch}

@@ -7,10 +7,10 @@ use Rattle.vms_model.specs.Ids.{Id}
 use Rattle.vms_model.specs.Keys as keys
 use Rattle.vms_model.specs.Transactions.{Aborted as ByRequest}
 use Rattle.vms_model.specs.Limits.{bid_limit, manager_limit}
-use Rattle.transcript_model.specs.Lines as line
-use Rattle.transcript_model.specs.Lines.{Line, Cause}
-use Rattle.script_model.specs.Statements.{Request, Init, Boot, Create, SetFile, StartTrans, AddBranch, StartBranch, Records, Direct, EndBranch, EndTrans, AbortTrans, Inquire, DeclareRm, JoinRm, AckEvent, ForgetRm, GetDti, LmcpShow, LmcpDump, Dump, DumpJournal, DumpImages, Backup, Recover, Fuse, Crash, Clock, Named, ByLabel, BySerial, Operation}
-use Rattle.records_model.specs.Records.{Change}
+use Rattle.run_model.specs.transcript_model.Lines as line
+use Rattle.run_model.specs.transcript_model.Lines.{Line, Cause}
+use Rattle.run_model.specs.script_model.Statements.{Request, Init, Boot, Create, SetFile, StartTrans, AddBranch, StartBranch, Records, Direct, EndBranch, EndTrans, AbortTrans, Inquire, DeclareRm, JoinRm, AckEvent, ForgetRm, GetDti, LmcpShow, LmcpDump, Dump, DumpJournal, DumpImages, Backup, Recover, Fuse, Crash, Clock, Named, ByLabel, BySerial, Operation}
+use Rattle.run_model.specs.records_model.Records.{Change}
 use Rattle.commit_protocol.specs.Messages.{Name, Message, Reply}
 use Rattle.commit_protocol.specs.Table.{Branch, is_first, find, find_serial, first, without_rm}
 use Rattle.commit_protocol.specs.Rows as rows
@@ -19,7 +19,7 @@ use Rattle.commit_protocol.specs.Allowed.{is_active, is_prepared, is_working, ma
 use Rattle.commit_protocol.specs.World as protocol
 use Rattle.commit_protocol.specs.World.{In}
 use Rattle.commit_protocol.specs.Opening.{Opening}
-use Rattle.log_laws.specs.Slots.{slot_records}
+use Rattle.run_model.specs.log_laws.Slots.{slot_records}
 use Rattle.run_model.specs.World as world
 use Rattle.run_model.specs.World.{Act, Node, Shared, Label, Call, Outturn, acted, find_branch, powered, unpowered, tm_of}
 use Rattle.run_model.specs.Operations.{first_of, refused_if}
@@ -184,11 +184,11 @@ direct_sim o n x s stops file op rises c may = rows_sim o n x s stops (service (
 crash_sim : (o : Opening) (n : Name) (x : Node) (s : Shared) (stops : ℕ) (rises : Cause → Type 0) (c : Choice) → ServiceAllowed s stops x (service Crash) rises c → Sim o n x s stops (service Crash) c
 crash_sim o n x s stops rises c may = unused_sim o n x s stops (service Crash) rises c (record { powers = refl; closing = refl; awake = refl }) refl (λ up h q b fs p a. crash_goes o n b x s fs p a) may
 
-create_sim : (o : Opening) (n : Name) (x : Node) (s : Shared) (stops : ℕ) (file : List ℕ) (bucket size : ℕ) (form : Rattle.script_model.specs.Statements.Form) (rises : Cause → Type 0) (c : Choice) → ServiceAllowed s stops x (service (Create file bucket size form)) rises c → Sim o n x s stops (service (Create file bucket size form)) c
+create_sim : (o : Opening) (n : Name) (x : Node) (s : Shared) (stops : ℕ) (file : List ℕ) (bucket size : ℕ) (form : Rattle.run_model.specs.script_model.Statements.Form) (rises : Cause → Type 0) (c : Choice) → ServiceAllowed s stops x (service (Create file bucket size form)) rises c → Sim o n x s stops (service (Create file bucket size form)) c
 create_sim o n x s stops file bucket size form rises c may = rows_sim o n x s stops (service (Create file bucket size form)) rises c (record { powers = refl; closing = refl; awake = refl })
     (λ up h q. unseen_goes o n (answers.creates x (λ start. answers.created file bucket size form start x.durable.greatest) (answers.blocks_for bucket size form)) x s (creates_are_unseen x (λ start. answers.created file bucket size form start x.durable.greatest) (answers.blocks_for bucket size form))) may
 
-mark_sim : (o : Opening) (n : Name) (x : Node) (s : Shared) (stops : ℕ) (file : List ℕ) (setting : Rattle.script_model.specs.Statements.Setting) (rises : Cause → Type 0) (c : Choice) → ServiceAllowed s stops x (service (SetFile file setting)) rises c → Sim o n x s stops (service (SetFile file setting)) c
+mark_sim : (o : Opening) (n : Name) (x : Node) (s : Shared) (stops : ℕ) (file : List ℕ) (setting : Rattle.run_model.specs.script_model.Statements.Setting) (rises : Cause → Type 0) (c : Choice) → ServiceAllowed s stops x (service (SetFile file setting)) rises c → Sim o n x s stops (service (SetFile file setting)) c
 mark_sim o n x s stops file setting rises c may = rows_sim o n x s stops (service (SetFile file setting)) rises c (record { powers = refl; closing = refl; awake = refl })
     (λ up h q. unseen_goes o n (answers.sets x file setting) x s (sets_are_unseen x file setting)) may
 
@@ -200,7 +200,7 @@ journal_sim : (o : Opening) (n : Name) (x : Node) (s : Shared) (stops : ℕ) (ri
 journal_sim o n x s stops rises c may = rows_sim o n x s stops (service DumpJournal) rises c (record { powers = refl; closing = refl; awake = refl })
     (λ up h q. let ls = answers.entry_lines x.durable.units.first x.durable.units.entries in unseen_goes o n (map answers.shown_line ls) x s (shown_unseen Line ls answers.shown_line x (λ y. refl))) may
 
-images_sim : (o : Opening) (n : Name) (x : Node) (s : Shared) (stops : ℕ) (file : List ℕ) (side : Rattle.script_model.specs.Statements.Side) (rises : Cause → Type 0) (c : Choice) → ServiceAllowed s stops x (service (DumpImages file side)) rises c → Sim o n x s stops (service (DumpImages file side)) c
+images_sim : (o : Opening) (n : Name) (x : Node) (s : Shared) (stops : ℕ) (file : List ℕ) (side : Rattle.run_model.specs.script_model.Statements.Side) (rises : Cause → Type 0) (c : Choice) → ServiceAllowed s stops x (service (DumpImages file side)) rises c → Sim o n x s stops (service (DumpImages file side)) c
 images_sim o n x s stops file side rises c may = rows_sim o n x s stops (service (DumpImages file side)) rises c (record { powers = refl; closing = refl; awake = refl })
     (λ up h q. unseen_goes o n (answers.to_file x file (λ f. map answers.shown_line (answers.image_lines file (answers.journal_at side f).entries))) x s
     (to_file_unseen x file (λ f. map answers.shown_line (answers.image_lines file (answers.journal_at side f).entries)) (λ f. shown_unseen Line (answers.image_lines file (answers.journal_at side f).entries) answers.shown_line x (λ y. refl)))) may
@@ -210,7 +210,7 @@ save_sim o n x s stops file rises c may = rows_sim o n x s stops (service (Backu
     (λ up h q. unseen_goes o n (answers.to_file x file (λ f. answers.on_free x (answers.blocks_of f) (world.Saves file))) x s
     (to_file_unseen x file (λ f. answers.on_free x (answers.blocks_of f) (world.Saves file)) (λ f. on_free_unseen x (answers.blocks_of f) (world.Saves file) (λ start. saves_unseen file start x)))) may
 
-recover_sim : (o : Opening) (n : Name) (x : Node) (s : Shared) (stops : ℕ) (file : List ℕ) (way : Rattle.script_model.specs.Statements.Recovery) (rises : Cause → Type 0) (c : Choice) → ServiceAllowed s stops x (service (Recover file way)) rises c → Sim o n x s stops (service (Recover file way)) c
+recover_sim : (o : Opening) (n : Name) (x : Node) (s : Shared) (stops : ℕ) (file : List ℕ) (way : Rattle.run_model.specs.script_model.Statements.Recovery) (rises : Cause → Type 0) (c : Choice) → ServiceAllowed s stops x (service (Recover file way)) rises c → Sim o n x s stops (service (Recover file way)) c
 recover_sim o n x s stops file way rises c may = rows_sim o n x s stops (service (Recover file way)) rises c (record { powers = refl; closing = refl; awake = refl })
     (λ up h q. unseen_goes o n (answers.to_file x file (answers.recovers x file way)) x s
     (to_file_unseen x file (answers.recovers x file way) (λ f. let m = answers.records_recovered way f in

@@ -4,11 +4,11 @@ use Rattle.std.proofs.Common.{◌≡◌, ◌≤◌, ℕ, Bool, true, false, map,
 use Rattle.std.proofs.lemmas.Bool.{both_ways, cases_Bool}
 use Rattle.vms_model.specs.Ids.{Id}
 use Rattle.vms_model.specs.Transactions.{Outcome, Reason}
-use Rattle.records_model.specs.History.{same_id}
-use Rattle.unit_laws.specs.Journal.{Journal, JournalEntry, PreparedEntry, RecoveryUnit, find_unit, units_in, with_settled, with_entries, entries_for, trimmed}
-use Rattle.unit_laws.specs.JournalLaws.{is_unit}
-use Rattle.unit_laws.proofs.UnitLemmas.{prepares_unit}
-use Rattle.unit_laws.proofs.TrimLemmas.{settles_unit}
+use Rattle.run_model.specs.records_model.History.{same_id}
+use Rattle.run_model.specs.unit_laws.Journal.{Journal, JournalEntry, PreparedEntry, RecoveryUnit, find_unit, units_in, with_settled, with_entries, entries_for, trimmed}
+use Rattle.run_model.specs.unit_laws.JournalLaws.{is_unit}
+use Rattle.run_model.proofs.unit_laws.UnitLemmas.{prepares_unit}
+use Rattle.run_model.proofs.unit_laws.TrimLemmas.{settles_unit}
 use Rattle.commit_protocol.specs.Messages.{LogRecord, CommittedRecord}
 use Rattle.commit_protocol.specs.Table as table
 use Rattle.commit_protocol.specs.Table.{Key, Branch, State, Joining, Active, Ending, Voting, Prepared, Tm, Notes, Accepts, Prepares, Settles, Leaves, Acknowledges, Releases, Undoes, Sends, Prints, child, find, find_serial, put, cut, table_after, records_after, after_act, acknowledge, acknowledged, waits_for, release, released, holds, keep_record, nothing_left, branch_serials, record_serials, prepared_records}
@@ -26,8 +26,8 @@ use Rattle.commit_protocol.proofs.Lists.{told_key, find-put, find-put_other, fin
 use Rattle.commit_protocol.proofs.Serials.{parts_apart, apart_distinct, unique_of, there_serial}
 use Rattle.commit_protocol.proofs.StandingRows.{rows_stand}
 use Rattle.commit_protocol.proofs.Lasting.{stands_lasts, new_lasts}
-use Rattle.log_laws.specs.Slots.{LogTells, AllTell, IsFresh, AreCommitted, Slots, slots_after, size}
-use Rattle.log_laws.proofs.RowSlots.{row_tells, length_slots, apart_after}
+use Rattle.run_model.specs.log_laws.Slots.{LogTells, AllTell, IsFresh, AreCommitted, Slots, slots_after, size}
+use Rattle.run_model.proofs.log_laws.RowSlots.{row_tells, length_slots, apart_after}
 use Rattle.run_model.specs.World.{Tables, Node, Durable, Settlement, acted, tm_of, with_settlement, settlement_of, next_moment, with_prepared, Sound}
 use Rattle.run_model.specs.Answers.{unit_key}
 use Rattle.run_agreement.specs.Seen.{IsTold, ArePrepared, left_keys}
@@ -100,8 +100,8 @@ telling y l there back units = record {
 pub same_told : (x y : Node) → IsTold [] x → TellsLog y → units_in y.durable.units.entries ≡ units_in x.durable.units.entries → units_of y.volatile.branches ≡ units_of x.volatile.branches
     → ((b : Branch) → find b.key x.volatile.branches ≡ Some b → b.state ≡ Prepared → find b.key y.volatile.branches ≡ Some b) → IsTold [] y
 same_told x y t l units branches kept =
-    let P : List RecoveryUnit → Type 0 = λ us. (k : Key) → In k (units_of x.volatile.branches ++ []) → In k (map unit_key (Rattle.unit_laws.specs.Journal.active_units us)) in
-    let Q : List RecoveryUnit → Type 0 = λ us. (k : Key) → In k (map unit_key (Rattle.unit_laws.specs.Journal.active_units us)) → In k (units_of x.volatile.branches ++ []) in
+    let P : List RecoveryUnit → Type 0 = λ us. (k : Key) → In k (units_of x.volatile.branches ++ []) → In k (map unit_key (Rattle.run_model.specs.unit_laws.Journal.active_units us)) in
+    let Q : List RecoveryUnit → Type 0 = λ us. (k : Key) → In k (map unit_key (Rattle.run_model.specs.unit_laws.Journal.active_units us)) → In k (units_of x.volatile.branches ++ []) in
     let S : List Key → Type 0 = λ ks. (k : Key) → In k (ks ++ []) → In k (left_keys y.durable) in
     let T : List Key → Type 0 = λ ks. (k : Key) → In k (left_keys y.durable) → In k (ks ++ []) in
     record {

@@ -5,14 +5,14 @@ use Rattle.std.specs.Str.{bytes_eq}
 use Rattle.std.proofs.Common.{◌≡◌, ℕ, Bool, true, false, List, [], ◌∷◌, ◌++◌, Option, Some, None, ◌⊎◌, inl, inr, refl, ap, sym, subst, ◌∙◌}
 use Rattle.std.proofs.lemmas.Bool.{both_ways}
 use Rattle.vms_model.specs.Ids.{Id}
-use Rattle.transcript_model.specs.Lines as line
-use Rattle.transcript_model.specs.Lines.{Line, Cause}
-use Rattle.script_model.specs.Statements as said
-use Rattle.script_model.specs.Statements.{Statement, At, Deliver, LinkDown, Settle, Init, Clock, Request, Reading, Blank, Says, Bad}
-use Rattle.script_model.specs.Grammar.{reading}
+use Rattle.run_model.specs.transcript_model.Lines as line
+use Rattle.run_model.specs.transcript_model.Lines.{Line, Cause}
+use Rattle.run_model.specs.script_model.Statements as said
+use Rattle.run_model.specs.script_model.Statements.{Statement, At, Deliver, LinkDown, Settle, Init, Clock, Request, Reading, Blank, Says, Bad}
+use Rattle.run_model.specs.script_model.Grammar.{reading}
 use Rattle.commit_protocol.specs.Messages.{LogRecord, Message, Name}
 use Rattle.commit_protocol.specs.Opening.{Image, no_image}
-use Rattle.log_laws.specs.Slots.{Slots, records_in, prepared_of, committed_of}
+use Rattle.run_model.specs.log_laws.Slots.{Slots, records_in, prepared_of, committed_of}
 use Rattle.run_model.specs.World as world
 use Rattle.run_model.specs.World.{World, Node, Durable, Volume, DiskCounts, find_node, with_node, opened}
 use Rattle.run_model.specs.Answers.{Task, Serves, Ticks, Takes, Hears, LosesLink, RunsDown, Restarts, task_service, service, refused_before_reading}

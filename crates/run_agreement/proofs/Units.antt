@@ -4,12 +4,12 @@ use Rattle.std.proofs.Common.{◌≡◌, ℕ, Bool, true, false, map, List, [], 
 use Rattle.std.proofs.lemmas.Bool.{and_parts, and_from, eqb-true, eq-eqb, false_from_ne_true, both_ways, cases_Bool}
 use Rattle.std.proofs.lemmas.Slice.Eq.{bytes_eq-Decides}
 use Rattle.vms_model.specs.Ids.{Id}
-use Rattle.records_model.specs.History.{same_id}
-use Rattle.unit_laws.specs.Journal.{Journal, JournalEntry, ChangeEntry, PreparedEntry, SettledEntry, RecoveryUnit, find_unit, active_units, units_after, units_onto, units_in, with_one_change, without_unit, with_settled, with_entries, entries_for}
-use Rattle.unit_laws.specs.Journal as journal
-use Rattle.unit_laws.specs.JournalLaws.{unit_or_new, with_more, is_unit}
-use Rattle.unit_laws.proofs.UnitLemmas.{found_changed, found_prepared, found_settled, prepares_unit}
-use Rattle.unit_laws.proofs.TrimLemmas.{settles_unit}
+use Rattle.run_model.specs.records_model.History.{same_id}
+use Rattle.run_model.specs.unit_laws.Journal.{Journal, JournalEntry, ChangeEntry, PreparedEntry, SettledEntry, RecoveryUnit, find_unit, active_units, units_after, units_onto, units_in, with_one_change, without_unit, with_settled, with_entries, entries_for}
+use Rattle.run_model.specs.unit_laws.Journal as journal
+use Rattle.run_model.specs.unit_laws.JournalLaws.{unit_or_new, with_more, is_unit}
+use Rattle.run_model.proofs.unit_laws.UnitLemmas.{found_changed, found_prepared, found_settled, prepares_unit}
+use Rattle.run_model.proofs.unit_laws.TrimLemmas.{settles_unit}
 use Rattle.vms_model.specs.Transactions.{Outcome}
 use Rattle.commit_protocol.specs.Table.{Key, Branch, State, Joining, Active, Ending, Voting, Prepared, find}
 use Rattle.commit_protocol.specs.Allowed.{is_prepared}

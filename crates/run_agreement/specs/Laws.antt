@@ -6,9 +6,9 @@ use Rattle.std.specs.Prelude.{◌≡◌, ◌==◌, ℕ, true, false, if◌then�
 use Rattle.vms_model.specs.Ids.{Id}
 use Rattle.vms_model.specs.Transactions.{Outcome, Commit as ToCommit, Abort as ToAbort}
 use Rattle.vms_model.specs.Limits.{boot_limit, moment_limit, position_limit}
-use Rattle.transcript_model.specs.Lines.{Line, Cause, Down, Normal, Broken, NoMemory, QuotaExceeded, Boots, Moments, Positions, NotInitializedAt, NoVolume, InDoubt}
-use Rattle.script_model.specs.Statements.{At, Settle, Init, EndTrans, Reading, Blank, Says, Bad}
-use Rattle.script_model.specs.Grammar.{reading}
+use Rattle.run_model.specs.transcript_model.Lines.{Line, Cause, Down, Normal, Broken, NoMemory, QuotaExceeded, Boots, Moments, Positions, NotInitializedAt, NoVolume, InDoubt}
+use Rattle.run_model.specs.script_model.Statements.{At, Settle, Init, EndTrans, Reading, Blank, Says, Bad}
+use Rattle.run_model.specs.script_model.Grammar.{reading}
 use Rattle.commit_protocol.specs.Messages.{Name}
 use Rattle.commit_protocol.specs.Table.{Key, Branch, first, coordinator_of}
 use Rattle.commit_protocol.specs.Allowed.{is_prepared}

@@ -3,7 +3,7 @@ use Rattle.std.specs.Prelude.{◌≡◌, ◌≤◌, length, List, [], ◌++◌, 
 use Rattle.vms_model.specs.Ids.{Id}
 use Rattle.vms_model.specs.Transactions.{Outcome}
 use Rattle.vms_model.specs.Limits.{slot_limit}
-use Rattle.unit_laws.specs.Journal.{RecoveryUnit, active_units, units_in, find_unit}
+use Rattle.run_model.specs.unit_laws.Journal.{RecoveryUnit, active_units, units_in, find_unit}
 use Rattle.commit_protocol.specs.Messages.{Name, LogRecord}
 use Rattle.commit_protocol.specs.Table.{Key, Branch, Prepared, child, find, record_serials, branches_of}
 use Rattle.commit_protocol.specs.World as protocol
@@ -12,7 +12,7 @@ use Rattle.commit_protocol.specs.Agreement.{Distinct}
 use Rattle.commit_protocol.specs.Opening.{Image, AreRearranged}
 use Rattle.commit_protocol.specs.Orders.{IsPermuted}
 use Rattle.commit_protocol.specs.Standing.{HasApartLog}
-use Rattle.log_laws.specs.Slots.{LogTells, AreCommitted, AreUnwaiting, prepared_of, committed_of, records_in, size}
+use Rattle.run_model.specs.log_laws.Slots.{LogTells, AreCommitted, AreUnwaiting, prepared_of, committed_of, records_in, size}
 use Rattle.run_model.specs.World.{Settlement, Act, Durable, Node, Sound, Faulty, Barred, Unknown, acted, is_durable, prepared_left, tm_of}
 use Rattle.run_model.specs.Answers.{unit_key}
 

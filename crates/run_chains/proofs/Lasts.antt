@@ -5,10 +5,10 @@ use Rattle.std.specs.Str.{bytes_eq}
 use Rattle.std.proofs.lemmas.Bool.{both_ways, false_from_ne_true}
 use Rattle.vms_model.specs.Ids.{Id}
 use Rattle.vms_model.specs.Transactions.{Outcome, Reason}
-use Rattle.transcript_model.specs.Lines as line
-use Rattle.transcript_model.specs.Lines.{Line, Cause}
-use Rattle.script_model.specs.Statements.{Statement, At, Deliver, LinkDown, Settle, Reading, Blank, Says, Bad}
-use Rattle.script_model.specs.Grammar.{reading}
+use Rattle.world_laws.specs.transcript_model.Lines as line
+use Rattle.world_laws.specs.transcript_model.Lines.{Line, Cause}
+use Rattle.world_laws.specs.script_model.Statements.{Statement, At, Deliver, LinkDown, Settle, Reading, Blank, Says, Bad}
+use Rattle.world_laws.specs.script_model.Grammar.{reading}
 use Rattle.records_model.specs.History.{same_id}
 use Rattle.unit_laws.specs.Units.{Map}
 use Rattle.unit_laws.specs.Journal.{RecoveryUnit, find_unit, units_in}
@@ -20,19 +20,19 @@ use Rattle.commit_protocol.specs.Allowed.{is_prepared}
 use Rattle.commit_protocol.specs.Standing.{Stands}
 use Rattle.commit_protocol.specs.World.{In}
 use Rattle.commit_protocol.proofs.Lists.{find-key}
-use Rattle.log_laws.specs.Slots.{prepared_of, records_in}
-use Rattle.log_laws.proofs.Reading.{is_prepared_one}
-use Rattle.run_model.specs.World as world
-use Rattle.run_model.specs.World.{World, Shared, Node, DiskCounts, Durable, Act, Arms, Boots, Changes, Clocks, ComesUp, Creates, Directs, Draws, Falls, Formats, Holds, IsOpening, Labels, LastIsReached, Marks, Saves, Recovers, Numbers, Tables, Settlement, aborted_prepared, acted, find_node, next_id, opened, settlement_of, with_half}
-use Rattle.run_model.specs.Answers as answers
-use Rattle.run_model.specs.Answers.{Task, task_service, unit_key}
-use Rattle.run_model.specs.Steps.{Choice, TaskAllowed, node_after, task_effect}
-use Rattle.run_model.specs.Statements.{Part, PartEffect, Begins, Phases, Step, Allowed, RoseAt, begun_with, part_effect, phases_of, refused_at_once, stops_at}
-use Rattle.run_model.specs.Transcript.{AreOpening, Entry, Legal, Turn}
-use Rattle.run_model.proofs.PartLemmas.{phases_fold}
-use Rattle.run_model.proofs.PartTasks.{View, Doing, Fixed, view}
-use Rattle.run_model.proofs.Refusing.{each_phase}
-use Rattle.run_model.proofs.TaskLemmas.{effect_name}
+use Rattle.world_laws.specs.log_laws.Slots.{prepared_of, records_in}
+use Rattle.world_laws.proofs.log_laws.Reading.{is_prepared_one}
+use Rattle.world_laws.specs.run_model.World as world
+use Rattle.world_laws.specs.run_model.World.{World, Shared, Node, DiskCounts, Durable, Act, Arms, Boots, Changes, Clocks, ComesUp, Creates, Directs, Draws, Falls, Formats, Holds, IsOpening, Labels, LastIsReached, Marks, Saves, Recovers, Numbers, Tables, Settlement, aborted_prepared, acted, find_node, next_id, opened, settlement_of, with_half}
+use Rattle.world_laws.specs.run_model.Answers as answers
+use Rattle.world_laws.specs.run_model.Answers.{Task, task_service, unit_key}
+use Rattle.world_laws.specs.run_model.Steps.{Choice, TaskAllowed, node_after, task_effect}
+use Rattle.world_laws.specs.run_model.Statements.{Part, PartEffect, Begins, Phases, Step, Allowed, RoseAt, begun_with, part_effect, phases_of, refused_at_once, stops_at}
+use Rattle.world_laws.specs.run_model.Transcript.{AreOpening, Entry, Legal, Turn}
+use Rattle.world_laws.proofs.run_model.PartLemmas.{phases_fold}
+use Rattle.world_laws.proofs.run_model.PartTasks.{View, Doing, Fixed, view}
+use Rattle.world_laws.proofs.run_model.Refusing.{each_phase}
+use Rattle.world_laws.proofs.run_model.TaskLemmas.{effect_name}
 use Rattle.world_laws.specs.Nodes.{IsKeptDisk, IsOf, IsUp}
 use Rattle.world_laws.specs.Running.{IsDrawn}
 use Rattle.world_laws.proofs.BootLemmas.{branch_in}

@@ -2,21 +2,21 @@
 use Rattle.std.proofs.Common.{◌≡◌, List, [], ◌∷◌, Bool, true, false, Option, Some, None, if◌then◌else◌, refl, sym, ◌∙◌, ap, subst, map}
 use Rattle.std.specs.List.{AllByRecursion}
 use Rattle.std.specs.Str.{bytes_eq}
-use Rattle.transcript_model.specs.Lines.{Line, Normal}
-use Rattle.script_model.specs.Statements.{At, Bad, Blank, Deliver, LinkDown, Reading, Says, Settle, Statement}
-use Rattle.script_model.specs.Grammar.{reading}
+use Rattle.world_laws.specs.transcript_model.Lines.{Line, Normal}
+use Rattle.world_laws.specs.script_model.Statements.{At, Bad, Blank, Deliver, LinkDown, Reading, Says, Settle, Statement}
+use Rattle.world_laws.specs.script_model.Grammar.{reading}
 use Rattle.commit_protocol.specs.Messages.{Name}
-use Rattle.run_model.specs.World.{World, Node, find_node, with_node}
-use Rattle.run_model.specs.Steps.{Choice, task_effect}
-use Rattle.run_model.specs.Statements.{Begins, Part, PartEffect, Phases, Step, begun_with, part_effect, phases_of, refused_at_once, stops_at}
-use Rattle.run_model.specs.Transcript.{Entry, Legal, Turn}
-use Rattle.run_model.proofs.NodeLists.{found_name, some_is}
-use Rattle.run_model.proofs.PartLemmas.{phases_fold}
-use Rattle.run_model.proofs.PartTasks.{View, Doing, Fixed, view}
-use Rattle.run_model.proofs.TaskLemmas.{effect_name}
-use Rattle.run_agreement.specs.Laws.{NamesApart}
-use Rattle.run_agreement.proofs.Begun.{AnyPart, any_phases}
-use Rattle.run_agreement.proofs.Found.{bytes_itself, bytes_same}
+use Rattle.world_laws.specs.run_model.World.{World, Node, find_node, with_node}
+use Rattle.world_laws.specs.run_model.Steps.{Choice, task_effect}
+use Rattle.world_laws.specs.run_model.Statements.{Begins, Part, PartEffect, Phases, Step, begun_with, part_effect, phases_of, refused_at_once, stops_at}
+use Rattle.world_laws.specs.run_model.Transcript.{Entry, Legal, Turn}
+use Rattle.world_laws.proofs.run_model.NodeLists.{found_name, some_is}
+use Rattle.world_laws.proofs.run_model.PartLemmas.{phases_fold}
+use Rattle.world_laws.proofs.run_model.PartTasks.{View, Doing, Fixed, view}
+use Rattle.world_laws.proofs.run_model.TaskLemmas.{effect_name}
+use Rattle.run_laws.specs.run_agreement.Laws.{NamesApart}
+use Rattle.run_laws.proofs.run_agreement.Begun.{AnyPart, any_phases}
+use Rattle.run_laws.proofs.run_agreement.Found.{bytes_itself, bytes_same}
 use Rattle.run_laws.specs.Promises.{AreLastApart, IsLastApart}
 use Rattle.run_chains.specs.Chains.{AreNext, IsNext}
 

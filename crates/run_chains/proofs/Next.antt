@@ -13,15 +13,15 @@ use Rattle.commit_protocol.specs.Table.{Key}
 use Rattle.commit_protocol.specs.World.{In}
 use Rattle.commit_protocol.specs.Opening.{Image, IsAgreeing, OldIn, Opening, image_at, image_in, new_volumes, no_image, or_none}
 use Rattle.commit_protocol.proofs.NewVolumes.{new_agree}
-use Rattle.run_model.specs.World.{World, Node, Durable, Volume, Sound, Faulty, Barred, Unknown, Act, Half, MayTurnOut, Settlement, aborted_prepared, acted, find_node, opened, with_half}
-use Rattle.run_model.specs.Transcript.{AreOpening, Entry, Legal}
-use Rattle.run_model.proofs.NodeLists.{found_name, some_is}
-use Rattle.run_agreement.specs.Seen.{Face, IsFace, IsKnown, Resolution, has_volume, image_of, landed, outcome_of}
-use Rattle.run_agreement.specs.Following.{opening_of}
-use Rattle.run_agreement.specs.Laws.{IsRun, NamesApart, image_after, image_told, next_opening, opening_told, volume_image}
-use Rattle.run_agreement.proofs.Events.{down_of_face, up_of_face}
-use Rattle.run_agreement.proofs.Images.{after_in}
-use Rattle.run_agreement.proofs.Openings.{reached_by}
+use Rattle.world_laws.specs.run_model.World.{World, Node, Durable, Volume, Sound, Faulty, Barred, Unknown, Act, Half, MayTurnOut, Settlement, aborted_prepared, acted, find_node, opened, with_half}
+use Rattle.world_laws.specs.run_model.Transcript.{AreOpening, Entry, Legal}
+use Rattle.world_laws.proofs.run_model.NodeLists.{found_name, some_is}
+use Rattle.run_laws.specs.run_agreement.Seen.{Face, IsFace, IsKnown, Resolution, has_volume, image_of, landed, outcome_of}
+use Rattle.run_laws.specs.run_agreement.Following.{opening_of}
+use Rattle.run_laws.specs.run_agreement.Laws.{IsRun, NamesApart, image_after, image_told, next_opening, opening_told, volume_image}
+use Rattle.run_laws.proofs.run_agreement.Events.{down_of_face, up_of_face}
+use Rattle.run_laws.proofs.run_agreement.Images.{after_in}
+use Rattle.run_laws.proofs.run_agreement.Openings.{reached_by}
 use Rattle.run_laws.specs.Anew.{AreForgotten, AreKnownOrAnew, IsMadeAnew}
 use Rattle.run_laws.specs.Promises.{AreLastApart, IsLastApart}
 use Rattle.run_laws.specs.Laws.{AgreedPromisesAreKept}

@@ -2,14 +2,14 @@
 use Rattle.std.proofs.Common.{◌≡◌, ◌⊎◌, List, [], ◌∷◌, inl, inr, Bool, true, false, Option, Some, None, if◌then◌else◌, refl}
 use Rattle.std.specs.List.{last_or}
 use Rattle.std.specs.Str.{bytes_eq}
-use Rattle.transcript_model.specs.Lines as line
-use Rattle.transcript_model.specs.Lines.{Line}
-use Rattle.script_model.specs.Statements.{At, Init, Reading, Says}
-use Rattle.script_model.specs.Grammar.{reading}
+use Rattle.world_laws.specs.transcript_model.Lines as line
+use Rattle.world_laws.specs.transcript_model.Lines.{Line}
+use Rattle.world_laws.specs.script_model.Statements.{At, Init, Reading, Says}
+use Rattle.world_laws.specs.script_model.Grammar.{reading}
 use Rattle.commit_protocol.specs.Messages.{Name}
 use Rattle.commit_protocol.specs.Opening.{Image, no_image}
-use Rattle.run_model.specs.Transcript.{Entry}
-use Rattle.run_agreement.specs.Laws.{image_after_init, image_here, image_told}
+use Rattle.world_laws.specs.run_model.Transcript.{Entry}
+use Rattle.run_laws.specs.run_agreement.Laws.{image_after_init, image_here, image_told}
 use Rattle.run_chains.specs.Chains.{is_made, made_by, made_here}
 
 -- that of a new volume, where the lines make one, or the one before the first line, or none

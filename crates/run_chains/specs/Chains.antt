@@ -3,17 +3,17 @@ use Rattle.std.specs.Prelude.{◌≡◌, ◌⊎◌, ℕ, if◌then◌else◌, Bo
 use Rattle.std.specs.List.{AllByRecursion, last_or}
 use Rattle.std.specs.Str.{bytes_eq}
 use Rattle.vms_model.specs.Transactions.{Outcome}
-use Rattle.transcript_model.specs.Lines.{Line, Normal, Broken}
-use Rattle.script_model.specs.Statements.{At, Init, Reading, Says}
-use Rattle.script_model.specs.Grammar.{reading}
+use Rattle.world_laws.specs.transcript_model.Lines.{Line, Normal, Broken}
+use Rattle.world_laws.specs.script_model.Statements.{At, Init, Reading, Says}
+use Rattle.world_laws.specs.script_model.Grammar.{reading}
 use Rattle.commit_protocol.specs.Messages.{Name, LogRecord}
 use Rattle.commit_protocol.specs.Table.{Key, record_key}
 use Rattle.commit_protocol.specs.World.{In}
 use Rattle.commit_protocol.specs.Opening.{IsAgreeing, LastIn, Opening, WaitedFor, image_at, no_image}
-use Rattle.run_model.specs.World.{World, Node, DiskCounts, Act, Unknown, acted, find_node, opened}
-use Rattle.run_model.specs.Transcript.{AreOpening, Entry, Legal}
-use Rattle.run_agreement.specs.Seen.{IsKnown, has_volume, image_of}
-use Rattle.run_agreement.specs.Laws.{NamesApart, opening_told}
+use Rattle.world_laws.specs.run_model.World.{World, Node, DiskCounts, Act, Unknown, acted, find_node, opened}
+use Rattle.world_laws.specs.run_model.Transcript.{AreOpening, Entry, Legal}
+use Rattle.run_laws.specs.run_agreement.Seen.{IsKnown, has_volume, image_of}
+use Rattle.run_laws.specs.run_agreement.Laws.{NamesApart, opening_told}
 use Rattle.run_laws.specs.Anew.{AreKnownOrAnew, IsMadeAnew}
 use Rattle.run_laws.specs.Promises.{AreLastApart, IsLastApart}
 use Rattle.run_laws.specs.Laws.{AgreedPromises}

@@ -2,9 +2,9 @@
 use Rattle.std.specs.Prelude.{◌≡◌, ◌⊎◌, ℕ, List, [], false, Option, Some, None, map, option_map}
 use Rattle.records_model.specs.History.{History, records}
 use Rattle.unit_laws.specs.Units.{Map}
-use Rattle.recovery_model.specs.File.{all_of}
-use Rattle.recovery_model.specs.Opening.{past_of}
-use Rattle.run_model.specs.World.{Node, File, Act, Half, MayTurnOut, Sound, Faulty, Barred, Unknown, aborted_prepared, acted, nothing_volatile, with_half}
+use Rattle.world_laws.specs.recovery_model.File.{all_of}
+use Rattle.world_laws.specs.recovery_model.Opening.{past_of}
+use Rattle.world_laws.specs.run_model.World.{Node, File, Act, Half, MayTurnOut, Sound, Faulty, Barred, Unknown, aborted_prepared, acted, nothing_volatile, with_half}
 
 -- a history from this moment on: the records that were committed are its base, and branches that are not settled have their changes on top
 abbrev pub rebased : ℕ → History → History

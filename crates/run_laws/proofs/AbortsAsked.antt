@@ -3,25 +3,25 @@ use Rattle.std.proofs.Common.{◌≡◌, ℕ, ◌⊎◌, List, [], ◌∷◌, �
 use Rattle.std.proofs.lemmas.List.{append_assoc}
 use Rattle.vms_model.specs.Ids.{Id}
 use Rattle.vms_model.specs.Transactions.{Outcome, Commit, Abort, Reason}
-use Rattle.transcript_model.specs.Lines as line
-use Rattle.transcript_model.specs.Lines.{Line, Cause}
-use Rattle.script_model.specs.Statements.{Statement, At, Deliver, LinkDown, Settle, Request, Boot, Clock, Reading, Blank, Says, Bad}
-use Rattle.script_model.specs.Grammar.{reading}
+use Rattle.run_said.specs.transcript_model.Lines as line
+use Rattle.run_said.specs.transcript_model.Lines.{Line, Cause}
+use Rattle.run_said.specs.script_model.Statements.{Statement, At, Deliver, LinkDown, Settle, Request, Boot, Clock, Reading, Blank, Says, Bad}
+use Rattle.run_said.specs.script_model.Grammar.{reading}
 use Rattle.commit_protocol.specs.Messages.{Message}
 use Rattle.commit_protocol.specs.Table.{Key as BranchKey}
 use Rattle.commit_protocol.specs.World.{In}
 use Rattle.commit_protocol.proofs.Lists.{in_left, in_right}
-use Rattle.run_model.specs.World.{World, Node, Act, DiskCounts, Settlement, find_node, opened}
-use Rattle.run_model.specs.Answers.{Task, Serves, Ticks, Takes, Hears, LosesLink, RunsDown, Restarts, refused_before_reading, settled_line, task_service}
-use Rattle.run_model.specs.Steps.{Choice, TaskAllowed, ready_node, task_effect}
-use Rattle.run_model.specs.Statements.{Part, Does, Asks, PartEffect, Question, Heard, Unanswered, Doubtful, Begins, Phase, Phases, Step, Allowed, RoseAt, begun_with, message_at, named_node, part_effect, phases_of, question, refused_at_once, stops_at, where_up}
-use Rattle.run_model.specs.StepLaws.{TaskAt, asked_by, task_of, task_of_part}
-use Rattle.run_model.specs.Transcript.{Entry, Legal, AreOpening, Turn}
-use Rattle.run_model.proofs.NodeLists.{some_is}
-use Rattle.run_model.proofs.PartLemmas.{EachPhase, done_here, here_allowed, phases_fold}
-use Rattle.run_model.proofs.PartTasks.{each_up}
-use Rattle.run_model.proofs.Refusing.{same_last}
-use Rattle.world_laws.proofs.WorldLemmas.{each_opening}
+use Rattle.run_said.specs.run_model.World.{World, Node, Act, DiskCounts, Settlement, find_node, opened}
+use Rattle.run_said.specs.run_model.Answers.{Task, Serves, Ticks, Takes, Hears, LosesLink, RunsDown, Restarts, refused_before_reading, settled_line, task_service}
+use Rattle.run_said.specs.run_model.Steps.{Choice, TaskAllowed, ready_node, task_effect}
+use Rattle.run_said.specs.run_model.Statements.{Part, Does, Asks, PartEffect, Question, Heard, Unanswered, Doubtful, Begins, Phase, Phases, Step, Allowed, RoseAt, begun_with, message_at, named_node, part_effect, phases_of, question, refused_at_once, stops_at, where_up}
+use Rattle.run_said.specs.run_model.StepLaws.{TaskAt, asked_by, task_of, task_of_part}
+use Rattle.run_said.specs.run_model.Transcript.{Entry, Legal, AreOpening, Turn}
+use Rattle.run_said.proofs.run_model.NodeLists.{some_is}
+use Rattle.run_said.proofs.run_model.PartLemmas.{EachPhase, done_here, here_allowed, phases_fold}
+use Rattle.run_said.proofs.run_model.PartTasks.{each_up}
+use Rattle.run_said.proofs.run_model.Refusing.{same_last}
+use Rattle.recovery_laws.proofs.world_laws.WorldLemmas.{each_opening}
 use Rattle.run_laws.specs.Causes.{AbortCause}
 use Rattle.run_laws.specs.Laws.{CausedHold}
 use Rattle.run_laws.specs.Promises.{ShownThere, WasAborting, WasLast, abort, last_in, settlements_of}

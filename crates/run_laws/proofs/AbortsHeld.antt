@@ -6,9 +6,9 @@ use Rattle.std.proofs.lemmas.Bool.{both_ways}
 use Rattle.vms_model.specs.Ids.{Id}
 use Rattle.vms_model.specs.Transactions.{Reason}
 use Rattle.vms_model.specs.Limits.{message_limit}
-use Rattle.transcript_model.specs.Lines as line
-use Rattle.transcript_model.specs.Lines.{Line}
-use Rattle.script_model.specs.Statements.{Statement, At, Deliver, LinkDown, Settle, Clock}
+use Rattle.run_said.specs.transcript_model.Lines as line
+use Rattle.run_said.specs.transcript_model.Lines.{Line}
+use Rattle.run_said.specs.script_model.Statements.{Statement, At, Deliver, LinkDown, Settle, Clock}
 use Rattle.commit_protocol.specs.Messages as message
 use Rattle.commit_protocol.specs.Messages.{LogRecord, Message}
 use Rattle.commit_protocol.specs.Table as table
@@ -16,17 +16,17 @@ use Rattle.commit_protocol.specs.Table.{Branch, Key as BranchKey, coordinator_of
 use Rattle.commit_protocol.specs.World.{In}
 use Rattle.commit_protocol.specs.Opening.{Opening}
 use Rattle.commit_protocol.proofs.Lists.{in_left, slice_in}
-use Rattle.log_laws.specs.Slots.{prepared_of, records_in}
-use Rattle.run_model.specs.World as world
-use Rattle.run_model.specs.World.{World, Shared, Node, Act, DiskCounts, find_node, posted, shared_after, shared_tabled, with_node}
-use Rattle.run_model.specs.Answers.{Row, Task, Serves, Ticks, Takes, Hears, LosesLink, RunsDown, Restarts, refused_before_reading, task_service}
-use Rattle.run_model.specs.Steps.{Choice, Cut, Unpowered, Whole, WithoutMemory, begun, ready_node, rows_to_cut, shared_after_rows, shared_then, TaskEffect, task_effect, whole}
-use Rattle.run_model.specs.Statements.{Part, Does, Asks, PartEffect, Question, Heard, Unanswered, Doubtful, Onward, Parts, Phase, Phases, Step, Allowed, RoseAt, Begins, all_questions, answer_of, asked, asking, begun_with, message_at, named_node, part_effect, phases_of, put_into, question, question_effect, refused_at_once, restarts_of, run_downs_of, stops_at}
-use Rattle.run_model.specs.StepLaws.{TaskAt, asked_by, task_of, task_of_part}
-use Rattle.run_model.proofs.NodeLists.{found_name, some_is}
-use Rattle.run_model.proofs.PartLemmas.{EachPhase, done_here, here_allowed, phases_fold}
-use Rattle.run_model.proofs.PartTasks.{View, Doing, Fixed, each_up, view}
-use Rattle.run_model.proofs.TaskLemmas.{effect_name}
+use Rattle.run_said.specs.log_laws.Slots.{prepared_of, records_in}
+use Rattle.run_said.specs.run_model.World as world
+use Rattle.run_said.specs.run_model.World.{World, Shared, Node, Act, DiskCounts, find_node, posted, shared_after, shared_tabled, with_node}
+use Rattle.run_said.specs.run_model.Answers.{Row, Task, Serves, Ticks, Takes, Hears, LosesLink, RunsDown, Restarts, refused_before_reading, task_service}
+use Rattle.run_said.specs.run_model.Steps.{Choice, Cut, Unpowered, Whole, WithoutMemory, begun, ready_node, rows_to_cut, shared_after_rows, shared_then, TaskEffect, task_effect, whole}
+use Rattle.run_said.specs.run_model.Statements.{Part, Does, Asks, PartEffect, Question, Heard, Unanswered, Doubtful, Onward, Parts, Phase, Phases, Step, Allowed, RoseAt, Begins, all_questions, answer_of, asked, asking, begun_with, message_at, named_node, part_effect, phases_of, put_into, question, question_effect, refused_at_once, restarts_of, run_downs_of, stops_at}
+use Rattle.run_said.specs.run_model.StepLaws.{TaskAt, asked_by, task_of, task_of_part}
+use Rattle.run_said.proofs.run_model.NodeLists.{found_name, some_is}
+use Rattle.run_said.proofs.run_model.PartLemmas.{EachPhase, done_here, here_allowed, phases_fold}
+use Rattle.run_said.proofs.run_model.PartTasks.{View, Doing, Fixed, each_up, view}
+use Rattle.run_said.proofs.run_model.TaskLemmas.{effect_name}
 use Rattle.run_agreement.proofs.Parts.{AllUp}
 use Rattle.run_agreement.proofs.Runs.{AreDowns, AreRestarts, Asking, Booting, Downing, all_ask, are_downs, are_restarts, asking_carries, booted_all, booting_carries, downing_carries, to_boot}
 use Rattle.run_laws.proofs.Dying.{HasNone, answers_none}
@@ -326,8 +326,8 @@ module _ (k : BranchKey) (reason : Reason) (r : Option LogRecord) (moment : ℕ)
                       let name : coordinator_of k ≡ node = sym (found_name (coordinator_of k) w.nodes told.old own.1) ∙ found_name node w.nodes told.old told.found in
                       inr (
                         name,
-                        subst (λ (v : Rattle.run_model.specs.World.Volatile). HasNone (record n { volatile = v }) k.tid) (ap (λ (x : Node). x.volatile) old ∙ sym eq.1) (record { records = none_k.records; branch = none_k.branch }),
-                        λ d i. subst (λ (v : Rattle.run_model.specs.World.Volatile). In d (prepared_records v.branches) ⊎ In d v.records) (sym eq.1) (up.table.log.from d (subst (λ (x : Rattle.run_model.specs.World.Durable). In d (records_in x.log)) eq.0 i)),
+                        subst (λ (v : Rattle.run_said.specs.run_model.World.Volatile). HasNone (record n { volatile = v }) k.tid) (ap (λ (x : Node). x.volatile) old ∙ sym eq.1) (record { records = none_k.records; branch = none_k.branch }),
+                        λ d i. subst (λ (v : Rattle.run_said.specs.run_model.World.Volatile). In d (prepared_records v.branches) ⊎ In d v.records) (sym eq.1) (up.table.log.from d (subst (λ (x : Rattle.run_said.specs.run_model.World.Durable). In d (records_in x.log)) eq.0 i)),
                       )
                       )
                 ];

@@ -3,18 +3,18 @@ use Rattle.std.proofs.Common.{◌≡◌, ℕ, ◌⊎◌, List, [], ◌∷◌, in
 use Rattle.std.proofs.lemmas.Bool.{both_ways}
 use Rattle.vms_model.specs.Ids.{Id}
 use Rattle.vms_model.specs.Transactions.{Outcome, Commit, Abort, Reason}
-use Rattle.transcript_model.specs.Lines as line
-use Rattle.transcript_model.specs.Lines.{Line, Cause}
-use Rattle.script_model.specs.Statements.{Settle}
+use Rattle.run_said.specs.transcript_model.Lines as line
+use Rattle.run_said.specs.transcript_model.Lines.{Line, Cause}
+use Rattle.run_said.specs.script_model.Statements.{Settle}
 use Rattle.commit_protocol.specs.World.{In}
-use Rattle.run_model.specs.World.{World, Node, DiskCounts, Settlement, find_node, powered}
-use Rattle.run_model.specs.Answers.{Task, last_line}
-use Rattle.run_model.specs.Steps.{Choice, TaskAllowed, task_effect}
-use Rattle.run_model.specs.Statements.{Part, PartEffect, Step, Allowed, RoseAt, begun_with, part_effect, phases_of, stops_at}
-use Rattle.run_model.proofs.NodeLists.{found_name}
-use Rattle.run_model.proofs.PartLemmas.{phases_fold}
-use Rattle.run_model.proofs.PartTasks.{View, Doing, Fixed, view}
-use Rattle.run_model.proofs.TaskLemmas.{effect_name}
+use Rattle.run_said.specs.run_model.World.{World, Node, DiskCounts, Settlement, find_node, powered}
+use Rattle.run_said.specs.run_model.Answers.{Task, last_line}
+use Rattle.run_said.specs.run_model.Steps.{Choice, TaskAllowed, task_effect}
+use Rattle.run_said.specs.run_model.Statements.{Part, PartEffect, Step, Allowed, RoseAt, begun_with, part_effect, phases_of, stops_at}
+use Rattle.run_said.proofs.run_model.NodeLists.{found_name}
+use Rattle.run_said.proofs.run_model.PartLemmas.{phases_fold}
+use Rattle.run_said.proofs.run_model.PartTasks.{View, Doing, Fixed, view}
+use Rattle.run_said.proofs.run_model.TaskLemmas.{effect_name}
 use Rattle.run_laws.specs.Promises.{abort}
 use Rattle.run_laws.proofs.LastSettled.{AllLast, IsLastOf, begins_last, lines_of_last, only_line, part_lasts, powered_last}
 use Rattle.run_laws.proofs.OwnLines.{line_in, task_owns}

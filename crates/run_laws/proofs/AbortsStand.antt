@@ -4,9 +4,9 @@ use Rattle.std.proofs.lemmas.Bool.{both_ways, cases_Bool}
 use Rattle.std.proofs.lemmas.List.{append_assoc}
 use Rattle.vms_model.specs.Ids.{Id}
 use Rattle.vms_model.specs.Transactions.{Reason}
-use Rattle.transcript_model.specs.Lines.{Line}
-use Rattle.script_model.specs.Statements.{Reading, Blank, Says, Bad}
-use Rattle.script_model.specs.Grammar.{reading}
+use Rattle.run_said.specs.transcript_model.Lines.{Line}
+use Rattle.run_said.specs.script_model.Statements.{Reading, Blank, Says, Bad}
+use Rattle.run_said.specs.script_model.Grammar.{reading}
 use Rattle.commit_protocol.specs.Messages.{LogRecord, Name, same_id}
 use Rattle.commit_protocol.specs.Table.{Key as BranchKey}
 use Rattle.commit_protocol.specs.World as protocol
@@ -14,9 +14,9 @@ use Rattle.commit_protocol.specs.World.{In}
 use Rattle.commit_protocol.specs.Agreement.{IsDead, view}
 use Rattle.commit_protocol.proofs.Acting.{Good}
 use Rattle.commit_protocol.proofs.Lists.{same_id-refl, same_id-true}
-use Rattle.log_laws.specs.Slots.{prepared_of, records_in}
-use Rattle.run_model.specs.World.{World, Node, Act, DiskCounts, find_node, opened}
-use Rattle.run_model.specs.Transcript.{Entry, Legal, AreOpening, Turn}
+use Rattle.run_said.specs.log_laws.Slots.{prepared_of, records_in}
+use Rattle.run_said.specs.run_model.World.{World, Node, Act, DiskCounts, find_node, opened}
+use Rattle.run_said.specs.run_model.Transcript.{Entry, Legal, AreOpening, Turn}
 use Rattle.run_agreement.specs.Seen.{IsKnown, Resolution, has_volume}
 use Rattle.commit_protocol.specs.Opening.{IsAgreeing, Opening, in_rack}
 use Rattle.run_agreement.specs.Following.{Shows, opening_of}
@@ -24,7 +24,7 @@ use Rattle.run_agreement.specs.Laws.{IsRun, NamesApart, RunsFrom, image_told, op
 use Rattle.run_agreement.proofs.Begun.{runs_begin}
 use Rattle.run_agreement.proofs.Openings.{reached_by}
 use Rattle.run_agreement.proofs.Told.{quiet_images, runs_tell_no_more, unused_are_told, used_tell_no_more}
-use Rattle.world_laws.proofs.WorldLemmas.{each_opening}
+use Rattle.recovery_laws.proofs.world_laws.WorldLemmas.{each_opening}
 use Rattle.run_laws.specs.Promises.{IsNeverCommitted}
 use Rattle.run_said.specs.Said.{Said}
 use Rattle.run_laws.proofs.TurnsTell.{legal_told}

@@ -8,18 +8,18 @@ use Rattle.std.proofs.lemmas.Bool.{false_from_ne_true}
 use Rattle.std.proofs.lemmas.Slice.Eq.{bytes_eq-Decides}
 use Rattle.vms_model.specs.Ids.{Id}
 use Rattle.vms_model.specs.Transactions.{Outcome, Commit, Abort, Reason}
-use Rattle.transcript_model.specs.Lines as line
-use Rattle.transcript_model.specs.Lines.{Line}
-use Rattle.records_model.specs.Records.{Records, Change, applied, set_key}
-use Rattle.records_model.specs.History.{History, LiveChanges, changes_by, same_id, settled_at, settled_with}
+use Rattle.run_said.specs.transcript_model.Lines as line
+use Rattle.run_said.specs.transcript_model.Lines.{Line}
+use Rattle.unit_laws.specs.records_model.Records.{Records, Change, applied, set_key}
+use Rattle.unit_laws.specs.records_model.History.{History, LiveChanges, changes_by, same_id, settled_at, settled_with}
 use Rattle.unit_laws.specs.Units.{SerialsDiffer}
-use Rattle.run_model.specs.World.{File, Node, Settlement, find_file, free_place, settled_file, with_file}
-use Rattle.run_model.specs.Answers.{last_line, last_lines}
+use Rattle.run_said.specs.run_model.World.{File, Node, Settlement, find_file, free_place, settled_file, with_file}
+use Rattle.run_said.specs.run_model.Answers.{last_line, last_lines}
 use Rattle.run_laws.specs.Accounts.{Account, MayHave, Told, commits_here, left_by, left_sets, told_by, with_sets}
-use Rattle.world_laws.specs.Running.{history_in, history_of}
-use Rattle.world_laws.proofs.IdLemmas.{id_is, id_itself}
-use Rattle.world_laws.proofs.FindLemmas.{mapped_file, placed_file}
-use Rattle.world_laws.proofs.HeldLemmas.{file_after}
+use Rattle.recovery_laws.specs.world_laws.Running.{history_in, history_of}
+use Rattle.recovery_laws.proofs.world_laws.IdLemmas.{id_is, id_itself}
+use Rattle.recovery_laws.proofs.world_laws.FindLemmas.{mapped_file, placed_file}
+use Rattle.recovery_laws.proofs.world_laws.HeldLemmas.{file_after}
 use Rattle.run_laws.proofs.EachRow.{ArePlain}
 
 -- nothing is told that sets a key

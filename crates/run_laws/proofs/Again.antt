@@ -3,23 +3,23 @@ use Rattle.std.proofs.Common.{◌≡◌, ℕ, zero, suc, List, [], ◌∷◌, �
 use Rattle.std.specs.List.{list_any}
 use Rattle.std.proofs.lemmas.Bool.{both_ways, cases_Bool}
 use Rattle.vms_model.specs.Ids.{Id}
-use Rattle.transcript_model.specs.Lines as line
-use Rattle.transcript_model.specs.Lines.{Line, Cause}
-use Rattle.script_model.specs.Statements.{At, Boot}
+use Rattle.run_said.specs.transcript_model.Lines as line
+use Rattle.run_said.specs.transcript_model.Lines.{Line, Cause}
+use Rattle.run_said.specs.script_model.Statements.{At, Boot}
 use Rattle.commit_protocol.specs.Table.{Prepares}
 use Rattle.commit_protocol.specs.World.{In}
 use Rattle.commit_protocol.proofs.Lists.{in_left}
-use Rattle.run_model.specs.World.{World, Shared, Node, Act, DiskCounts, Outturn, MayTurnOut, Settlement, Tables, fallen, find_node, powered}
-use Rattle.run_model.specs.Answers.{Serves, boot_rows, last_lines, refused_before_reading, service, task_service}
-use Rattle.run_model.specs.Steps.{Choice, Whole, WithoutMemory, Unpowered, Cut, TaskAllowed, act_begun, begun, lines_of_rows, node_after_rows, rows_if, task_effect, whole}
-use Rattle.run_model.specs.Statements.{Part, Step, Allowed, RoseAt, part_effect, stops_at}
-use Rattle.run_model.specs.StepLaws.{is_refusal}
-use Rattle.run_model.specs.Transcript.{Legal, Entry}
-use Rattle.run_model.proofs.CauseLemmas.{refuses_first, refuses_then}
-use Rattle.run_model.proofs.NodeLists.{put_node, some_is}
-use Rattle.run_model.proofs.TaskLemmas.{effect_name}
-use Rattle.world_laws.specs.Nodes.{IsKeptNode}
-use Rattle.world_laws.proofs.NodeLemmas.{powered_ready}
+use Rattle.run_said.specs.run_model.World.{World, Shared, Node, Act, DiskCounts, Outturn, MayTurnOut, Settlement, Tables, fallen, find_node, powered}
+use Rattle.run_said.specs.run_model.Answers.{Serves, boot_rows, last_lines, refused_before_reading, service, task_service}
+use Rattle.run_said.specs.run_model.Steps.{Choice, Whole, WithoutMemory, Unpowered, Cut, TaskAllowed, act_begun, begun, lines_of_rows, node_after_rows, rows_if, task_effect, whole}
+use Rattle.run_said.specs.run_model.Statements.{Part, Step, Allowed, RoseAt, part_effect, stops_at}
+use Rattle.run_said.specs.run_model.StepLaws.{is_refusal}
+use Rattle.run_said.specs.run_model.Transcript.{Legal, Entry}
+use Rattle.run_said.proofs.run_model.CauseLemmas.{refuses_first, refuses_then}
+use Rattle.run_said.proofs.run_model.NodeLists.{put_node, some_is}
+use Rattle.run_said.proofs.run_model.TaskLemmas.{effect_name}
+use Rattle.recovery_laws.specs.world_laws.Nodes.{IsKeptNode}
+use Rattle.recovery_laws.proofs.world_laws.NodeLemmas.{powered_ready}
 use Rattle.run_laws.specs.Promises.{commitment, is_of_boot}
 use Rattle.run_laws.proofs.Deciding.{any_in}
 use Rattle.run_laws.proofs.Keeping.{Kept, Keeps, Scheme, all_take, boot_cut, boot_under, fell, powered_kept}

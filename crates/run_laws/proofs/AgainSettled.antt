@@ -5,22 +5,22 @@ use Rattle.std.specs.Str.{bytes_eq}
 use Rattle.std.proofs.lemmas.Bool.{both_ways, cases_Bool, false_from_ne_true}
 use Rattle.std.proofs.lemmas.Slice.Eq.{bytes_eq-Decides}
 use Rattle.vms_model.specs.Ids.{Id}
-use Rattle.transcript_model.specs.Lines as line
-use Rattle.transcript_model.specs.Lines.{Line, Cause}
-use Rattle.script_model.specs.Statements.{Settle}
+use Rattle.run_said.specs.transcript_model.Lines as line
+use Rattle.run_said.specs.transcript_model.Lines.{Line, Cause}
+use Rattle.run_said.specs.script_model.Statements.{Settle}
 use Rattle.commit_protocol.specs.World.{In}
 use Rattle.commit_protocol.proofs.Lists.{in_left, in_right}
-use Rattle.run_model.specs.World.{World, Shared, Node, DiskCounts, Settlement, find_node, powered}
-use Rattle.run_model.specs.Answers.{Task, Hears, LosesLink, Restarts, RunsDown, Serves, Takes, Ticks, refused_before_reading, task_service}
-use Rattle.run_model.specs.Steps.{Choice, Whole, WithoutMemory, Unpowered, Cut, TaskAllowed, TaskEffect, begun, task_effect, whole}
-use Rattle.run_model.specs.Statements.{Part, PartEffect, Step, Allowed, RoseAt, begun_with, part_effect, phases_of, put_into, stops_at}
-use Rattle.run_model.specs.StepLaws.{is_refusal}
-use Rattle.run_model.proofs.CauseLemmas.{refuses_first, refuses_then}
-use Rattle.run_model.proofs.NodeLists.{found_name, put_node}
-use Rattle.run_model.proofs.PartLemmas.{phases_fold}
-use Rattle.run_model.proofs.PartTasks.{View, Doing, Fixed, view}
-use Rattle.run_model.proofs.TaskLemmas as tasks
-use Rattle.run_model.proofs.TaskLemmas.{First, Failing, Lacking, Late, Success, effect_name, outcome}
+use Rattle.run_said.specs.run_model.World.{World, Shared, Node, DiskCounts, Settlement, find_node, powered}
+use Rattle.run_said.specs.run_model.Answers.{Task, Hears, LosesLink, Restarts, RunsDown, Serves, Takes, Ticks, refused_before_reading, task_service}
+use Rattle.run_said.specs.run_model.Steps.{Choice, Whole, WithoutMemory, Unpowered, Cut, TaskAllowed, TaskEffect, begun, task_effect, whole}
+use Rattle.run_said.specs.run_model.Statements.{Part, PartEffect, Step, Allowed, RoseAt, begun_with, part_effect, phases_of, put_into, stops_at}
+use Rattle.run_said.specs.run_model.StepLaws.{is_refusal}
+use Rattle.run_said.proofs.run_model.CauseLemmas.{refuses_first, refuses_then}
+use Rattle.run_said.proofs.run_model.NodeLists.{found_name, put_node}
+use Rattle.run_said.proofs.run_model.PartLemmas.{phases_fold}
+use Rattle.run_said.proofs.run_model.PartTasks.{View, Doing, Fixed, view}
+use Rattle.run_said.proofs.run_model.TaskLemmas as tasks
+use Rattle.run_said.proofs.run_model.TaskLemmas.{First, Failing, Lacking, Late, Success, effect_name, outcome}
 use Rattle.run_laws.specs.Promises.{is_of_boot, settlement_in}
 use Rattle.run_laws.proofs.Again.{IsGoneSo, IsIn, cut_gone, gone_kept, gone_so_disks, gone_so_part, gone_up, refusal_apart}
 use Rattle.run_laws.proofs.Deciding.{BootedAt, any_in, part_booted}

@@ -3,23 +3,23 @@ use Rattle.std.proofs.Common.{◌≡◌, ◌⊎◌, ℕ, List, [], ◌∷◌, �
 use Rattle.std.specs.List.{last_or}
 use Rattle.vms_model.specs.Ids.{Id}
 use Rattle.vms_model.specs.Transactions.{Abort, Commit, Reason}
-use Rattle.transcript_model.specs.Lines.{Line, Normal}
-use Rattle.script_model.specs.Statements.{At, Bad, Blank, Deliver, LinkDown, Reading, Says, Settle, Statement}
-use Rattle.script_model.specs.Grammar.{reading}
+use Rattle.run_said.specs.transcript_model.Lines.{Line, Normal}
+use Rattle.run_said.specs.script_model.Statements.{At, Bad, Blank, Deliver, LinkDown, Reading, Says, Settle, Statement}
+use Rattle.run_said.specs.script_model.Grammar.{reading}
 use Rattle.commit_protocol.specs.Opening.{IsAgreeing, Opening, accepted_in, commits_in, settled_in}
 use Rattle.commit_protocol.specs.Table.{Key, child, first}
 use Rattle.commit_protocol.specs.World.{In}
-use Rattle.run_model.specs.World.{World, Node, DiskCounts, Act, Settlement, find_node, opened}
-use Rattle.run_model.specs.Steps.{Choice, task_effect}
-use Rattle.run_model.specs.Statements.{Begins, Part, PartEffect, Phases, Step, begun_with, part_effect, phases_of, refused_at_once, stops_at}
-use Rattle.run_model.specs.Transcript.{Entry, Legal, AreOpening, Turn}
+use Rattle.run_said.specs.run_model.World.{World, Node, DiskCounts, Act, Settlement, find_node, opened}
+use Rattle.run_said.specs.run_model.Steps.{Choice, task_effect}
+use Rattle.run_said.specs.run_model.Statements.{Begins, Part, PartEffect, Phases, Step, begun_with, part_effect, phases_of, refused_at_once, stops_at}
+use Rattle.run_said.specs.run_model.Transcript.{Entry, Legal, AreOpening, Turn}
 use Rattle.run_agreement.specs.Seen.{IsKnown, Resolution, landed, outcome_of}
 use Rattle.run_agreement.specs.Following.{opening_of}
 use Rattle.run_agreement.specs.Laws.{CommittedAreOfCommitted, HasOutcome, IsAtRest, IsCommitted, IsRun, IsSettled, LeaveAgreement, MakesNoVolume, NamesApart, RestingAreWhole, SettleAlike, SettlingEnds, SettlingLeavesNone, image_here, opening_told}
-use Rattle.run_model.proofs.NodeLists.{found_name}
-use Rattle.run_model.proofs.PartLemmas.{phases_fold}
-use Rattle.run_model.proofs.PartTasks.{View, Doing, Fixed, view}
-use Rattle.run_model.proofs.TaskLemmas.{effect_name}
+use Rattle.run_said.proofs.run_model.NodeLists.{found_name}
+use Rattle.run_said.proofs.run_model.PartLemmas.{phases_fold}
+use Rattle.run_said.proofs.run_model.PartTasks.{View, Doing, Fixed, view}
+use Rattle.run_said.proofs.run_model.TaskLemmas.{effect_name}
 use Rattle.run_agreement.proofs.Bases.{used_part}
 use Rattle.run_agreement.proofs.Begun.{AnyPart, any_phases, apart_put, runs_begin}
 use Rattle.run_agreement.proofs.Told.{quiet_images, runs_tell_no_more, unused_are_told}
@@ -60,7 +60,7 @@ landed_settled : (taken : Bool) (n : Node) (s : Settlement) → In s n.settled �
 landed_settled false n s i = i
 landed_settled true n s i = go n.under_way
   where
-    go : (o : Option Act) → In s (elim o as (λ x. Node) [ Some act ↦ Rattle.run_model.specs.World.acted act n | None ↦ n ]).settled
+    go : (o : Option Act) → In s (elim o as (λ x. Node) [ Some act ↦ Rattle.run_said.specs.run_model.World.acted act n | None ↦ n ]).settled
     go (Some act) = after_grows (Some act) n s i
     go None = i
 

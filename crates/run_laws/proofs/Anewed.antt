@@ -5,24 +5,24 @@ use Rattle.std.specs.FinMap.{empty}
 use Rattle.std.proofs.Common.{◌≡◌, ◌⊎◌, inl, inr, ℕ, Bool, true, false, List, [], ◌∷◌, ◌++◌, Option, Some, None, if◌then◌else◌, map, refl, ap, sym, subst, ◌∙◌, append_assoc, arith}
 use Rattle.std.specs.Prelude.{◌&&◌, is_some}
 use Rattle.std.proofs.lemmas.Bool.{both_ways}
-use Rattle.transcript_model.specs.Lines as line
-use Rattle.transcript_model.specs.Lines.{Line, Normal}
-use Rattle.script_model.specs.Statements.{At, Boot, Direct, Dump, Init, Operation, Reading, Records, Recover, Says, Settle}
-use Rattle.script_model.specs.Grammar.{reading}
+use Rattle.run_said.specs.transcript_model.Lines as line
+use Rattle.run_said.specs.transcript_model.Lines.{Line, Normal}
+use Rattle.run_said.specs.script_model.Statements.{At, Boot, Direct, Dump, Init, Operation, Reading, Records, Recover, Says, Settle}
+use Rattle.run_said.specs.script_model.Grammar.{reading}
 use Rattle.commit_protocol.specs.Messages.{Name}
 use Rattle.commit_protocol.specs.Opening.{Image, no_image}
 use Rattle.commit_protocol.specs.World.{In}
-use Rattle.records_model.specs.History.{records}
+use Rattle.unit_laws.specs.records_model.History.{records}
 use Rattle.unit_laws.specs.Journal.{empty_journal}
-use Rattle.run_model.specs.World.{Act, DiskCounts, Durable, Faulty, File, IsOpening, Node, Settlement, Shared, World, find_file, find_node, nothing_volatile, opened, powered}
-use Rattle.run_model.specs.Answers as answers
-use Rattle.run_model.specs.Answers.{Serves, refused_before_reading}
-use Rattle.run_model.specs.Steps as steps
-use Rattle.run_model.specs.Steps.{Choice, Cut, Unpowered, Whole, WithoutMemory, task_effect}
-use Rattle.run_model.specs.Statements.{Begins, PartEffect, Phases, Step, done_at, phases_of, refused_at_once, stops_at}
-use Rattle.run_model.specs.Transcript.{AreOpening, Entry, Legal, Turn}
-use Rattle.run_model.proofs.NodeLists.{found_name, some_is}
-use Rattle.run_model.proofs.PartLemmas.{done_here, ended}
+use Rattle.run_said.specs.run_model.World.{Act, DiskCounts, Durable, Faulty, File, IsOpening, Node, Settlement, Shared, World, find_file, find_node, nothing_volatile, opened, powered}
+use Rattle.run_said.specs.run_model.Answers as answers
+use Rattle.run_said.specs.run_model.Answers.{Serves, refused_before_reading}
+use Rattle.run_said.specs.run_model.Steps as steps
+use Rattle.run_said.specs.run_model.Steps.{Choice, Cut, Unpowered, Whole, WithoutMemory, task_effect}
+use Rattle.run_said.specs.run_model.Statements.{Begins, PartEffect, Phases, Step, done_at, phases_of, refused_at_once, stops_at}
+use Rattle.run_said.specs.run_model.Transcript.{AreOpening, Entry, Legal, Turn}
+use Rattle.run_said.proofs.run_model.NodeLists.{found_name, some_is}
+use Rattle.run_said.proofs.run_model.PartLemmas.{done_here, ended}
 use Rattle.run_agreement.specs.Laws.{MakesNoVolume, NamesApart, RunsFrom, image_here, image_told, images_told, opening_told, volume_image, with_image}
 use Rattle.run_agreement.specs.Seen.{IsKnown}
 use Rattle.run_agreement.proofs.Found.{bytes_itself}
@@ -96,7 +96,7 @@ init_lines w v node slots journal lines step answered = step.shows ∙ (λ i. qu
     at_node c (Some n) found e =
         let is = done_here w node (Serves (Init slots journal)) n c found in
         ap (λ (f : PartEffect). f.lines) is ∙ init_quiet w.shared (stops_at node w) n slots journal c (sym (ap (λ (f : PartEffect). f.answer) is) ∙ e)
-    at_node c None none e = let is : done_at w node (Serves (Init slots journal)) c ≡ Rattle.run_model.specs.Statements.no_node w = rw (none, done_at) refl in ap (λ (f : PartEffect). f.lines) is
+    at_node c None none e = let is : done_at w node (Serves (Init slots journal)) c ≡ Rattle.run_said.specs.run_model.Statements.no_node w = rw (none, done_at) refl in ap (λ (f : PartEffect). f.lines) is
 
     quiet : (o : Option Line) → Begins o (Phases (phases_of (At node (Init slots journal))) v.disks w Normal) w step.events step.answer step.world → step.events ≡ []
     quiet (Some refusal) k = k.0
@@ -114,7 +114,7 @@ module _ (node file : Name) (w : World) (ms : List Node) (same : find_node node 
   file_same = ap (λ (o : Option Node). elim o as (λ y. Option File) [ Some n ↦ find_file file n.durable.directory | None ↦ None ]) same
 
   id_same : broken_id node x ≡ broken_id node w
-  id_same = ap (λ (o : Option Node). Rattle.std.specs.Prelude.option_map Rattle.run_model.specs.World.next_id o) same
+  id_same = ap (λ (o : Option Node). Rattle.std.specs.Prelude.option_map Rattle.run_said.specs.run_model.World.next_id o) same
 
   direct_same : (op : Operation) (lines : List Line) (before : List Rattle.run_laws.specs.Accounts.Told) → direct_told node file x op lines before ≡ direct_told node file w op lines before
   direct_same op (line.Committed tid serial moment ∷ answer ∷ []) before = ap (λ (f : Option File). one_told (Some serial) f (sets_of op answer) before) file_same
@@ -132,9 +132,9 @@ module _ (node file : Name) (w : World) (ms : List Node) (same : find_node node 
 
   recovered_same : (r : Reading) (lines : List Line) (b : Account) → recovered_here node file x r lines b ≡ recovered_here node file w r lines b
   recovered_same (Says (At n (Recover f way))) (line.NormalCount count ∷ []) b = ap (λ (o : Option File). if bytes_eq n node && bytes_eq f file then
-      record b { records = elim o as (λ y. Rattle.records_model.specs.Records.Records) [ Some g ↦ Rattle.run_model.specs.Answers.records_recovered way g | None ↦ empty ] } else b) file_same
+      record b { records = elim o as (λ y. Rattle.unit_laws.specs.records_model.Records.Records) [ Some g ↦ Rattle.run_said.specs.run_model.Answers.records_recovered way g | None ↦ empty ] } else b) file_same
   recovered_same (Says (At n (Recover f way))) (line.Down m cause ∷ answer ∷ []) b = ap (λ (o : Option File). if bytes_eq n node && bytes_eq f file then
-      record b { given = Some (elim o as (λ y. Rattle.records_model.specs.Records.Records) [ Some g ↦ Rattle.run_model.specs.Answers.records_recovered way g | None ↦ empty ]) } else b) file_same
+      record b { given = Some (elim o as (λ y. Rattle.unit_laws.specs.records_model.Records.Records) [ Some g ↦ Rattle.run_said.specs.run_model.Answers.records_recovered way g | None ↦ empty ]) } else b) file_same
   recovered_same (Says (At n (Recover f way))) _ b = refl
   recovered_same _ lines b = refl
 
@@ -145,7 +145,7 @@ module _ (node file : Name) (w : World) (ms : List Node) (same : find_node node 
   up_same = ap (λ (o : Option Node). elim o as (λ y. Bool) [ Some n ↦ n.up | None ↦ false ]) same
 
   committed_same : committed_in node file x ≡ committed_in node file w
-  committed_same = ap (λ (o : Option File). elim o as (λ y. Rattle.records_model.specs.Records.Records) [ Some f ↦ records f.history | None ↦ empty ]) file_same
+  committed_same = ap (λ (o : Option File). elim o as (λ y. Rattle.unit_laws.specs.records_model.Records.Records) [ Some f ↦ records f.history | None ↦ empty ]) file_same
 
   known_same : (b : Account) → known_again node file x b ≡ known_again node file w b
   known_same b = (λ i. if is_some b.given && up_same i then record b { records = committed_same i; given = None } else b)
@@ -196,7 +196,7 @@ module _ (es : List Entry) (ns ms : List Node) (disks : List DiskCounts) (openin
     where
       it : (m : Node) → AreLike (M es no_other) n m → m ≡ n
       it m (inl same) = same
-      it m (inr other) = let no : ◌≡◌ {A = Option Act} None (Some (Rattle.run_model.specs.World.Tables (Rattle.commit_protocol.specs.Table.Settles k Rattle.vms_model.specs.Transactions.Abort reason r) moment)) = sym other.quiet ∙ under in let never : ⊥ = cc in absurd never
+      it m (inr other) = let no : ◌≡◌ {A = Option Act} None (Some (Rattle.run_said.specs.run_model.World.Tables (Rattle.commit_protocol.specs.Table.Settles k Rattle.vms_model.specs.Transactions.Abort reason r) moment)) = sym other.quiet ∙ under in let never : ⊥ = cc in absurd never
 
   -- Dumps.
   module _ (node file : Name) where
@@ -220,7 +220,7 @@ module _ (es : List Entry) (ns ms : List Node) (disks : List DiskCounts) (openin
       tells = (ap (λ (y : World). record y { nodes = ms }) tells.0, refl);
       like = subst (λ (y : World). Like es Same [] y.nodes ms) (sym tells.0) (record { all = opening_like es Same ns ms opening opens forgotten; again = λ name s. elim s [ inl t ↦ t | inr m ↦ absurd (no_split m.1 m.2 m.0 m.3) ] });
       same = λ s. elim s [
-        | inl t ↦ ap (λ (o : Option File). record { records = elim o as (λ y. Rattle.records_model.specs.Records.Records) [ Some f ↦ records f.history | None ↦ empty ]; told = elim o as (λ y. List Rattle.run_laws.specs.Accounts.Told) [ Some f ↦ map left_sets f.history.live | None ↦ [] ]; left = []; given = None }) (file_same node file (opened ns disks) ms t) ∙ sym tells.1
+        | inl t ↦ ap (λ (o : Option File). record { records = elim o as (λ y. Rattle.unit_laws.specs.records_model.Records.Records) [ Some f ↦ records f.history | None ↦ empty ]; told = elim o as (λ y. List Rattle.run_laws.specs.Accounts.Told) [ Some f ↦ map left_sets f.history.live | None ↦ [] ]; left = []; given = None }) (file_same node file (opened ns disks) ms t) ∙ sym tells.1
         | inr m ↦ absurd (no_split m.1 m.2 m.0 m.3)
       ];
     }

@@ -1,20 +1,20 @@
 -- The answer of a statement is a refusal, a success, or that a failure ended it.
 use Rattle.std.proofs.Common.{◌≡◌, List, inl, inr, true, false, Bool, Option, Some, None, refl, ◌∙◌, ap}
-use Rattle.transcript_model.specs.Lines as line
-use Rattle.transcript_model.specs.Lines.{Line, Cause}
-use Rattle.script_model.specs.Statements.{Statement}
-use Rattle.run_model.specs.World.{World, Shared, Node, DiskCounts}
-use Rattle.run_model.specs.Answers.{Task}
-use Rattle.run_model.specs.Steps.{Choice, TaskEffect}
-use Rattle.run_model.specs.Statements.{Part, PartEffect, Begins, Phases, Step, Allowed, part_effect, stops_at, RoseAt, phases_of, refused_at_once, begun_with}
-use Rattle.run_model.specs.StepLaws.{is_refusal}
-use Rattle.run_model.proofs.CauseLemmas.{is_success, refuses_first, refuses_then, task_succeeds}
-use Rattle.run_model.proofs.Failing.{once_refuses}
-use Rattle.run_model.proofs.TaskLemmas as task
-use Rattle.run_model.proofs.TaskLemmas.{First, Late, Success, Lacking, Failing, outcome}
-use Rattle.run_model.proofs.PartLemmas.{phases_fold}
-use Rattle.run_model.proofs.PartTasks.{View, Doing, Fixed, view}
-use Rattle.run_model.proofs.Refusing.{each_phase}
+use Rattle.run_said.specs.transcript_model.Lines as line
+use Rattle.run_said.specs.transcript_model.Lines.{Line, Cause}
+use Rattle.run_said.specs.script_model.Statements.{Statement}
+use Rattle.run_said.specs.run_model.World.{World, Shared, Node, DiskCounts}
+use Rattle.run_said.specs.run_model.Answers.{Task}
+use Rattle.run_said.specs.run_model.Steps.{Choice, TaskEffect}
+use Rattle.run_said.specs.run_model.Statements.{Part, PartEffect, Begins, Phases, Step, Allowed, part_effect, stops_at, RoseAt, phases_of, refused_at_once, begun_with}
+use Rattle.run_said.specs.run_model.StepLaws.{is_refusal}
+use Rattle.run_said.proofs.run_model.CauseLemmas.{is_success, refuses_first, refuses_then, task_succeeds}
+use Rattle.run_said.proofs.run_model.Failing.{once_refuses}
+use Rattle.run_said.proofs.run_model.TaskLemmas as task
+use Rattle.run_said.proofs.run_model.TaskLemmas.{First, Late, Success, Lacking, Failing, outcome}
+use Rattle.run_said.proofs.run_model.PartLemmas.{phases_fold}
+use Rattle.run_said.proofs.run_model.PartTasks.{View, Doing, Fixed, view}
+use Rattle.run_said.proofs.run_model.Refusing.{each_phase}
 
 -- so it passes a test that these pass
 module _ (test : Line → Bool) (refusals : (l : Line) → is_refusal l ≡ true → test l ≡ true) (successes : (l : Line) → is_success l ≡ true → test l ≡ true) (broken : (cause : Cause) → test (line.Broken cause) ≡ true) where

@@ -3,21 +3,21 @@ use Rattle.std.proofs.Common.{◌≡◌, ℕ, ◌⊎◌, List, [], ◌∷◌, in
 use Rattle.std.proofs.lemmas.Bool.{both_ways}
 use Rattle.vms_model.specs.Ids.{Id}
 use Rattle.vms_model.specs.Transactions.{Abort}
-use Rattle.transcript_model.specs.Lines as line
-use Rattle.transcript_model.specs.Lines.{Line, Cause}
-use Rattle.script_model.specs.Statements.{At, Deliver, Direct, EndTrans, Settle, Boot, Says, AckEvent}
+use Rattle.run_said.specs.transcript_model.Lines as line
+use Rattle.run_said.specs.transcript_model.Lines.{Line, Cause}
+use Rattle.run_said.specs.script_model.Statements.{At, Deliver, Direct, EndTrans, Settle, Boot, Says, AckEvent}
 use Rattle.commit_protocol.specs.Messages.{Message}
 use Rattle.commit_protocol.specs.World.{In}
 use Rattle.commit_protocol.proofs.Lists.{in_left, in_right}
-use Rattle.run_model.specs.World.{World, Shared, Node, DiskCounts, Settlement, find_node, opened}
-use Rattle.run_model.specs.Answers.{Task, Restarts, last_line, settled_line}
-use Rattle.run_model.specs.Steps.{Choice, task_effect}
-use Rattle.run_model.specs.Statements.{Part, PartEffect, Step, Allowed, RoseAt, begun_with, part_effect, phases_of, stops_at}
-use Rattle.run_model.specs.Transcript.{Entry, Legal, AreOpening, Turn}
-use Rattle.run_model.proofs.NodeLists.{found_name}
-use Rattle.run_model.proofs.PartLemmas.{phases_fold}
-use Rattle.run_model.proofs.PartTasks.{View, Doing, Fixed, view}
-use Rattle.run_model.proofs.TaskLemmas.{effect_name}
+use Rattle.run_said.specs.run_model.World.{World, Shared, Node, DiskCounts, Settlement, find_node, opened}
+use Rattle.run_said.specs.run_model.Answers.{Task, Restarts, last_line, settled_line}
+use Rattle.run_said.specs.run_model.Steps.{Choice, task_effect}
+use Rattle.run_said.specs.run_model.Statements.{Part, PartEffect, Step, Allowed, RoseAt, begun_with, part_effect, phases_of, stops_at}
+use Rattle.run_said.specs.run_model.Transcript.{Entry, Legal, AreOpening, Turn}
+use Rattle.run_said.proofs.run_model.NodeLists.{found_name}
+use Rattle.run_said.proofs.run_model.PartLemmas.{phases_fold}
+use Rattle.run_said.proofs.run_model.PartTasks.{View, Doing, Fixed, view}
+use Rattle.run_said.proofs.run_model.TaskLemmas.{effect_name}
 use Rattle.run_laws.specs.Causes.{CommitCause, DeliversTo, IsDirect}
 use Rattle.run_laws.specs.Laws.{AskedHold}
 use Rattle.run_laws.specs.Promises.{IsShown, WasChanging, WasEnding, WasLast, commitment, last_in, settlements_of}

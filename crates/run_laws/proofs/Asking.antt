@@ -2,23 +2,23 @@
 use Rattle.std.proofs.Common.{◌≡◌, ℕ, zero, suc, ◌⊎◌, List, [], ◌∷◌, ◌++◌, take, inl, inr, true, false, Option, Some, None, refl, sym, ◌∙◌, ap, subst}
 use Rattle.std.specs.Option.{option_map}
 use Rattle.vms_model.specs.Ids.{Id}
-use Rattle.transcript_model.specs.Lines as line
-use Rattle.transcript_model.specs.Lines.{Line, Cause}
-use Rattle.script_model.specs.Statements.{Statement, At, Direct, Operation, Put, Update, Delete, Truncate, Get, Next, Reading, Blank, Says, Bad}
-use Rattle.script_model.specs.Grammar.{reading}
-use Rattle.records_model.specs.Records.{Change}
+use Rattle.run_said.specs.transcript_model.Lines as line
+use Rattle.run_said.specs.transcript_model.Lines.{Line, Cause}
+use Rattle.run_said.specs.script_model.Statements.{Statement, At, Direct, Operation, Put, Update, Delete, Truncate, Get, Next, Reading, Blank, Says, Bad}
+use Rattle.run_said.specs.script_model.Grammar.{reading}
+use Rattle.unit_laws.specs.records_model.Records.{Change}
 use Rattle.commit_protocol.specs.World.{In}
 use Rattle.commit_protocol.proofs.Lists.{in_left, in_right}
-use Rattle.run_model.specs.World.{World, Shared, Node, Act, DiskCounts, File, Settlement, find_file, find_node, next_id, next_moment, opened}
-use Rattle.run_model.specs.Operations.{changes_of, is_change}
-use Rattle.run_model.specs.Answers.{Serves, changes_at, directed, refused_before_reading, service}
-use Rattle.run_model.specs.Steps.{Choice, Cut, Unpowered, Whole, WithoutMemory, begun, lines_of_rows, rows_if, task_effect, whole}
-use Rattle.run_model.specs.Statements.{Step, RoseAt, stops_at}
-use Rattle.run_model.specs.StepLaws.{is_refusal}
-use Rattle.run_model.specs.Transcript.{Entry, Legal, AreOpening, Turn}
-use Rattle.run_model.proofs.NodeLists.{clash}
-use Rattle.run_model.proofs.TaskLemmas.{outcome}
-use Rattle.world_laws.proofs.WorldLemmas.{each_opening}
+use Rattle.run_said.specs.run_model.World.{World, Shared, Node, Act, DiskCounts, File, Settlement, find_file, find_node, next_id, next_moment, opened}
+use Rattle.run_said.specs.run_model.Operations.{changes_of, is_change}
+use Rattle.run_said.specs.run_model.Answers.{Serves, changes_at, directed, refused_before_reading, service}
+use Rattle.run_said.specs.run_model.Steps.{Choice, Cut, Unpowered, Whole, WithoutMemory, begun, lines_of_rows, rows_if, task_effect, whole}
+use Rattle.run_said.specs.run_model.Statements.{Step, RoseAt, stops_at}
+use Rattle.run_said.specs.run_model.StepLaws.{is_refusal}
+use Rattle.run_said.specs.run_model.Transcript.{Entry, Legal, AreOpening, Turn}
+use Rattle.run_said.proofs.run_model.NodeLists.{clash}
+use Rattle.run_said.proofs.run_model.TaskLemmas.{outcome}
+use Rattle.recovery_laws.proofs.world_laws.WorldLemmas.{each_opening}
 use Rattle.run_laws.specs.Accounts.{broken_id}
 use Rattle.run_laws.specs.Causes.{CommitCause, IsDirect}
 use Rattle.run_laws.specs.Promises.{WasChanging, WasEnding, commitment, settlements_of}

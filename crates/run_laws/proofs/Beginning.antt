@@ -2,24 +2,24 @@
 use Rattle.std.proofs.Common.{◌≡◌, ℕ, ◌+◌, List, [], ◌∷◌, inl, inr, true, false, Option, Some, None, refl, sym, ◌∙◌, ap, subst, arith}
 use Rattle.std.proofs.lemmas.Bool.{both_ways, cases_Bool}
 use Rattle.vms_model.specs.Ids.{Id}
-use Rattle.transcript_model.specs.Lines as line
-use Rattle.transcript_model.specs.Lines.{Line}
-use Rattle.script_model.specs.Statements.{At, StartTrans}
+use Rattle.run_said.specs.transcript_model.Lines as line
+use Rattle.run_said.specs.transcript_model.Lines.{Line}
+use Rattle.run_said.specs.script_model.Statements.{At, StartTrans}
 use Rattle.commit_protocol.specs.Table.{Active, Branch}
 use Rattle.commit_protocol.specs.Rows.{blank}
 use Rattle.commit_protocol.specs.Allowed.{is_prepared}
 use Rattle.commit_protocol.specs.World.{In}
-use Rattle.run_model.specs.World.{World, Node, Act, Settlement, find_node, next_id}
-use Rattle.run_model.specs.Answers as answers
-use Rattle.run_model.specs.Answers.{service}
-use Rattle.run_model.specs.Steps.{succeeded}
-use Rattle.run_model.specs.Statements.{Step}
-use Rattle.run_model.specs.StepLaws.{is_refusal}
-use Rattle.run_model.proofs.NodeLists.{found_name, put_node, some_is}
-use Rattle.world_laws.specs.Nodes.{IsUp}
-use Rattle.world_laws.proofs.ServedLemmas.{undrawn}
-use Rattle.world_laws.proofs.TableLemmas.{in_serials}
-use Rattle.world_laws.proofs.UpLemmas.{branch_drawn}
+use Rattle.run_said.specs.run_model.World.{World, Node, Act, Settlement, find_node, next_id}
+use Rattle.run_said.specs.run_model.Answers as answers
+use Rattle.run_said.specs.run_model.Answers.{service}
+use Rattle.run_said.specs.run_model.Steps.{succeeded}
+use Rattle.run_said.specs.run_model.Statements.{Step}
+use Rattle.run_said.specs.run_model.StepLaws.{is_refusal}
+use Rattle.run_said.proofs.run_model.NodeLists.{found_name, put_node, some_is}
+use Rattle.recovery_laws.specs.world_laws.Nodes.{IsUp}
+use Rattle.recovery_laws.proofs.world_laws.ServedLemmas.{undrawn}
+use Rattle.recovery_laws.proofs.world_laws.TableLemmas.{in_serials}
+use Rattle.recovery_laws.proofs.world_laws.UpLemmas.{branch_drawn}
 use Rattle.run_laws.proofs.FirstBranch.{IsFirst, first, first_keeps}
 use Rattle.run_laws.proofs.Keeping.{Kept}
 use Rattle.run_laws.proofs.Labelling.{Succeeds, request_ends, served_up}
@@ -88,7 +88,7 @@ transaction_begins w v node label seconds x sound step = elim (request_ends w v 
 
         on : branch.IsOn x (λ t. t ≡ x) (λ t. ⊥) (λ y. y.tid ≡ x) false (succeeded w.shared s.n (service (StartTrans label seconds))).node
         on = record {
-          drawn = subst (λ y. Rattle.world_laws.specs.Running.IsDrawn s.n.name s.n.durable.boot (s.n.volatile.drawn + 1) y) (sym is) (refl, inr (refl, omega arith));
+          drawn = subst (λ y. Rattle.recovery_laws.specs.world_laws.Running.IsDrawn s.n.name s.n.durable.boot (s.n.volatile.drawn + 1) y) (sym is) (refl, inr (refl, omega arith));
           fresh = λ e. let no : ⊥ = cc in absurd no;
           branch = λ b i e. elim (in_put (blank (next_id s.n) (next_id s.n) None Active (answers.due_after s.n seconds)) b s.n.volatile.branches i) [
             | inl same ↦ (ap (λ (y : Branch). y.key.tid) same ∙ sym is, λ p. let clash : false ≡ true = ap (λ (y : Branch). is_prepared y.state) (sym same) ∙ p in let no : ⊥ = cc in no)

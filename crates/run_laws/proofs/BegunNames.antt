@@ -6,17 +6,17 @@ use Rattle.std.specs.Str.{bytes_eq}
 use Rattle.std.proofs.lemmas.Slice.Eq.{bytes_eq-Decides}
 use Rattle.vms_model.specs.Ids.{Id}
 use Rattle.vms_model.specs.Limits.{label_limit}
-use Rattle.transcript_model.specs.Lines as line
-use Rattle.transcript_model.specs.Lines.{Line}
-use Rattle.script_model.specs.Statements.{Statement, At, Request, AddBranch, StartBranch, StartTrans, Reading, Says}
-use Rattle.script_model.specs.Grammar.{reading}
-use Rattle.run_model.specs.World.{World, Shared, Label, Node, DiskCounts, find_label, opened}
-use Rattle.run_model.specs.Answers.{new_label}
-use Rattle.run_model.specs.Operations.{refused_if}
-use Rattle.run_model.specs.Statements.{Step}
-use Rattle.run_model.specs.StepLaws.{is_refusal}
-use Rattle.run_model.specs.Transcript.{AreOpening, Entry, Legal, Turn as LineTurn}
-use Rattle.run_model.proofs.NodeLists.{clash, some_is}
+use Rattle.run_said.specs.transcript_model.Lines as line
+use Rattle.run_said.specs.transcript_model.Lines.{Line}
+use Rattle.run_said.specs.script_model.Statements.{Statement, At, Request, AddBranch, StartBranch, StartTrans, Reading, Says}
+use Rattle.run_said.specs.script_model.Grammar.{reading}
+use Rattle.run_said.specs.run_model.World.{World, Shared, Label, Node, DiskCounts, find_label, opened}
+use Rattle.run_said.specs.run_model.Answers.{new_label}
+use Rattle.run_said.specs.run_model.Operations.{refused_if}
+use Rattle.run_said.specs.run_model.Statements.{Step}
+use Rattle.run_said.specs.run_model.StepLaws.{is_refusal}
+use Rattle.run_said.specs.run_model.Transcript.{AreOpening, Entry, Legal, Turn as LineTurn}
+use Rattle.run_said.proofs.run_model.NodeLists.{clash, some_is}
 use Rattle.run_laws.specs.Causes.{WasBegun}
 use Rattle.run_laws.specs.Naming.{ToldLabel, find_told, labels_here, labels_told, numbered}
 use Rattle.run_laws.specs.SaidLaws.{SaidThere}

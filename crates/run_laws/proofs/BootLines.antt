@@ -1,20 +1,20 @@
 -- A boot that succeeds shows the last settlement of its disk, where there is one.
 use Rattle.std.proofs.Common.{◌≡◌, ℕ, List, [], ◌∷◌, ◌++◌, inl, inr, true, Option, Some, None, refl, sym, ◌∙◌, ap, subst}
-use Rattle.transcript_model.specs.Lines as line
-use Rattle.transcript_model.specs.Lines.{Line, Cause}
-use Rattle.script_model.specs.Statements.{At, Boot, Settle, Statement}
+use Rattle.run_said.specs.transcript_model.Lines as line
+use Rattle.run_said.specs.transcript_model.Lines.{Line, Cause}
+use Rattle.run_said.specs.script_model.Statements.{At, Boot, Settle, Statement}
 use Rattle.commit_protocol.specs.World.{In}
 use Rattle.commit_protocol.proofs.Lists.{in_left, in_right}
-use Rattle.run_model.specs.World.{World, Shared, Node, DiskCounts, MayTurnOut, Outturn, Settlement, acted, find_node, opened, powered}
-use Rattle.run_model.specs.Answers.{Serves, boot_rows, last_line, last_lines, prepared_lines, task_service}
-use Rattle.run_model.specs.Steps.{TaskEffect, lines_of_rows, task_effect}
-use Rattle.run_model.specs.Statements.{PartEffect, Step, RoseAt, begun_with, part_effect, phases_of, stops_at}
-use Rattle.run_model.specs.Transcript.{Legal, Turn}
-use Rattle.run_model.specs.StepLaws.{is_refusal}
-use Rattle.run_model.proofs.Refusing.{same_last}
-use Rattle.run_model.proofs.NodeLists.{found_name}
-use Rattle.run_model.proofs.TaskLemmas.{Outcome, outcome}
-use Rattle.world_laws.proofs.Induction.{powered_name}
+use Rattle.run_said.specs.run_model.World.{World, Shared, Node, DiskCounts, MayTurnOut, Outturn, Settlement, acted, find_node, opened, powered}
+use Rattle.run_said.specs.run_model.Answers.{Serves, boot_rows, last_line, last_lines, prepared_lines, task_service}
+use Rattle.run_said.specs.run_model.Steps.{TaskEffect, lines_of_rows, task_effect}
+use Rattle.run_said.specs.run_model.Statements.{PartEffect, Step, RoseAt, begun_with, part_effect, phases_of, stops_at}
+use Rattle.run_said.specs.run_model.Transcript.{Legal, Turn}
+use Rattle.run_said.specs.run_model.StepLaws.{is_refusal}
+use Rattle.run_said.proofs.run_model.Refusing.{same_last}
+use Rattle.run_said.proofs.run_model.NodeLists.{found_name}
+use Rattle.run_said.proofs.run_model.TaskLemmas.{Outcome, outcome}
+use Rattle.recovery_laws.proofs.world_laws.Induction.{powered_name}
 use Rattle.run_laws.specs.Promises.{Boots, last_in}
 use Rattle.run_laws.specs.Laws.{BootsShowLastHold}
 use Rattle.run_laws.proofs.AllShown.{IsFormed, legal_shown, shown, shown_keeps, shown_of}
@@ -29,7 +29,7 @@ use Rattle.run_laws.proofs.SoundWorlds.{IsSound, begins_sound, legal_sound, open
 use Rattle.run_laws.proofs.Staying.{stays}
 use Rattle.run_laws.proofs.ToldParts.{IsThinPart, settle_phases}
 use Rattle.run_laws.proofs.Walking.{Sighted, phases_walk, sighted, walk_keeps}
-use Rattle.run_model.specs.Transcript.{Entry, AreOpening}
+use Rattle.run_said.specs.run_model.Transcript.{Entry, AreOpening}
 
 -- the line of a settlement shows it as a last one
 line_last : (s : Settlement) → IsFormed s → (l : Line) × In l (last_line s) × (last_in l ≡ Some s)

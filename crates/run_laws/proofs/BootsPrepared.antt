@@ -2,25 +2,25 @@
 use Rattle.std.proofs.Common.{◌≡◌, ℕ, zero, ◌⊎◌, List, [], ◌∷◌, ◌++◌, inl, inr, map, Bool, true, false, Option, Some, None, if◌then◌else◌, refl, sym, ◌∙◌, ap, subst}
 use Rattle.std.proofs.lemmas.Bool.{both_ways}
 use Rattle.vms_model.specs.Ids.{Id}
-use Rattle.transcript_model.specs.Lines as line
-use Rattle.transcript_model.specs.Lines.{Line, Cause}
-use Rattle.records_model.specs.History.{same_id}
-use Rattle.script_model.specs.Statements.{Statement, At, Settle, Boot}
+use Rattle.run_said.specs.transcript_model.Lines as line
+use Rattle.run_said.specs.transcript_model.Lines.{Line, Cause}
+use Rattle.unit_laws.specs.records_model.History.{same_id}
+use Rattle.run_said.specs.script_model.Statements.{Statement, At, Settle, Boot}
 use Rattle.commit_protocol.specs.Messages.{LogRecord}
 use Rattle.commit_protocol.specs.Table.{branches_of}
 use Rattle.commit_protocol.specs.World.{In}
 use Rattle.commit_protocol.proofs.Lists.{in_left, in_right}
-use Rattle.log_laws.specs.Slots.{prepared_of, records_in}
-use Rattle.run_model.specs.World.{World, Shared, Node, DiskCounts, MayTurnOut, Outturn, Settlement, find_node, find_record, opened, powered, prepared_left, prepared_serials, records_by, without_record}
-use Rattle.run_model.specs.Answers.{Serves, boot_rows, last_lines, prepared_line, prepared_lines}
-use Rattle.run_model.specs.Steps.{Choice, TaskEffect, lines_of_rows, task_effect}
-use Rattle.run_model.specs.Statements.{Part, PartEffect, Step, Allowed, RoseAt, begun_with, part_effect, phases_of, stops_at}
-use Rattle.run_model.specs.Transcript.{Entry, Legal, AreOpening}
-use Rattle.run_model.proofs.NodeLists.{some_is}
-use Rattle.run_model.proofs.PartLemmas.{phases_fold}
-use Rattle.run_model.proofs.PartTasks.{View, Doing, Fixed, view}
-use Rattle.run_model.proofs.Refusing.{same_last}
-use Rattle.run_model.proofs.TaskLemmas.{effect_name, outcome}
+use Rattle.run_said.specs.log_laws.Slots.{prepared_of, records_in}
+use Rattle.run_said.specs.run_model.World.{World, Shared, Node, DiskCounts, MayTurnOut, Outturn, Settlement, find_node, find_record, opened, powered, prepared_left, prepared_serials, records_by, without_record}
+use Rattle.run_said.specs.run_model.Answers.{Serves, boot_rows, last_lines, prepared_line, prepared_lines}
+use Rattle.run_said.specs.run_model.Steps.{Choice, TaskEffect, lines_of_rows, task_effect}
+use Rattle.run_said.specs.run_model.Statements.{Part, PartEffect, Step, Allowed, RoseAt, begun_with, part_effect, phases_of, stops_at}
+use Rattle.run_said.specs.run_model.Transcript.{Entry, Legal, AreOpening}
+use Rattle.run_said.proofs.run_model.NodeLists.{some_is}
+use Rattle.run_said.proofs.run_model.PartLemmas.{phases_fold}
+use Rattle.run_said.proofs.run_model.PartTasks.{View, Doing, Fixed, view}
+use Rattle.run_said.proofs.run_model.Refusing.{same_last}
+use Rattle.run_said.proofs.run_model.TaskLemmas.{effect_name, outcome}
 use Rattle.run_laws.specs.Promises.{Boots, ShowsPrepared, is_told_prepared, last_in}
 use Rattle.run_laws.proofs.BootLines.{lasts_last, not_count}
 use Rattle.run_laws.proofs.Deciding.{BootedAt, boot_whole, part_booted}

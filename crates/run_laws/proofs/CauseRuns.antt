@@ -3,24 +3,24 @@ use Rattle.std.proofs.Common.{◌≡◌, ℕ, ◌⊎◌, List, [], ◌∷◌, �
 use Rattle.std.specs.Option.{option_map}
 use Rattle.vms_model.specs.Ids.{Id}
 use Rattle.vms_model.specs.Transactions.{Outcome, Commit, Abort, Reason, SegFail}
-use Rattle.transcript_model.specs.Lines as line
-use Rattle.transcript_model.specs.Lines.{Line, Cause}
-use Rattle.script_model.specs.Statements.{Statement, At, Deliver, LinkDown, Settle, Request, Clock, Reading, Blank, Says, Bad}
+use Rattle.run_said.specs.transcript_model.Lines as line
+use Rattle.run_said.specs.transcript_model.Lines.{Line, Cause}
+use Rattle.run_said.specs.script_model.Statements.{Statement, At, Deliver, LinkDown, Settle, Request, Clock, Reading, Blank, Says, Bad}
 use Rattle.commit_protocol.specs.Messages as message
 use Rattle.commit_protocol.specs.Messages.{Message}
 use Rattle.commit_protocol.specs.Table.{Key as BranchKey}
 use Rattle.commit_protocol.specs.World.{In}
-use Rattle.run_model.specs.World.{World, Node, Settlement, DiskCounts, find_node, opened, tm_of, with_node}
-use Rattle.run_model.specs.Answers.{Task, Serves, Ticks, Takes, Hears, LosesLink, RunsDown, Restarts, outcome_told, refused_before_reading, settled_line, task_service}
-use Rattle.run_model.specs.Steps.{Choice, TaskEffect, task_effect}
-use Rattle.run_model.specs.Statements.{Part, Does, Asks, PartEffect, Question, Heard, Unanswered, Doubtful, Begins, Phase, Phases, Step, done_at, message_at, named_node, no_node, part_effect, question, question_effect, stops_at, RoseAt, phases_of, refused_at_once, begun_with, where_up}
-use Rattle.run_model.specs.Transcript.{Entry, Legal, Turn as LineTurn, AreOpening}
-use Rattle.run_model.specs.StepLaws.{TaskAt, task_of}
-use Rattle.run_model.proofs.NodeLists.{put_node, some_is}
-use Rattle.run_model.proofs.TaskLemmas.{effect_name}
-use Rattle.run_model.proofs.PartLemmas.{EachPhase, done_here, phases_fold}
-use Rattle.run_model.proofs.PartTasks.{all_asked, each_restart, each_run_down, each_up}
-use Rattle.run_model.proofs.Refusing.{same_last}
+use Rattle.run_said.specs.run_model.World.{World, Node, Settlement, DiskCounts, find_node, opened, tm_of, with_node}
+use Rattle.run_said.specs.run_model.Answers.{Task, Serves, Ticks, Takes, Hears, LosesLink, RunsDown, Restarts, outcome_told, refused_before_reading, settled_line, task_service}
+use Rattle.run_said.specs.run_model.Steps.{Choice, TaskEffect, task_effect}
+use Rattle.run_said.specs.run_model.Statements.{Part, Does, Asks, PartEffect, Question, Heard, Unanswered, Doubtful, Begins, Phase, Phases, Step, done_at, message_at, named_node, no_node, part_effect, question, question_effect, stops_at, RoseAt, phases_of, refused_at_once, begun_with, where_up}
+use Rattle.run_said.specs.run_model.Transcript.{Entry, Legal, Turn as LineTurn, AreOpening}
+use Rattle.run_said.specs.run_model.StepLaws.{TaskAt, task_of}
+use Rattle.run_said.proofs.run_model.NodeLists.{put_node, some_is}
+use Rattle.run_said.proofs.run_model.TaskLemmas.{effect_name}
+use Rattle.run_said.proofs.run_model.PartLemmas.{EachPhase, done_here, phases_fold}
+use Rattle.run_said.proofs.run_model.PartTasks.{all_asked, each_restart, each_run_down, each_up}
+use Rattle.run_said.proofs.run_model.Refusing.{same_last}
 use Rattle.run_laws.specs.Causes.{AbortCause, CommitCause, IsCutOff, IsDirect}
 use Rattle.run_laws.specs.Promises.{ShownThere, abort, commitment, settlements_of, shown_in}
 use Rattle.run_laws.specs.Laws.{AbortedHold, CommitmentsHold}

@@ -5,9 +5,9 @@ use Rattle.std.specs.Option.{option_and_then}
 use Rattle.std.proofs.lemmas.Bool.{and_parts, leb-true}
 use Rattle.vms_model.specs.Ids.{Id}
 use Rattle.vms_model.specs.Transactions.{Outcome, Commit, Abort, Reason, Aborted, Vetoed, SyncFail, Timeout, CommFail, SegFail}
-use Rattle.transcript_model.specs.Lines as line
-use Rattle.transcript_model.specs.Lines.{Line}
-use Rattle.script_model.specs.Statements.{At, Deliver, Request, Boot, StartTrans, Direct, EndTrans, AbortTrans, AckEvent, Clock, Named as SaidName, ByLabel, BySerial, Reading, Says}
+use Rattle.run_said.specs.transcript_model.Lines as line
+use Rattle.run_said.specs.transcript_model.Lines.{Line}
+use Rattle.run_said.specs.script_model.Statements.{At, Deliver, Request, Boot, StartTrans, Direct, EndTrans, AbortTrans, AckEvent, Clock, Named as SaidName, ByLabel, BySerial, Reading, Says}
 use Rattle.commit_protocol.specs.Messages as message
 use Rattle.commit_protocol.specs.Messages.{Message, Reply, PreparedReply, ForgetReply, VetoReply, RememberReply, NormalReply}
 use Rattle.commit_protocol.specs.Table as table
@@ -17,11 +17,11 @@ use Rattle.commit_protocol.specs.Rows as rows
 use Rattle.commit_protocol.specs.Rows.{is_cut_off, is_due, is_late, is_noted, is_under, is_veto}
 use Rattle.commit_protocol.specs.World.{In}
 use Rattle.commit_protocol.proofs.Lists.{same_key-true, same_name-true}
-use Rattle.run_model.specs.World.{World, Node, Label, Settlement, find_node, labelled, serial_labelled, tm_of}
-use Rattle.run_model.specs.Answers.{Serves, branch_labelled, in_state, is_first_active, is_open, made_label, refused_before_reading, serial_named, service, settled_line, unsettled_label}
-use Rattle.run_model.specs.Statements.{message_at}
-use Rattle.run_model.specs.Transcript.{Entry}
-use Rattle.run_model.proofs.NodeLists.{found_name}
+use Rattle.run_said.specs.run_model.World.{World, Node, Label, Settlement, find_node, labelled, serial_labelled, tm_of}
+use Rattle.run_said.specs.run_model.Answers.{Serves, branch_labelled, in_state, is_first_active, is_open, made_label, refused_before_reading, serial_named, service, settled_line, unsettled_label}
+use Rattle.run_said.specs.run_model.Statements.{message_at}
+use Rattle.run_said.specs.run_model.Transcript.{Entry}
+use Rattle.run_said.proofs.run_model.NodeLists.{found_name}
 use Rattle.run_laws.specs.Naming.{IsNamed, find_told}
 use Rattle.run_laws.specs.Causes.{AbortCause, CommitCause, DeliversTo, HasBegun, HasJoined, IsCutOff, IsDirect, IsMissing, IsWhole, Names, Replies, Votes, WasAsked, WasBegun, WasEnded, WasSent, clock_told}
 use Rattle.run_laws.specs.SaidLaws.{SaidThere}

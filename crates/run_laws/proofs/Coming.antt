@@ -1,17 +1,17 @@
 -- How the unprepared branches that a task leaves at its node come of those before it.
 use Rattle.std.proofs.Common.{◌≡◌, ℕ, List, [], ◌∷◌, ◌++◌, map, take, drop, zero, suc, inl, inr, Bool, true, false, Option, Some, None, if◌then◌else◌, refl, sym, ◌∙◌, ap, subst}
-use Rattle.transcript_model.specs.Lines as line
-use Rattle.transcript_model.specs.Lines.{Line}
-use Rattle.script_model.specs.Statements.{Request, Init, Boot}
+use Rattle.run_said.specs.transcript_model.Lines as line
+use Rattle.run_said.specs.transcript_model.Lines.{Line}
+use Rattle.run_said.specs.script_model.Statements.{Request, Init, Boot}
 use Rattle.commit_protocol.specs.Table as table
 use Rattle.commit_protocol.specs.Table.{Branch, Child, Notes, Accepts, Key as BranchKey}
 use Rattle.commit_protocol.specs.Allowed.{is_prepared}
 use Rattle.commit_protocol.specs.World.{In, undo_all}
-use Rattle.run_model.specs.World as world
-use Rattle.run_model.specs.World.{Shared, Node, Act, Boots, ComesUp, Tables, Outturn, Lost, Taken, Half, acted, fallen, is_durable, powered, prepared_left, unpowered}
-use Rattle.run_model.specs.Answers.{Row, Service, Task, Serves, Restarts, boot_rows, left_active, task_service, service, refused_before_reading, powers, spoils, table_rows, unit_key}
-use Rattle.run_model.specs.Steps.{Choice, Whole, WithoutMemory, Unpowered, Cut, TaskEffect, act_begun, cut, task_effect, ready_node, node_after, node_after_rows, lines_of_rows, rows_if, rows_to_cut, with_unknown_volume, whole, begun}
-use Rattle.run_model.proofs.Refusing.{not_ready}
+use Rattle.run_said.specs.run_model.World as world
+use Rattle.run_said.specs.run_model.World.{Shared, Node, Act, Boots, ComesUp, Tables, Outturn, Lost, Taken, Half, acted, fallen, is_durable, powered, prepared_left, unpowered}
+use Rattle.run_said.specs.run_model.Answers.{Row, Service, Task, Serves, Restarts, boot_rows, left_active, task_service, service, refused_before_reading, powers, spoils, table_rows, unit_key}
+use Rattle.run_said.specs.run_model.Steps.{Choice, Whole, WithoutMemory, Unpowered, Cut, TaskEffect, act_begun, cut, task_effect, ready_node, node_after, node_after_rows, lines_of_rows, rows_if, rows_to_cut, with_unknown_volume, whole, begun}
+use Rattle.run_said.proofs.run_model.Refusing.{not_ready}
 use Rattle.run_laws.proofs.Contents.{Comes, From, PutsIn, TaskNotes, TaskAccepts, acted_comes, begins_none, comes_on, cut_putting, more_put, none_comes, rows_come, take_putting, task_putting, undone_putting}
 use Rattle.run_laws.proofs.EffectsTell.{IsStep}
 use Rattle.run_laws.proofs.Moving.{none_open}

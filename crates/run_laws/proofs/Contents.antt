@@ -1,15 +1,15 @@
 -- How the unprepared branches of a node come of those before a task.
-use Rattle.log_laws.specs.Slots.{slot_records}
+use Rattle.run_said.specs.log_laws.Slots.{slot_records}
 use Rattle.std.proofs.Common.{◌≡◌, ℕ, ◌⊎◌, List, [], ◌∷◌, ◌++◌, map, take, zero, suc, inl, inr, Bool, true, false, Option, Some, None, if◌then◌else◌, refl, sym, ◌∙◌, ap}
 use Rattle.std.specs.Option.{option_map}
 use Rattle.vms_model.specs.Ids.{Id}
 use Rattle.vms_model.specs.Keys.{Key}
 use Rattle.vms_model.specs.Transactions.{Aborted}
-use Rattle.transcript_model.specs.Lines as line
-use Rattle.transcript_model.specs.Lines.{Line}
-use Rattle.script_model.specs.Statements.{Operation, Request, Init, Boot, Create, SetFile, StartTrans, AddBranch, StartBranch, Records, Direct, EndBranch, EndTrans, AbortTrans, Inquire, DeclareRm, JoinRm, AckEvent, ForgetRm, GetDti, LmcpShow, LmcpDump, Dump, DumpJournal, DumpImages, Backup, Recover, Fuse, Crash, Clock}
-use Rattle.records_model.specs.Records.{Change}
-use Rattle.records_model.specs.History.{same_id}
+use Rattle.run_said.specs.transcript_model.Lines as line
+use Rattle.run_said.specs.transcript_model.Lines.{Line}
+use Rattle.run_said.specs.script_model.Statements.{Operation, Request, Init, Boot, Create, SetFile, StartTrans, AddBranch, StartBranch, Records, Direct, EndBranch, EndTrans, AbortTrans, Inquire, DeclareRm, JoinRm, AckEvent, ForgetRm, GetDti, LmcpShow, LmcpDump, Dump, DumpJournal, DumpImages, Backup, Recover, Fuse, Crash, Clock}
+use Rattle.unit_laws.specs.records_model.Records.{Change}
+use Rattle.unit_laws.specs.records_model.History.{same_id}
 use Rattle.commit_protocol.specs.Table as table
 use Rattle.commit_protocol.specs.Table.{Branch, Child, Prepared, Key as BranchKey, Notes, Accepts, Prepares, Settles, Leaves, Acknowledges, Releases, Undoes, Sends, Prints, branches_of, put, table_after}
 use Rattle.commit_protocol.specs.Rows as rows
@@ -18,15 +18,15 @@ use Rattle.commit_protocol.specs.Allowed.{is_prepared}
 use Rattle.commit_protocol.specs.Standing.{BeginsNothing}
 use Rattle.commit_protocol.specs.World.{In, undo_all}
 use Rattle.commit_protocol.proofs.Lists.{in_left, in_right}
-use Rattle.run_model.specs.World as world
-use Rattle.run_model.specs.World.{Shared, Node, File, Act, Boots, ComesUp, Tables, Clocks, Outturn, Lost, Taken, Half, acted, shared_after, powered, unpowered, with_changed, is_durable, prepared_left, next_id, next_moment, tm_of}
-use Rattle.run_model.specs.Answers as answers
-use Rattle.run_model.specs.Answers.{Row, Service, Task, Serves, Ticks, Takes, Hears, LosesLink, RunsDown, Restarts, task_service, service, refused_before_reading, shown_by, table_rows, told_if, told_rows, just, silent, branch_labelled, branch_named, powers, spoils}
-use Rattle.run_model.specs.Steps.{node_after, node_after_rows, lines_of_rows, rows_if}
-use Rattle.run_model.proofs.NodeLists.{clash}
+use Rattle.run_said.specs.run_model.World as world
+use Rattle.run_said.specs.run_model.World.{Shared, Node, File, Act, Boots, ComesUp, Tables, Clocks, Outturn, Lost, Taken, Half, acted, shared_after, powered, unpowered, with_changed, is_durable, prepared_left, next_id, next_moment, tm_of}
+use Rattle.run_said.specs.run_model.Answers as answers
+use Rattle.run_said.specs.run_model.Answers.{Row, Service, Task, Serves, Ticks, Takes, Hears, LosesLink, RunsDown, Restarts, task_service, service, refused_before_reading, shown_by, table_rows, told_if, told_rows, just, silent, branch_labelled, branch_named, powers, spoils}
+use Rattle.run_said.specs.run_model.Steps.{node_after, node_after_rows, lines_of_rows, rows_if}
+use Rattle.run_said.proofs.run_model.NodeLists.{clash}
 use Rattle.run_laws.proofs.Moving.{in_cut, in_put, none_open}
 use Rattle.run_laws.proofs.Noting.{Accepted, AllPut, Noted, Puts, row_puts}
-use Rattle.world_laws.proofs.FileRows.{images_by, recovers_by, saves_by, sets_by}
+use Rattle.recovery_laws.proofs.world_laws.FileRows.{images_by, recovers_by, saves_by, sets_by}
 
 -- a branch but for whether it has changed something
 abbrev pub bare : Branch → Branch

@@ -5,30 +5,30 @@ use Rattle.std.specs.Str.{bytes_eq}
 use Rattle.std.proofs.lemmas.Bool.{both_ways, cases_Bool}
 use Rattle.vms_model.specs.Ids.{Id}
 use Rattle.vms_model.specs.Transactions.{Outcome, Commit, Abort}
-use Rattle.transcript_model.specs.Lines as line
-use Rattle.transcript_model.specs.Lines.{Line, Cause}
-use Rattle.script_model.specs.Statements.{Statement, At, Settle, Boot, Reading, Blank, Says, Bad}
-use Rattle.script_model.specs.Grammar.{reading}
-use Rattle.records_model.specs.History.{same_id}
+use Rattle.run_said.specs.transcript_model.Lines as line
+use Rattle.run_said.specs.transcript_model.Lines.{Line, Cause}
+use Rattle.run_said.specs.script_model.Statements.{Statement, At, Settle, Boot, Reading, Blank, Says, Bad}
+use Rattle.run_said.specs.script_model.Grammar.{reading}
+use Rattle.unit_laws.specs.records_model.History.{same_id}
 use Rattle.commit_protocol.specs.Table.{Branch, Prepares}
 use Rattle.commit_protocol.specs.Allowed.{is_prepared}
 use Rattle.commit_protocol.specs.World.{In}
 use Rattle.commit_protocol.proofs.Lists.{in_left, in_right}
-use Rattle.run_model.specs.World as world
-use Rattle.run_model.specs.World.{World, Shared, Node, Act, DiskCounts, Outturn, MayTurnOut, Settlement, Tables, acted, find_node, opened, powered}
-use Rattle.run_model.specs.Answers.{Task, Serves, Ticks, Takes, Hears, LosesLink, RunsDown, Restarts, boot_rows, powers, task_service}
-use Rattle.run_model.specs.Steps.{succeeded, Choice, TaskEffect, node_after_rows, task_effect}
-use Rattle.run_model.specs.Statements.{Part, Does, Asks, PartEffect, Question, Heard, Unanswered, Doubtful, Step, Allowed, RoseAt, begun_with, part_effect, phases_of, put_into, question, stops_at}
-use Rattle.run_model.specs.StepLaws.{TaskAt, asked_by, is_refusal, task_of_part}
-use Rattle.run_model.specs.Transcript.{Entry, Legal, AreOpening, Turn}
-use Rattle.run_model.proofs.NodeLists.{found_name, put_node, some_is}
-use Rattle.run_model.proofs.PartTasks.{View, Doing, Fixed, view}
-use Rattle.run_model.proofs.CauseLemmas.{refuses_first, refuses_then}
-use Rattle.run_model.proofs.TaskLemmas as tasks
-use Rattle.run_model.proofs.TaskLemmas.{First, Failing, Lacking, Late, Success, effect_name, outcome}
-use Rattle.world_laws.proofs.IdLemmas.{id_is, id_itself}
-use Rattle.world_laws.proofs.Induction.{powered_name}
-use Rattle.world_laws.proofs.ServedLemmas.{undrawn}
+use Rattle.run_said.specs.run_model.World as world
+use Rattle.run_said.specs.run_model.World.{World, Shared, Node, Act, DiskCounts, Outturn, MayTurnOut, Settlement, Tables, acted, find_node, opened, powered}
+use Rattle.run_said.specs.run_model.Answers.{Task, Serves, Ticks, Takes, Hears, LosesLink, RunsDown, Restarts, boot_rows, powers, task_service}
+use Rattle.run_said.specs.run_model.Steps.{succeeded, Choice, TaskEffect, node_after_rows, task_effect}
+use Rattle.run_said.specs.run_model.Statements.{Part, Does, Asks, PartEffect, Question, Heard, Unanswered, Doubtful, Step, Allowed, RoseAt, begun_with, part_effect, phases_of, put_into, question, stops_at}
+use Rattle.run_said.specs.run_model.StepLaws.{TaskAt, asked_by, is_refusal, task_of_part}
+use Rattle.run_said.specs.run_model.Transcript.{Entry, Legal, AreOpening, Turn}
+use Rattle.run_said.proofs.run_model.NodeLists.{found_name, put_node, some_is}
+use Rattle.run_said.proofs.run_model.PartTasks.{View, Doing, Fixed, view}
+use Rattle.run_said.proofs.run_model.CauseLemmas.{refuses_first, refuses_then}
+use Rattle.run_said.proofs.run_model.TaskLemmas as tasks
+use Rattle.run_said.proofs.run_model.TaskLemmas.{First, Failing, Lacking, Late, Success, effect_name, outcome}
+use Rattle.recovery_laws.proofs.world_laws.IdLemmas.{id_is, id_itself}
+use Rattle.recovery_laws.proofs.world_laws.Induction.{powered_name}
+use Rattle.recovery_laws.proofs.world_laws.ServedLemmas.{undrawn}
 use Rattle.run_laws.specs.Promises.{commitment, settlement_in, settlements_of}
 use Rattle.run_laws.proofs.AllShown.{IsFormed, legal_shown, shown, shown_from, shown_hold, shown_is, shown_keeps, shown_of, shown_on, shown_tracks}
 use Rattle.run_laws.proofs.Beginning.{Begins as BeginsSo}
@@ -235,7 +235,7 @@ part_booted u p c disks node count thin allowed i = go (view u p)
         boots : Restarts ≡ t → BootedAt u p c node
         boots is =
             let e = task_effect u.shared (stops_at other u) n Restarts c in
-            let allowed_so = subst (λ y. Rattle.run_model.specs.Steps.TaskAllowed u.shared (stops_at other u) n y (λ cause. RoseAt u other cause disks) c) (sym is) (may disks c allowed) in
+            let allowed_so = subst (λ y. Rattle.run_said.specs.run_model.Steps.TaskAllowed u.shared (stops_at other u) n y (λ cause. RoseAt u other cause disks) c) (sym is) (may disks c allowed) in
             let b = restart_seen u.shared (stops_at other u) n c (λ cause. RoseAt u other cause disks) node count allowed_so (subst (λ y. In (line.Booted node count) (task_effect u.shared (stops_at other u) n y c).lines) (sym is) j) in
             let home : other ≡ node = sym (sym b.named ∙ powered_name b.outturn (stops_at other u) n ∙ found_name other u.nodes n found) in
             let world = subst (λ y. part_effect u p c ≡ put_into u other (task_effect u.shared (stops_at other u) n y c)) (sym is) (does c) in

@@ -4,24 +4,24 @@ use Rattle.std.specs.Prelude.{nat_lt}
 use Rattle.std.proofs.lemmas.Bool.{ltb-false, or_parts}
 use Rattle.vms_model.specs.Ids.{Id}
 use Rattle.vms_model.specs.Keys.{Key}
-use Rattle.transcript_model.specs.Lines as line
-use Rattle.transcript_model.specs.Lines.{Line, Cause}
-use Rattle.script_model.specs.Statements.{At, Direct, Operation, Put, Update, Delete, Truncate, Get, Next}
-use Rattle.records_model.specs.Records.{Change}
+use Rattle.run_said.specs.transcript_model.Lines as line
+use Rattle.run_said.specs.transcript_model.Lines.{Line, Cause}
+use Rattle.run_said.specs.script_model.Statements.{At, Direct, Operation, Put, Update, Delete, Truncate, Get, Next}
+use Rattle.unit_laws.specs.records_model.Records.{Change}
 use Rattle.commit_protocol.specs.World.{In}
-use Rattle.run_model.specs.World.{World, Node, File, Directs, acted, find_file, find_node, next_id, next_moment}
-use Rattle.run_model.specs.Operations.{changes_of, count_of, data_refused, first_of, in_order, is_change, refused_if, removed}
-use Rattle.run_model.specs.Answers.{Serves, changes_at, commit_settlement, direct_refused, directed, found_refused, of_file, refused_before_reading, service, there_is_file}
-use Rattle.run_model.specs.Steps.{TaskEffect, lines_of_rows, node_after_rows, ready_node, succeeded, task_effect}
-use Rattle.run_model.specs.Statements.{Step, put_into, refused_at_once, stops_at, RoseAt}
-use Rattle.run_model.specs.StepLaws.{is_refusal}
-use Rattle.run_model.proofs.NodeLists.{clash, found_name, put_node}
-use Rattle.run_model.proofs.CauseLemmas.{refuses_first, refuses_then}
-use Rattle.run_model.proofs.TaskLemmas.{Outcome, First, Late, Success, Lacking, Failing, acted_name, outcome}
-use Rattle.run_model.proofs.PartLemmas.{turn}
-use Rattle.run_model.proofs.PartTasks.{task_there}
-use Rattle.run_model.proofs.Failing.{once_refuses}
-use Rattle.run_model.proofs.Refusing.{not_ready, refusals, same_last}
+use Rattle.run_said.specs.run_model.World.{World, Node, File, Directs, acted, find_file, find_node, next_id, next_moment}
+use Rattle.run_said.specs.run_model.Operations.{changes_of, count_of, data_refused, first_of, in_order, is_change, refused_if, removed}
+use Rattle.run_said.specs.run_model.Answers.{Serves, changes_at, commit_settlement, direct_refused, directed, found_refused, of_file, refused_before_reading, service, there_is_file}
+use Rattle.run_said.specs.run_model.Steps.{TaskEffect, lines_of_rows, node_after_rows, ready_node, succeeded, task_effect}
+use Rattle.run_said.specs.run_model.Statements.{Step, put_into, refused_at_once, stops_at, RoseAt}
+use Rattle.run_said.specs.run_model.StepLaws.{is_refusal}
+use Rattle.run_said.proofs.run_model.NodeLists.{clash, found_name, put_node}
+use Rattle.run_said.proofs.run_model.CauseLemmas.{refuses_first, refuses_then}
+use Rattle.run_said.proofs.run_model.TaskLemmas.{Outcome, First, Late, Success, Lacking, Failing, acted_name, outcome}
+use Rattle.run_said.proofs.run_model.PartLemmas.{turn}
+use Rattle.run_said.proofs.run_model.PartTasks.{task_there}
+use Rattle.run_said.proofs.run_model.Failing.{once_refuses}
+use Rattle.run_said.proofs.run_model.Refusing.{not_ready, refusals, same_last}
 use Rattle.run_laws.specs.Promises.{IsDoneAnswer, commitment, settlements_of}
 use Rattle.run_laws.proofs.Staying.{found_settled}
 

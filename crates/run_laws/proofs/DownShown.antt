@@ -1,5 +1,5 @@
 -- A statement shows that a node is down only where its disk failed or was stopped, and the node is down behind it.
-use Rattle.log_laws.specs.Slots.{slot_records, records_in, committed_of, waiting_for}
+use Rattle.run_said.specs.log_laws.Slots.{slot_records, records_in, committed_of, waiting_for}
 use Rattle.std.proofs.Common.{◌≡◌, ℕ, ◌+◌, ◌⊎◌, List, [], ◌∷◌, ◌++◌, inl, inr, map, take, zero, suc, Bool, true, false, not, Option, Some, None, if◌then◌else◌, refl, sym, ◌∙◌, ap, subst}
 use Rattle.std.specs.Prelude.{length, nat_lt}
 use Rattle.std.specs.Option.{option_map, option_and_then}
@@ -8,10 +8,10 @@ use Rattle.vms_model.specs.Keys.{Key}
 use Rattle.vms_model.specs.Transactions as txn
 use Rattle.vms_model.specs.Transactions.{Outcome, Commit, Abort, Reason}
 use Rattle.vms_model.specs.Limits.{message_limit}
-use Rattle.transcript_model.specs.Lines as line
-use Rattle.transcript_model.specs.Lines.{Line, Cause}
-use Rattle.script_model.specs.Statements.{Statement, At, Deliver, LinkDown, Settle, Operation, Request, Init, Boot, Create, SetFile, StartTrans, AddBranch, StartBranch, Records, Direct, EndBranch, EndTrans, AbortTrans, Inquire, DeclareRm, JoinRm, AckEvent, ForgetRm, GetDti, LmcpShow, LmcpDump, Dump, DumpJournal, DumpImages, Backup, Recover, Fuse, Crash, Clock}
-use Rattle.records_model.specs.Records.{Change}
+use Rattle.run_said.specs.transcript_model.Lines as line
+use Rattle.run_said.specs.transcript_model.Lines.{Line, Cause}
+use Rattle.run_said.specs.script_model.Statements.{Statement, At, Deliver, LinkDown, Settle, Operation, Request, Init, Boot, Create, SetFile, StartTrans, AddBranch, StartBranch, Records, Direct, EndBranch, EndTrans, AbortTrans, Inquire, DeclareRm, JoinRm, AckEvent, ForgetRm, GetDti, LmcpShow, LmcpDump, Dump, DumpJournal, DumpImages, Backup, Recover, Fuse, Crash, Clock}
+use Rattle.unit_laws.specs.records_model.Records.{Change}
 use Rattle.unit_laws.specs.Journal as journal
 use Rattle.unit_laws.specs.Journal.{JournalEntry, entry_size}
 use Rattle.commit_protocol.specs.Messages.{Message, LogRecord}
@@ -20,28 +20,28 @@ use Rattle.commit_protocol.specs.Table.{Branch, Notes, Accepts, Prepares, Settle
 use Rattle.commit_protocol.specs.Rows as rows
 use Rattle.commit_protocol.specs.Rows.{row}
 use Rattle.commit_protocol.specs.World.{In}
-use Rattle.run_model.specs.World as world
-use Rattle.run_model.specs.World.{World, Shared, Node, Act, Tables, DiskCounts, acted, shared_after, next_id, next_moment, tm_of, find_node}
-use Rattle.run_model.specs.Answers as answers
-use Rattle.run_model.specs.Answers.{Row, Task, Serves, Ticks, Takes, Hears, LosesLink, RunsDown, Restarts, task_service, service, told_if, told_rows, table_rows, begins, just, shown_by, branch_labelled, branch_named, refused_before_reading}
-use Rattle.run_model.specs.Steps.{Choice, Whole, WithoutMemory, Unpowered, Cut, TaskAllowed, TaskEffect, task_effect, ready_node, lines_of_rows, rows_if, rows_to_cut, whole, begun, succeeded}
-use Rattle.run_model.specs.Statements.{Part, Does, Asks, PartEffect, Question, Heard, Unanswered, Doubtful, Begins, Phase, Phases, Allowed, AllowedAt, AllowedOf, done_at, delivery, message_at, no_node, part_effect, put_into, question, question_effect, stops_at, RoseAt, Step, phases_of, refused_at_once, begun_with}
-use Rattle.run_model.specs.StepLaws.{is_refusal}
-use Rattle.run_model.proofs.NodeLists.{found_name, put_node}
-use Rattle.run_model.proofs.CauseLemmas.{is_success}
-use Rattle.run_model.proofs.Failing.{begins_keeps, rose_before, way_keeps}
-use Rattle.run_model.proofs.TaskLemmas as task
-use Rattle.run_model.proofs.TaskLemmas.{First, Late, Success, Lacking, Failing, effect_name, outcome}
-use Rattle.run_model.proofs.PartLemmas.{EachPart, EachPhase, allowed_here, done_here, phases_fold, way}
-use Rattle.run_model.proofs.PartTasks.{all_asked, each_restart, each_run_down, each_up}
-use Rattle.run_model.proofs.Refusing.{same_last}
+use Rattle.run_said.specs.run_model.World as world
+use Rattle.run_said.specs.run_model.World.{World, Shared, Node, Act, Tables, DiskCounts, acted, shared_after, next_id, next_moment, tm_of, find_node}
+use Rattle.run_said.specs.run_model.Answers as answers
+use Rattle.run_said.specs.run_model.Answers.{Row, Task, Serves, Ticks, Takes, Hears, LosesLink, RunsDown, Restarts, task_service, service, told_if, told_rows, table_rows, begins, just, shown_by, branch_labelled, branch_named, refused_before_reading}
+use Rattle.run_said.specs.run_model.Steps.{Choice, Whole, WithoutMemory, Unpowered, Cut, TaskAllowed, TaskEffect, task_effect, ready_node, lines_of_rows, rows_if, rows_to_cut, whole, begun, succeeded}
+use Rattle.run_said.specs.run_model.Statements.{Part, Does, Asks, PartEffect, Question, Heard, Unanswered, Doubtful, Begins, Phase, Phases, Allowed, AllowedAt, AllowedOf, done_at, delivery, message_at, no_node, part_effect, put_into, question, question_effect, stops_at, RoseAt, Step, phases_of, refused_at_once, begun_with}
+use Rattle.run_said.specs.run_model.StepLaws.{is_refusal}
+use Rattle.run_said.proofs.run_model.NodeLists.{found_name, put_node}
+use Rattle.run_said.proofs.run_model.CauseLemmas.{is_success}
+use Rattle.run_said.proofs.run_model.Failing.{begins_keeps, rose_before, way_keeps}
+use Rattle.run_said.proofs.run_model.TaskLemmas as task
+use Rattle.run_said.proofs.run_model.TaskLemmas.{First, Late, Success, Lacking, Failing, effect_name, outcome}
+use Rattle.run_said.proofs.run_model.PartLemmas.{EachPart, EachPhase, allowed_here, done_here, phases_fold, way}
+use Rattle.run_said.proofs.run_model.PartTasks.{all_asked, each_restart, each_run_down, each_up}
+use Rattle.run_said.proofs.run_model.Refusing.{same_last}
 use Rattle.run_laws.specs.Laws.{DownsAreFailures}
 use Rattle.run_laws.proofs.Answering.{answer_passes}
 use Rattle.run_laws.proofs.Labelling.{served_up}
 use Rattle.run_said.proofs.Passing.{AllPass, acknowledged_passes, append_passes, prepared_passes, printed_passes, released_passes, owed_passes}
 use Rattle.run_laws.proofs.ShownSettled.{in_append}
 use Rattle.run_laws.proofs.Staying.{find_put}
-use Rattle.world_laws.proofs.FileRows.{images_by, recovers_by, saves_by, sets_by, IsEntryLine}
+use Rattle.recovery_laws.proofs.world_laws.FileRows.{images_by, recovers_by, saves_by, sets_by, IsEntryLine}
 
 -- a line that is no DOWN
 abbrev is_undown : Line → Bool

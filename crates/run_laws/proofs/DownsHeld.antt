@@ -2,22 +2,22 @@
 use Rattle.std.proofs.Common.{◌≡◌, ℕ, ◌⊎◌, List, [], ◌∷◌, ◌++◌, inl, inr, Bool, true, false, Option, Some, None, refl, sym, ◌∙◌, ap, subst, append_assoc}
 use Rattle.std.specs.Option.{option_map}
 use Rattle.std.proofs.lemmas.Bool.{both_ways}
-use Rattle.transcript_model.specs.Lines as line
-use Rattle.transcript_model.specs.Lines.{Line, Cause}
-use Rattle.script_model.specs.Statements.{Statement, Request, At, Deliver, LinkDown, Settle, Clock, Reading, Says, Blank, Bad}
+use Rattle.run_said.specs.transcript_model.Lines as line
+use Rattle.run_said.specs.transcript_model.Lines.{Line, Cause}
+use Rattle.run_said.specs.script_model.Statements.{Statement, Request, At, Deliver, LinkDown, Settle, Clock, Reading, Says, Blank, Bad}
 use Rattle.commit_protocol.specs.Messages.{Message}
 use Rattle.commit_protocol.specs.World.{In}
-use Rattle.run_model.specs.World.{World, Node, DiskCounts, find_node, opened}
-use Rattle.run_model.specs.Answers.{Task, Takes, Hears, Ticks, LosesLink, task_service}
-use Rattle.run_model.specs.Steps.{Choice, task_effect}
-use Rattle.run_model.specs.Statements.{Part, Does, Asks, PartEffect, Question, Heard, Unanswered, Doubtful, Begins, Phase, Phases, Step, Allowed, AllowedAt, AllowedOf, done_at, question, question_effect, message_at, named_node, no_node, part_effect, stops_at, RoseAt, phases_of, refused_at_once, begun_with}
-use Rattle.run_model.specs.StepLaws.{TaskAt}
-use Rattle.run_model.specs.Transcript.{Entry, InAllRuns, Legal, Turn}
-use Rattle.run_model.proofs.NodeLists.{found_name}
-use Rattle.run_model.proofs.Failing.{failures}
-use Rattle.run_model.proofs.PartLemmas.{EachPart, EachPhase, allowed_here, done_here, phases_fold}
-use Rattle.run_model.proofs.PartTasks.{all_asked, each_restart, each_run_down, each_up}
-use Rattle.run_model.proofs.Refusing.{same_last}
+use Rattle.run_said.specs.run_model.World.{World, Node, DiskCounts, find_node, opened}
+use Rattle.run_said.specs.run_model.Answers.{Task, Takes, Hears, Ticks, LosesLink, task_service}
+use Rattle.run_said.specs.run_model.Steps.{Choice, task_effect}
+use Rattle.run_said.specs.run_model.Statements.{Part, Does, Asks, PartEffect, Question, Heard, Unanswered, Doubtful, Begins, Phase, Phases, Step, Allowed, AllowedAt, AllowedOf, done_at, question, question_effect, message_at, named_node, no_node, part_effect, stops_at, RoseAt, phases_of, refused_at_once, begun_with}
+use Rattle.run_said.specs.run_model.StepLaws.{TaskAt}
+use Rattle.run_said.specs.run_model.Transcript.{Entry, InAllRuns, Legal, Turn}
+use Rattle.run_said.proofs.run_model.NodeLists.{found_name}
+use Rattle.run_said.proofs.run_model.Failing.{failures}
+use Rattle.run_said.proofs.run_model.PartLemmas.{EachPart, EachPhase, allowed_here, done_here, phases_fold}
+use Rattle.run_said.proofs.run_model.PartTasks.{all_asked, each_restart, each_run_down, each_up}
+use Rattle.run_said.proofs.run_model.Refusing.{same_last}
 use Rattle.run_laws.specs.Causes.{WasSent}
 use Rattle.run_laws.specs.Promises.{DownsEnd, DownsHaveCauses, FailuresShowDown, MayPutDown, continues}
 use Rattle.run_laws.proofs.DownShown.{Ends, downs_are_failures, shown_before, task_fails}

@@ -2,12 +2,12 @@
 use Rattle.std.proofs.Common.{◌≡◌, ℕ, ◌⊎◌, List, [], ◌∷◌, ◌++◌, map, inl, inr, false, Some, None, refl, sym, ◌∙◌, ap, subst, arith}
 use Rattle.std.specs.List.{last_or}
 use Rattle.vms_model.specs.Ids.{Id}
-use Rattle.script_model.specs.Grammar.{reading}
+use Rattle.run_said.specs.script_model.Grammar.{reading}
 use Rattle.commit_protocol.specs.Table.{Key as BranchKey}
 use Rattle.commit_protocol.specs.World.{In}
-use Rattle.run_model.specs.World.{World, Node, Label, find_node, next_id, with_node}
-use Rattle.run_model.specs.Transcript.{Entry}
-use Rattle.run_model.proofs.NodeLists.{found_name, put_node, some_is}
+use Rattle.run_said.specs.run_model.World.{World, Node, Label, find_node, next_id, with_node}
+use Rattle.run_said.specs.run_model.Transcript.{Entry}
+use Rattle.run_said.proofs.run_model.NodeLists.{found_name, put_node, some_is}
 use Rattle.run_laws.specs.Naming.{IdsDiffer, ids_here, ids_told, labels_here, labels_told}
 use Rattle.run_laws.proofs.Moving.{HasOpen, IsPast}
 use Rattle.run_laws.specs.Causes.{HasBegun}

@@ -8,38 +8,38 @@ use Rattle.std.proofs.lemmas.Slice.Eq.{bytes_eq-Decides}
 use Rattle.vms_model.specs.Ids.{Id}
 use Rattle.vms_model.specs.Keys.{Key}
 use Rattle.vms_model.specs.Transactions.{Outcome, Commit, Abort}
-use Rattle.transcript_model.specs.Lines as line
-use Rattle.transcript_model.specs.Lines.{Line, Cause}
-use Rattle.script_model.specs.Statements.{At, Deliver, LinkDown, Settle, Request, Form, Init, Create, Records, Direct, Recover, Dump, Reading, Blank, Says, Bad}
-use Rattle.script_model.specs.Grammar.{reading}
-use Rattle.records_model.specs.Records.{Records as TheRecords}
-use Rattle.records_model.specs.History.{current, on_top, records}
+use Rattle.run_said.specs.transcript_model.Lines as line
+use Rattle.run_said.specs.transcript_model.Lines.{Line, Cause}
+use Rattle.run_said.specs.script_model.Statements.{At, Deliver, LinkDown, Settle, Request, Form, Init, Create, Records, Direct, Recover, Dump, Reading, Blank, Says, Bad}
+use Rattle.run_said.specs.script_model.Grammar.{reading}
+use Rattle.unit_laws.specs.records_model.Records.{Records as TheRecords}
+use Rattle.unit_laws.specs.records_model.History.{current, on_top, records}
 use Rattle.unit_laws.specs.Units.{SerialsDiffer}
 use Rattle.unit_laws.specs.JournalLaws.{is_unit}
 use Rattle.commit_protocol.specs.Table.{Settles}
 use Rattle.commit_protocol.specs.World.{In}
-use Rattle.run_model.specs.World.{World, Shared, Node, File, DiskCounts, Act, IsOpening, LastIsReached, Settlement, Tables, settlement, find_file, find_node, opened}
-use Rattle.run_model.specs.Answers.{Serves, Task, of_file, records_of, refused_before_reading, service, shown_record, there_is_file, unchanged_file}
-use Rattle.run_model.specs.Steps.{Choice, Cut, TaskAllowed, Unpowered, Whole, WithoutMemory, lines_of_rows, task_effect, whole}
-use Rattle.run_model.specs.Operations.{first_of, refused_if}
-use Rattle.run_model.specs.Statements.{Step, Begins, Phases, RoseAt, begun_with, named_node, other_node, phases_of, refused_at_once, stops_at}
-use Rattle.run_model.specs.StepLaws.{IsTask, is_refusal, task_of}
-use Rattle.run_model.specs.Transcript.{Entry, Legal, AreOpening, Turn}
-use Rattle.run_model.proofs.NodeLists.{found_name, put_node, some_is}
-use Rattle.run_model.proofs.CauseLemmas.{refuses_first}
-use Rattle.run_model.proofs.Failing.{once_refuses}
-use Rattle.run_model.proofs.PartLemmas.{turn}
-use Rattle.run_model.proofs.TaskLemmas.{effect_name}
+use Rattle.run_said.specs.run_model.World.{World, Shared, Node, File, DiskCounts, Act, IsOpening, LastIsReached, Settlement, Tables, settlement, find_file, find_node, opened}
+use Rattle.run_said.specs.run_model.Answers.{Serves, Task, of_file, records_of, refused_before_reading, service, shown_record, there_is_file, unchanged_file}
+use Rattle.run_said.specs.run_model.Steps.{Choice, Cut, TaskAllowed, Unpowered, Whole, WithoutMemory, lines_of_rows, task_effect, whole}
+use Rattle.run_said.specs.run_model.Operations.{first_of, refused_if}
+use Rattle.run_said.specs.run_model.Statements.{Step, Begins, Phases, RoseAt, begun_with, named_node, other_node, phases_of, refused_at_once, stops_at}
+use Rattle.run_said.specs.run_model.StepLaws.{IsTask, is_refusal, task_of}
+use Rattle.run_said.specs.run_model.Transcript.{Entry, Legal, AreOpening, Turn}
+use Rattle.run_said.proofs.run_model.NodeLists.{found_name, put_node, some_is}
+use Rattle.run_said.proofs.run_model.CauseLemmas.{refuses_first}
+use Rattle.run_said.proofs.run_model.Failing.{once_refuses}
+use Rattle.run_said.proofs.run_model.PartLemmas.{turn}
+use Rattle.run_said.proofs.run_model.TaskLemmas.{effect_name}
 use Rattle.run_laws.specs.Accounts.{Account, MayHave, Told, HasAccount, account_after, account_by, account_behind, commits_here, committed_in, is_up_in, known_again, recovered_by, recovered_here, created_here, file_of, left_sets, made_anew, no_account, direct_told, one_told, serial_told, sets_of, told_by, unsettled_in}
 use Rattle.run_laws.specs.Laws.{DumpsHold}
 use Rattle.run_laws.specs.Promises.{AbortsStand, AreLastApart, DumpPromises, DumpsShow, DumpsShowByAll, RecoveriesAreWhole, Shows, IsLastApart, IsNeverCommitted, settlements_of}
-use Rattle.world_laws.specs.Nodes.{IsKeptDisk, IsKeptNode}
-use Rattle.world_laws.specs.Running.{history_in, history_of}
-use Rattle.world_laws.proofs.DirectLemmas.{none_of}
-use Rattle.world_laws.proofs.AnswerLemmas.{neither}
-use Rattle.world_laws.proofs.ServedLemmas.{file_says, there_is as there_is_one, unchanged_rests}
-use Rattle.world_laws.proofs.HeldLemmas.{noted_at}
-use Rattle.world_laws.proofs.WorldLemmas.{each_opening}
+use Rattle.recovery_laws.specs.world_laws.Nodes.{IsKeptDisk, IsKeptNode}
+use Rattle.recovery_laws.specs.world_laws.Running.{history_in, history_of}
+use Rattle.recovery_laws.proofs.world_laws.DirectLemmas.{none_of}
+use Rattle.recovery_laws.proofs.world_laws.AnswerLemmas.{neither}
+use Rattle.recovery_laws.proofs.world_laws.ServedLemmas.{file_says, there_is as there_is_one, unchanged_rests}
+use Rattle.recovery_laws.proofs.world_laws.HeldLemmas.{noted_at}
+use Rattle.recovery_laws.proofs.world_laws.WorldLemmas.{each_opening}
 use Rattle.run_laws.proofs.AccountLemmas.{last_left, opening_tells, sure_records, sure_still, untold_left}
 use Rattle.run_laws.proofs.FileRequests.{IsKept, special_effect}
 use Rattle.run_laws.proofs.FileTelling.{Betrays, IsDoomed, IsToldDisk, IsToldUp, falls_told, or_else, task_quiet, telling, telling_keeps, tells_file}

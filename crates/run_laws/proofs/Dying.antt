@@ -5,10 +5,10 @@ use Rattle.std.specs.List.{list_any}
 use Rattle.std.proofs.lemmas.Bool.{both_ways, cases_Bool}
 use Rattle.vms_model.specs.Ids.{Id}
 use Rattle.vms_model.specs.Transactions.{Outcome, Commit, Abort, Reason}
-use Rattle.transcript_model.specs.Lines as line
-use Rattle.transcript_model.specs.Lines.{Line}
-use Rattle.script_model.specs.Statements.{Statement, Reading, Blank, Says, Bad}
-use Rattle.script_model.specs.Grammar.{reading}
+use Rattle.run_said.specs.transcript_model.Lines as line
+use Rattle.run_said.specs.transcript_model.Lines.{Line}
+use Rattle.run_said.specs.script_model.Statements.{Statement, Reading, Blank, Says, Bad}
+use Rattle.run_said.specs.script_model.Grammar.{reading}
 use Rattle.commit_protocol.specs.Messages as message
 use Rattle.commit_protocol.specs.Messages.{LogRecord, Message, Name, CommittedRecord, PreparedRecord, same_id}
 use Rattle.commit_protocol.specs.Table.{Branch, State, Joining, Active, Ending, Voting, Prepared, Sends, Key as BranchKey, branches_of, coordinator_of, find, first, key_of, prepared_records, record_key}
@@ -22,22 +22,22 @@ use Rattle.commit_protocol.proofs.Gathered.{is_shown}
 use Rattle.commit_protocol.proofs.Lists.{same_id-refl}
 use Rattle.commit_protocol.proofs.Opened.{good_opened, prepared_found}
 use Rattle.commit_protocol.proofs.Running.{agrees, goes_run}
-use Rattle.log_laws.specs.Slots.{committed_of, prepared_of, records_in}
-use Rattle.log_laws.proofs.Reading.{committed_is, permuted_back}
-use Rattle.run_model.specs.World.{World, Node, Act, Settlement, acted, find_node, settlement}
-use Rattle.run_model.specs.Statements.{Begins, Phases, Step, answer_in, answer_of, begun_with, phases_of, refused_at_once}
-use Rattle.run_model.specs.Transcript.{Entry, Legal, Turn}
-use Rattle.run_model.proofs.NodeLists.{some_is}
-use Rattle.run_model.proofs.PartLemmas.{phases_fold}
-use Rattle.run_model.proofs.Refusing.{each_phase}
+use Rattle.run_said.specs.log_laws.Slots.{committed_of, prepared_of, records_in}
+use Rattle.run_said.proofs.log_laws.Reading.{committed_is, permuted_back}
+use Rattle.run_said.specs.run_model.World.{World, Node, Act, Settlement, acted, find_node, settlement}
+use Rattle.run_said.specs.run_model.Statements.{Begins, Phases, Step, answer_in, answer_of, begun_with, phases_of, refused_at_once}
+use Rattle.run_said.specs.run_model.Transcript.{Entry, Legal, Turn}
+use Rattle.run_said.proofs.run_model.NodeLists.{some_is}
+use Rattle.run_said.proofs.run_model.PartLemmas.{phases_fold}
+use Rattle.run_said.proofs.run_model.Refusing.{each_phase}
 use Rattle.run_agreement.specs.Seen.{IsFace, Resolution, has_volume, landed, outcome_of}
 use Rattle.run_agreement.specs.Following.{Shows, opening_of}
 use Rattle.run_agreement.specs.Laws.{IsRun, MakesNoVolume, RunsFrom}
 use Rattle.run_agreement.proofs.Booting.{left_rearranged, ready_of}
 use Rattle.run_agreement.proofs.Events.{IsReached, down_of_face, up_of_face}
 use Rattle.run_agreement.proofs.Openings.{reached_by, runs_sim, told_settled}
-use Rattle.world_laws.proofs.BootLemmas.{branch_in}
-use Rattle.world_laws.proofs.LogLemmas.{prepared_branch}
+use Rattle.recovery_laws.proofs.world_laws.BootLemmas.{branch_in}
+use Rattle.recovery_laws.proofs.world_laws.LogLemmas.{prepared_branch}
 use Rattle.run_laws.specs.Promises.{settlements_of}
 use Rattle.run_laws.proofs.Falling.{RecordsOf, aborting}
 use Rattle.run_laws.proofs.Noting.{find_in}

@@ -1,20 +1,20 @@
 -- The lines and the answer of a task tell what it does to what nodes share and to whether its node is up.
 use Rattle.std.proofs.Common.{◌≡◌, ℕ, ◌+◌, zero, suc, List, [], ◌∷◌, ◌++◌, map, take, drop, Bool, true, false, not, ◌||◌, Option, Some, None, if◌then◌else◌, refl, sym, ◌∙◌, ap, subst, append-nil}
-use Rattle.transcript_model.specs.Lines as line
-use Rattle.transcript_model.specs.Lines.{Line, Cause, Failed}
-use Rattle.script_model.specs.Statements.{Request, Init, Boot, StartTrans, AddBranch}
+use Rattle.run_said.specs.transcript_model.Lines as line
+use Rattle.run_said.specs.transcript_model.Lines.{Line, Cause, Failed}
+use Rattle.run_said.specs.script_model.Statements.{Request, Init, Boot, StartTrans, AddBranch}
 use Rattle.commit_protocol.specs.Table as table
 use Rattle.commit_protocol.specs.Table.{Branch, Accepts}
 use Rattle.commit_protocol.specs.Rows.{row}
-use Rattle.run_model.specs.World.{Shared, Node, Label, Act, Boots, Tables, Labels, Draws, ComesUp, Falls, Formats, Outturn, Lost, Taken, Half, is_durable, acted, shared_after, fallen, powered, unpowered, next_id, tm_of}
-use Rattle.run_model.specs.Operations.{first_of, refused_if}
-use Rattle.run_model.specs.Answers.{Row, Service, Serves, Restarts, task_service, service, refused_before_reading, powers, spoils, occupies, branch_labelled, made_label, new_label, table_rows, silent, to_branch, adds, starts, in_state, is_first_active, prepared_lines}
-use Rattle.run_model.specs.Steps.{Choice, Whole, WithoutMemory, Unpowered, Cut, ServiceAllowed, service_effect, ready_node, node_after, shared_then, node_after_rows, shared_after_rows, lines_of_rows, rows_if, rows_to_cut, act_begun, if_durable, with_unknown_volume, whole, begun, occupied, succeeded, cut}
-use Rattle.run_model.proofs.NodeLists.{clash}
-use Rattle.run_model.proofs.TaskLemmas.{rows_name, ready_name}
-use Rattle.run_model.specs.StepLaws.{is_refusal}
-use Rattle.run_model.proofs.CauseLemmas.{refuses_first, refuses_then}
-use Rattle.run_model.proofs.Refusing.{not_ready}
+use Rattle.run_said.specs.run_model.World.{Shared, Node, Label, Act, Boots, Tables, Labels, Draws, ComesUp, Falls, Formats, Outturn, Lost, Taken, Half, is_durable, acted, shared_after, fallen, powered, unpowered, next_id, tm_of}
+use Rattle.run_said.specs.run_model.Operations.{first_of, refused_if}
+use Rattle.run_said.specs.run_model.Answers.{Row, Service, Serves, Restarts, task_service, service, refused_before_reading, powers, spoils, occupies, branch_labelled, made_label, new_label, table_rows, silent, to_branch, adds, starts, in_state, is_first_active, prepared_lines}
+use Rattle.run_said.specs.run_model.Steps.{Choice, Whole, WithoutMemory, Unpowered, Cut, ServiceAllowed, service_effect, ready_node, node_after, shared_then, node_after_rows, shared_after_rows, lines_of_rows, rows_if, rows_to_cut, act_begun, if_durable, with_unknown_volume, whole, begun, occupied, succeeded, cut}
+use Rattle.run_said.proofs.run_model.NodeLists.{clash}
+use Rattle.run_said.proofs.run_model.TaskLemmas.{rows_name, ready_name}
+use Rattle.run_said.specs.run_model.StepLaws.{is_refusal}
+use Rattle.run_said.proofs.run_model.CauseLemmas.{refuses_first, refuses_then}
+use Rattle.run_said.proofs.run_model.Refusing.{not_ready}
 use Rattle.run_said.specs.Said.{Said, SaidNode, with_up, with_use, with_unmade, with_label, lines_said, request_said}
 use Rattle.run_said.proofs.Views.{node_told, label_told, shared_told, View, AllTell, rows_tell, take_tells, said_append, used_then, up_view, unmade_view, label_lines, neutral_lines}
 use Rattle.run_laws.proofs.RowsTell.{makes_label, table_tells, boot_tells, prepared_neutral}

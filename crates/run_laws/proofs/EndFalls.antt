@@ -3,9 +3,9 @@ use Rattle.std.proofs.Common.{◌≡◌, ℕ, zero, suc, ◌⊎◌, List, [], �
 use Rattle.std.proofs.lemmas.Bool.{both_ways}
 use Rattle.vms_model.specs.Ids.{Id}
 use Rattle.vms_model.specs.Transactions.{Commit, Abort, Reason, SyncFail}
-use Rattle.transcript_model.specs.Lines as line
-use Rattle.transcript_model.specs.Lines.{Line, Cause}
-use Rattle.script_model.specs.Statements.{At, EndTrans}
+use Rattle.run_said.specs.transcript_model.Lines as line
+use Rattle.run_said.specs.transcript_model.Lines.{Line, Cause}
+use Rattle.run_said.specs.script_model.Statements.{At, EndTrans}
 use Rattle.commit_protocol.specs.Messages as message
 use Rattle.commit_protocol.specs.Messages.{LogRecord, Message, Name, RmEvent}
 use Rattle.commit_protocol.specs.Table as table
@@ -13,19 +13,19 @@ use Rattle.commit_protocol.specs.Table.{Branch, State, Ending, Key as BranchKey,
 use Rattle.commit_protocol.specs.Rows as rows
 use Rattle.commit_protocol.specs.Rows.{all_replied, all_taken, all_voted, begins_ending, commits_if_all, ending, row, sends_all, serials, tells, to_each, which_event, joined}
 use Rattle.commit_protocol.specs.World.{In}
-use Rattle.run_model.specs.World as world
-use Rattle.run_model.specs.World.{World, Shared, Node, Act, Settlement, Tables, acted, fallen, find_node, next_moment, shared_after, tm_of}
-use Rattle.run_model.specs.Answers as answers
-use Rattle.run_model.specs.Answers.{Row, Task, Serves, Service, service, task_service, refused_before_reading, branch_labelled, end_answer, in_state, is_first_active, just, made_label, powers, table_rows, told_rows, unsettled_label}
-use Rattle.run_model.specs.Steps.{Choice, Whole, WithoutMemory, Unpowered, Cut, TaskAllowed, act_begun, begun, node_after_rows, task_effect, whole}
-use Rattle.run_model.specs.Statements.{Step, stops_at, RoseAt}
-use Rattle.run_model.specs.Transcript.{Entry}
-use Rattle.run_model.specs.StepLaws.{is_refusal}
-use Rattle.run_model.proofs.CauseLemmas.{refuses_first}
-use Rattle.run_model.proofs.NodeLists.{clash, put_node, some_is}
-use Rattle.run_model.proofs.Refusing.{same_last}
-use Rattle.run_model.proofs.TaskLemmas.{effect_name}
-use Rattle.world_laws.proofs.TableLemmas.{in_serials}
+use Rattle.run_said.specs.run_model.World as world
+use Rattle.run_said.specs.run_model.World.{World, Shared, Node, Act, Settlement, Tables, acted, fallen, find_node, next_moment, shared_after, tm_of}
+use Rattle.run_said.specs.run_model.Answers as answers
+use Rattle.run_said.specs.run_model.Answers.{Row, Task, Serves, Service, service, task_service, refused_before_reading, branch_labelled, end_answer, in_state, is_first_active, just, made_label, powers, table_rows, told_rows, unsettled_label}
+use Rattle.run_said.specs.run_model.Steps.{Choice, Whole, WithoutMemory, Unpowered, Cut, TaskAllowed, act_begun, begun, node_after_rows, task_effect, whole}
+use Rattle.run_said.specs.run_model.Statements.{Step, stops_at, RoseAt}
+use Rattle.run_said.specs.run_model.Transcript.{Entry}
+use Rattle.run_said.specs.run_model.StepLaws.{is_refusal}
+use Rattle.run_said.proofs.run_model.CauseLemmas.{refuses_first}
+use Rattle.run_said.proofs.run_model.NodeLists.{clash, put_node, some_is}
+use Rattle.run_said.proofs.run_model.Refusing.{same_last}
+use Rattle.run_said.proofs.run_model.TaskLemmas.{effect_name}
+use Rattle.recovery_laws.proofs.world_laws.TableLemmas.{in_serials}
 use Rattle.run_laws.specs.Causes.{WasBegun}
 use Rattle.run_laws.proofs.Directed.{neither}
 use Rattle.run_laws.proofs.Ending.{active_is, active_unprepared, end_row, named_branch, row_is}
@@ -183,7 +183,7 @@ ending_falls before w v node label events cause sound h step = go (ended w v (At
         first_refused None is k = late ((service (EndTrans label)).refused_after_reading w.shared n) refl k
 
         by : (c : Choice) → TaskAllowed w.shared (stops_at node w) n (Serves (EndTrans label)) (λ cause. RoseAt w node cause v.disks) c → line.Broken cause ≡ (task_effect w.shared (stops_at node w) n (Serves (EndTrans label)) c).answer →
-            v ≡ record (Rattle.run_model.specs.Statements.put_into w node (task_effect w.shared (stops_at node w) n (Serves (EndTrans label)) c)).world { disks = v.disks } → FellEnding before node label v
+            v ≡ record (Rattle.run_said.specs.run_model.Statements.put_into w node (task_effect w.shared (stops_at node w) n (Serves (EndTrans label)) c)).world { disks = v.disks } → FellEnding before node label v
         by (Whole o) may k goes = absurd (first_refused (refused_before_reading w.shared n (service (EndTrans label))) refl (sym k))
         by WithoutMemory may k goes = let no : ⊥ = cc in absurd no
         by Unpowered may k goes = absurd (clash _ may.1 refl)

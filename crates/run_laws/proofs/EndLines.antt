@@ -1,5 +1,5 @@
 -- A task shows how a transaction ended only behind the line of that settlement, where the first branch was ending.
-use Rattle.log_laws.specs.Slots.{slot_records, records_in, committed_of, waiting_for}
+use Rattle.run_said.specs.log_laws.Slots.{slot_records, records_in, committed_of, waiting_for}
 use Rattle.std.proofs.Common.{◌≡◌, ℕ, ◌+◌, ◌⊎◌, List, [], ◌∷◌, ◌++◌, inl, inr, map, take, zero, suc, Bool, true, false, Option, Some, None, if◌then◌else◌, refl, sym, ◌∙◌, subst}
 use Rattle.std.specs.Prelude.{length, nat_lt}
 use Rattle.std.specs.Option.{option_map, option_and_then}
@@ -8,10 +8,10 @@ use Rattle.vms_model.specs.Ids.{Id}
 use Rattle.vms_model.specs.Keys.{Key}
 use Rattle.vms_model.specs.Transactions.{Outcome, Commit, Abort, Reason, Aborted}
 use Rattle.vms_model.specs.Limits.{message_limit}
-use Rattle.transcript_model.specs.Lines as line
-use Rattle.transcript_model.specs.Lines.{Line, Cause}
-use Rattle.script_model.specs.Statements.{Operation, Request, Init, Boot, Create, SetFile, StartTrans, AddBranch, StartBranch, Records, Direct, EndBranch, EndTrans, AbortTrans, Inquire, DeclareRm, JoinRm, AckEvent, ForgetRm, GetDti, LmcpShow, LmcpDump, Dump, DumpJournal, DumpImages, Backup, Recover, Fuse, Crash, Clock}
-use Rattle.records_model.specs.Records.{Change}
+use Rattle.run_said.specs.transcript_model.Lines as line
+use Rattle.run_said.specs.transcript_model.Lines.{Line, Cause}
+use Rattle.run_said.specs.script_model.Statements.{Operation, Request, Init, Boot, Create, SetFile, StartTrans, AddBranch, StartBranch, Records, Direct, EndBranch, EndTrans, AbortTrans, Inquire, DeclareRm, JoinRm, AckEvent, ForgetRm, GetDti, LmcpShow, LmcpDump, Dump, DumpJournal, DumpImages, Backup, Recover, Fuse, Crash, Clock}
+use Rattle.unit_laws.specs.records_model.Records.{Change}
 use Rattle.unit_laws.specs.Journal as journal
 use Rattle.unit_laws.specs.Journal.{JournalEntry, entry_size}
 use Rattle.commit_protocol.specs.Messages.{Reply, Name, LogRecord}
@@ -20,17 +20,17 @@ use Rattle.commit_protocol.specs.Table.{Branch, Key as BranchKey, Notes, Accepts
 use Rattle.commit_protocol.specs.Rows as rows
 use Rattle.commit_protocol.specs.Rows.{Event, row, Got}
 use Rattle.commit_protocol.specs.World.{In, undo_all}
-use Rattle.run_model.specs.World as world
-use Rattle.run_model.specs.World.{Shared, Node, Act, Tables, acted, shared_after, next_id, next_moment, tm_of}
-use Rattle.run_model.specs.Answers as answers
-use Rattle.run_model.specs.Answers.{Row, Service, Task, Serves, Ticks, Takes, Hears, LosesLink, RunsDown, Restarts, task_service, service, refused_before_reading, told_if, told_rows, table_rows, begins, just, shown_by, settled_line, branch_labelled, branch_named, powers}
-use Rattle.run_model.specs.Steps.{Choice, Whole, WithoutMemory, Unpowered, Cut, task_effect, ready_node, lines_of_rows, rows_if, rows_to_cut, whole, begun}
-use Rattle.run_model.proofs.Refusing.{not_ready}
+use Rattle.run_said.specs.run_model.World as world
+use Rattle.run_said.specs.run_model.World.{Shared, Node, Act, Tables, acted, shared_after, next_id, next_moment, tm_of}
+use Rattle.run_said.specs.run_model.Answers as answers
+use Rattle.run_said.specs.run_model.Answers.{Row, Service, Task, Serves, Ticks, Takes, Hears, LosesLink, RunsDown, Restarts, task_service, service, refused_before_reading, told_if, told_rows, table_rows, begins, just, shown_by, settled_line, branch_labelled, branch_named, powers}
+use Rattle.run_said.specs.run_model.Steps.{Choice, Whole, WithoutMemory, Unpowered, Cut, task_effect, ready_node, lines_of_rows, rows_if, rows_to_cut, whole, begun}
+use Rattle.run_said.proofs.run_model.Refusing.{not_ready}
 use Rattle.run_laws.specs.Promises.{ended_line}
 use Rattle.run_laws.proofs.EndRows.{ActEnds, AllEnd, IsEndingIn, Seen, SettlesSo, row_ends}
 use Rattle.run_laws.proofs.Labelling.{served_up}
 use Rattle.run_said.proofs.Passing.{AllPass, acknowledged_passes, append_passes, prepared_passes, released_passes, owed_passes, told_passes}
-use Rattle.world_laws.proofs.FileRows.{images_by, recovers_by, saves_by, sets_by, IsEntryLine}
+use Rattle.recovery_laws.proofs.world_laws.FileRows.{images_by, recovers_by, saves_by, sets_by, IsEntryLine}
 
 abbrev pub IsShownIn : List Line → Id → Option Reason → Type 0
 IsShownIn ls tid reason = (moment : ℕ) × In (ended_line tid reason moment) ls

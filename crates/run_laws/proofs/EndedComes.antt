@@ -5,10 +5,10 @@ use Rattle.std.proofs.lemmas.Bool.{both_ways}
 use Rattle.std.proofs.lemmas.Slice.Eq.{bytes_eq-Decides}
 use Rattle.vms_model.specs.Ids.{Id}
 use Rattle.vms_model.specs.Transactions.{Outcome, Commit, Abort, Reason, Aborted, Vetoed, SyncFail, Timeout, CommFail, SegFail}
-use Rattle.transcript_model.specs.Lines as line
-use Rattle.transcript_model.specs.Lines.{Line, Cause}
-use Rattle.script_model.specs.Statements.{Statement, At, Deliver, LinkDown, Settle, Request, Boot, Clock, EndTrans, Fuse, Init, StartTrans, Reading, Blank, Says, Bad}
-use Rattle.script_model.specs.Grammar.{reading}
+use Rattle.run_said.specs.transcript_model.Lines as line
+use Rattle.run_said.specs.transcript_model.Lines.{Line, Cause}
+use Rattle.run_said.specs.script_model.Statements.{Statement, At, Deliver, LinkDown, Settle, Request, Boot, Clock, EndTrans, Fuse, Init, StartTrans, Reading, Blank, Says, Bad}
+use Rattle.run_said.specs.script_model.Grammar.{reading}
 use Rattle.commit_protocol.specs.Messages.{LogRecord, Message}
 use Rattle.commit_protocol.specs.Table as table
 use Rattle.commit_protocol.specs.Table.{Branch, Key as BranchKey, Ending, Accepts, Acknowledges, Leaves, Notes, Prepares, Prints, Releases, Sends, Settles, Undoes, first}
@@ -17,25 +17,25 @@ use Rattle.commit_protocol.specs.Rows.{all_replied, all_taken, all_voted, begins
 use Rattle.commit_protocol.specs.Messages as message
 use Rattle.commit_protocol.specs.World.{In, undo_all}
 use Rattle.commit_protocol.proofs.Lists.{in_left, in_right}
-use Rattle.run_model.specs.World as world
-use Rattle.run_model.specs.World.{World, Shared, Node, Act, DiskCounts, Settlement, Boots, Directs, Formats, Outturn, Tables, acted, find_node, next_id, next_moment, opened, shared_after, tm_of}
-use Rattle.run_model.specs.Answers as answers
-use Rattle.run_model.specs.Answers.{Row, Service, Task, Serves, Ticks, Takes, Hears, LosesLink, RunsDown, Restarts, boot_rows, branch_labelled, just, last_lines, left_active, powers, prepared_lines, refused_before_reading, service, settled_line, table_rows, task_service, told_rows, unit_key}
-use Rattle.run_model.specs.Operations.{first_of, refused_if}
-use Rattle.run_model.specs.Steps.{Choice, TaskAllowed, TaskEffect, lines_of_rows, node_after, node_after_rows, ready_node, succeeded, task_effect}
-use Rattle.run_model.specs.Statements.{Part, Asks, Does, Doubtful, Heard, PartEffect, Phase, Phases, Begins, Question, Step, Unanswered, Allowed, RoseAt, begun_with, message_at, part_effect, phases_of, put_into, question, refused_at_once, stops_at, where_up}
-use Rattle.run_model.specs.StepLaws.{TaskAt, asked_by, task_of_part}
-use Rattle.run_model.specs.Transcript.{Entry, Legal, AreOpening, Turn as LineTurn}
-use Rattle.run_model.proofs.NodeLists.{found_name, some_is}
-use Rattle.run_model.proofs.PartLemmas.{EachPart, EachPhase, phases_fold}
-use Rattle.run_model.proofs.PartTasks.{View, Doing, Fixed, all_asked, each_restart, each_run_down, each_up, view}
-use Rattle.run_model.proofs.Refusing.{each_phase, not_ready}
-use Rattle.run_model.proofs.TaskLemmas as tasks
-use Rattle.run_model.proofs.TaskLemmas.{First, Late, Success, Lacking, Failing, effect_name, outcome, ready_name}
+use Rattle.run_said.specs.run_model.World as world
+use Rattle.run_said.specs.run_model.World.{World, Shared, Node, Act, DiskCounts, Settlement, Boots, Directs, Formats, Outturn, Tables, acted, find_node, next_id, next_moment, opened, shared_after, tm_of}
+use Rattle.run_said.specs.run_model.Answers as answers
+use Rattle.run_said.specs.run_model.Answers.{Row, Service, Task, Serves, Ticks, Takes, Hears, LosesLink, RunsDown, Restarts, boot_rows, branch_labelled, just, last_lines, left_active, powers, prepared_lines, refused_before_reading, service, settled_line, table_rows, task_service, told_rows, unit_key}
+use Rattle.run_said.specs.run_model.Operations.{first_of, refused_if}
+use Rattle.run_said.specs.run_model.Steps.{Choice, TaskAllowed, TaskEffect, lines_of_rows, node_after, node_after_rows, ready_node, succeeded, task_effect}
+use Rattle.run_said.specs.run_model.Statements.{Part, Asks, Does, Doubtful, Heard, PartEffect, Phase, Phases, Begins, Question, Step, Unanswered, Allowed, RoseAt, begun_with, message_at, part_effect, phases_of, put_into, question, refused_at_once, stops_at, where_up}
+use Rattle.run_said.specs.run_model.StepLaws.{TaskAt, asked_by, task_of_part}
+use Rattle.run_said.specs.run_model.Transcript.{Entry, Legal, AreOpening, Turn as LineTurn}
+use Rattle.run_said.proofs.run_model.NodeLists.{found_name, some_is}
+use Rattle.run_said.proofs.run_model.PartLemmas.{EachPart, EachPhase, phases_fold}
+use Rattle.run_said.proofs.run_model.PartTasks.{View, Doing, Fixed, all_asked, each_restart, each_run_down, each_up, view}
+use Rattle.run_said.proofs.run_model.Refusing.{each_phase, not_ready}
+use Rattle.run_said.proofs.run_model.TaskLemmas as tasks
+use Rattle.run_said.proofs.run_model.TaskLemmas.{First, Late, Success, Lacking, Failing, effect_name, outcome, ready_name}
 use Rattle.run_said.proofs.Passing.{AllPass, append_passes, prepared_passes}
-use Rattle.world_laws.proofs.AnswerLemmas.{neither, not_refused}
-use Rattle.world_laws.proofs.ServedLemmas.{undrawn}
-use Rattle.world_laws.proofs.UpLemmas.{differ}
+use Rattle.recovery_laws.proofs.world_laws.AnswerLemmas.{neither, not_refused}
+use Rattle.recovery_laws.proofs.world_laws.ServedLemmas.{undrawn}
+use Rattle.recovery_laws.proofs.world_laws.UpLemmas.{differ}
 use Rattle.run_laws.specs.Causes.{AbortCause, CommitCause, DeliversTo, IsDirect, WasEnded}
 use Rattle.run_laws.specs.Laws.{EndedComesHold}
 use Rattle.run_laws.specs.Promises.{EndedComes, IsUndoneByBoot, ShownThere, abort, commitment, ended_line, settlement_in}
@@ -455,17 +455,17 @@ module _ (es : List Entry) (node : List ℕ) (said : Reading) (is : said ≡ Say
   no_commit front (inl (inl c)) = let clash : Says (At node Boot) ≡ Says (At tid.node (EndTrans c.0)) = sym is ∙ c.1 in let no : ⊥ = cc in no
   no_commit front (inl (inr (inl (inl v, was, same)))) = undelivered v.1
   no_commit front (inl (inr (inl (inr v, was, same)))) = undelivered v.1
-  no_commit front (inl (inr (inr (inl r)))) = let clash : Says (At node Boot) ≡ Says (At tid.node (Rattle.script_model.specs.Statements.AckEvent (r.1).0 (r.1).1 r.0)) = sym is ∙ (r.1).2 in let no : ⊥ = cc in no
+  no_commit front (inl (inr (inr (inl r)))) = let clash : Says (At node Boot) ≡ Says (At tid.node (Rattle.run_said.specs.script_model.Statements.AckEvent (r.1).0 (r.1).1 r.0)) = sym is ∙ (r.1).2 in let no : ⊥ = cc in no
   no_commit front (inl (inr (inr (inr (inl d))))) = undelivered d
   no_commit front (inl (inr (inr (inr (inr a))))) = let clash : Says (At node Boot) ≡ Says Settle = sym is ∙ a.0 in let no : ⊥ = cc in no
-  no_commit front (inr c) = let clash : Says (At node Boot) ≡ Says (At tid.node (Rattle.script_model.specs.Statements.Direct c.0 c.1)) = sym is ∙ c.2 in let no : ⊥ = cc in no
+  no_commit front (inr c) = let clash : Says (At node Boot) ≡ Says (At tid.node (Rattle.run_said.specs.script_model.Statements.Direct c.0 c.1)) = sym is ∙ c.2 in let no : ⊥ = cc in no
 
   undone : (front behind : List Line) (reason : Reason) → AbortCause es said front reason tid tid → IsUndoneByBoot said behind tid (Some reason)
-  undone front behind Aborted (inl c) = let clash : Says (At node Boot) ≡ Says (At tid.node (Rattle.script_model.specs.Statements.AbortTrans c.0)) = sym is ∙ c.1 in let no : ⊥ = cc in absurd no
+  undone front behind Aborted (inl c) = let clash : Says (At node Boot) ≡ Says (At tid.node (Rattle.run_said.specs.script_model.Statements.AbortTrans c.0)) = sym is ∙ c.1 in let no : ⊥ = cc in absurd no
   undone front behind Aborted (inr (inl d)) = absurd (undelivered d)
   undone front behind Aborted (inr (inr a)) = let clash : Says (At node Boot) ≡ Says Settle = sym is ∙ a.0 in let no : ⊥ = cc in absurd no
   undone front behind Vetoed (inl (v, more)) = absurd (undelivered v.1)
-  undone front behind Vetoed (inr (r, begun)) = let clash : Says (At node Boot) ≡ Says (At tid.node (Rattle.script_model.specs.Statements.AckEvent r.0 r.1 message.VetoReply)) = sym is ∙ r.2 in let no : ⊥ = cc in absurd no
+  undone front behind Vetoed (inr (r, begun)) = let clash : Says (At node Boot) ≡ Says (At tid.node (Rattle.run_said.specs.script_model.Statements.AckEvent r.0 r.1 message.VetoReply)) = sym is ∙ r.2 in let no : ⊥ = cc in absurd no
   undone front behind SyncFail (inl c) = let clash : Says (At node Boot) ≡ Says (At tid.node (EndTrans c.0)) = sym is ∙ c.1 in let no : ⊥ = cc in absurd no
   undone front behind SyncFail (inr (d, begun)) = absurd (undelivered d)
   undone front behind Timeout c = let clash : Says (At node Boot) ≡ Says (At tid.node (Clock c.0)) = sym is ∙ c.1 in let no : ⊥ = cc in absurd no

@@ -3,23 +3,23 @@ use Rattle.std.proofs.Common.{◌≡◌, ℕ, ◌⊎◌, List, [], ◌∷◌, �
 use Rattle.std.specs.Option.{option_map}
 use Rattle.vms_model.specs.Ids.{Id}
 use Rattle.vms_model.specs.Transactions.{Reason}
-use Rattle.transcript_model.specs.Lines as line
-use Rattle.transcript_model.specs.Lines.{Line, Cause}
-use Rattle.script_model.specs.Statements.{Statement, At, Deliver, LinkDown, Settle, Request, Clock, Reading, Blank, Says, Bad}
+use Rattle.run_said.specs.transcript_model.Lines as line
+use Rattle.run_said.specs.transcript_model.Lines.{Line, Cause}
+use Rattle.run_said.specs.script_model.Statements.{Statement, At, Deliver, LinkDown, Settle, Request, Clock, Reading, Blank, Says, Bad}
 use Rattle.commit_protocol.specs.Messages.{Message}
 use Rattle.commit_protocol.specs.Table.{Key as BranchKey}
 use Rattle.commit_protocol.specs.Allowed.{is_prepared}
 use Rattle.commit_protocol.specs.World.{In}
-use Rattle.run_model.specs.World.{World, Node, DiskCounts, find_node, opened, with_node}
-use Rattle.run_model.specs.Answers.{Task, Serves, Ticks, Takes, LosesLink, RunsDown, Restarts}
-use Rattle.run_model.specs.Steps.{Choice, TaskEffect, task_effect}
-use Rattle.run_model.specs.Statements.{Part, Does, Asks, PartEffect, Begins, Phase, Phases, Step, Allowed, message_at, named_node, part_effect, stops_at, RoseAt, phases_of, refused_at_once, begun_with, where_up}
-use Rattle.run_model.specs.Transcript.{Entry, Legal, Turn as LineTurn}
-use Rattle.run_model.specs.StepLaws.{TaskAt, is_refusal, task_of}
-use Rattle.run_model.proofs.CauseLemmas.{is_success}
-use Rattle.run_model.proofs.PartLemmas.{EachPhase, phases_fold}
-use Rattle.run_model.proofs.PartTasks.{View, Doing, Fixed, all_asked, each_restart, each_run_down, each_up, view}
-use Rattle.run_model.proofs.Refusing.{same_last}
+use Rattle.run_said.specs.run_model.World.{World, Node, DiskCounts, find_node, opened, with_node}
+use Rattle.run_said.specs.run_model.Answers.{Task, Serves, Ticks, Takes, LosesLink, RunsDown, Restarts}
+use Rattle.run_said.specs.run_model.Steps.{Choice, TaskEffect, task_effect}
+use Rattle.run_said.specs.run_model.Statements.{Part, Does, Asks, PartEffect, Begins, Phase, Phases, Step, Allowed, message_at, named_node, part_effect, stops_at, RoseAt, phases_of, refused_at_once, begun_with, where_up}
+use Rattle.run_said.specs.run_model.Transcript.{Entry, Legal, Turn as LineTurn}
+use Rattle.run_said.specs.run_model.StepLaws.{TaskAt, is_refusal, task_of}
+use Rattle.run_said.proofs.run_model.CauseLemmas.{is_success}
+use Rattle.run_said.proofs.run_model.PartLemmas.{EachPhase, phases_fold}
+use Rattle.run_said.proofs.run_model.PartTasks.{View, Doing, Fixed, all_asked, each_restart, each_run_down, each_up, view}
+use Rattle.run_said.proofs.run_model.Refusing.{same_last}
 use Rattle.run_laws.specs.Causes.{WasEnded}
 use Rattle.run_laws.specs.Promises.{ShownThere, EndsSo, ended_line}
 use Rattle.run_laws.specs.Laws.{EndedHold}

@@ -3,10 +3,10 @@ use Rattle.std.proofs.Common.{◌≡◌, ℕ, List, [], ◌∷◌, ◌++◌, inl
 use Rattle.std.proofs.lemmas.Bool.{and_parts}
 use Rattle.vms_model.specs.Ids.{Id}
 use Rattle.vms_model.specs.Transactions.{Outcome, Commit, Abort, Reason, Aborted, SyncFail}
-use Rattle.transcript_model.specs.Lines as line
-use Rattle.transcript_model.specs.Lines.{Line, Cause}
-use Rattle.script_model.specs.Statements.{Statement, At, Request, EndTrans, AbortTrans}
-use Rattle.records_model.specs.History.{same_id}
+use Rattle.run_said.specs.transcript_model.Lines as line
+use Rattle.run_said.specs.transcript_model.Lines.{Line, Cause}
+use Rattle.run_said.specs.script_model.Statements.{Statement, At, Request, EndTrans, AbortTrans}
+use Rattle.unit_laws.specs.records_model.History.{same_id}
 use Rattle.unit_laws.proofs.LiveLemmas.{id_is, id_itself}
 use Rattle.commit_protocol.specs.Messages as message
 use Rattle.commit_protocol.specs.Messages.{LogRecord, Message, Name, RmEvent, PrepareEvent}
@@ -17,17 +17,17 @@ use Rattle.commit_protocol.specs.Rows.{all_replied, all_taken, all_voted, begins
 use Rattle.commit_protocol.specs.Allowed.{is_active, is_prepared}
 use Rattle.commit_protocol.specs.World.{In}
 use Rattle.commit_protocol.proofs.Lists.{in_left, in_right, same_id-refl, same_id-true, same_key-true, same_key-refl}
-use Rattle.run_model.specs.World.{World, Shared, Node, Label, Settlement, Tables, DiskCounts, acted, find_branch, find_node, next_moment, opened, reason_of, shared_after, tm_of}
-use Rattle.run_model.specs.Answers as answers
-use Rattle.run_model.specs.Answers.{Row, Task, Serves, Service, service, task_service, refused_before_reading, branch_labelled, end_answer, in_state, is_first_active, is_open, just, made_label, powers, settled_line, table_rows, to_branch, told_rows, unsettled_label}
-use Rattle.run_model.specs.Steps.{Choice, Whole, WithoutMemory, Unpowered, Cut, TaskAllowed, TaskEffect, task_effect, ready_node, succeeded, whole, begun, lines_of_rows}
-use Rattle.run_model.specs.Statements.{Step, stops_at, RoseAt}
-use Rattle.run_model.specs.Transcript.{Entry, Legal, Turn as LineTurn, AreOpening}
-use Rattle.run_model.specs.StepLaws.{is_refusal, task_of}
-use Rattle.run_model.proofs.NodeLists.{clash, found_name, put_node, some_is}
-use Rattle.run_model.proofs.CauseLemmas.{refuses_first, refuses_then}
-use Rattle.run_model.proofs.TaskLemmas.{effect_name}
-use Rattle.run_model.proofs.Refusing.{not_ready, same_last}
+use Rattle.run_said.specs.run_model.World.{World, Shared, Node, Label, Settlement, Tables, DiskCounts, acted, find_branch, find_node, next_moment, opened, reason_of, shared_after, tm_of}
+use Rattle.run_said.specs.run_model.Answers as answers
+use Rattle.run_said.specs.run_model.Answers.{Row, Task, Serves, Service, service, task_service, refused_before_reading, branch_labelled, end_answer, in_state, is_first_active, is_open, just, made_label, powers, settled_line, table_rows, to_branch, told_rows, unsettled_label}
+use Rattle.run_said.specs.run_model.Steps.{Choice, Whole, WithoutMemory, Unpowered, Cut, TaskAllowed, TaskEffect, task_effect, ready_node, succeeded, whole, begun, lines_of_rows}
+use Rattle.run_said.specs.run_model.Statements.{Step, stops_at, RoseAt}
+use Rattle.run_said.specs.run_model.Transcript.{Entry, Legal, Turn as LineTurn, AreOpening}
+use Rattle.run_said.specs.run_model.StepLaws.{is_refusal, task_of}
+use Rattle.run_said.proofs.run_model.NodeLists.{clash, found_name, put_node, some_is}
+use Rattle.run_said.proofs.run_model.CauseLemmas.{refuses_first, refuses_then}
+use Rattle.run_said.proofs.run_model.TaskLemmas.{effect_name}
+use Rattle.run_said.proofs.run_model.Refusing.{not_ready, same_last}
 use Rattle.run_laws.specs.Naming.{IsNamed, find_told}
 use Rattle.run_laws.specs.Causes.{WasBegun}
 use Rattle.run_laws.specs.SaidLaws.{SaidThere}

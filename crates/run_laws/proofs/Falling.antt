@@ -4,9 +4,9 @@ use Rattle.std.proofs.Common.{◌≡◌, ℕ, zero, suc, ◌⊎◌, List, [], �
 use Rattle.std.proofs.lemmas.Bool.{both_ways}
 use Rattle.vms_model.specs.Ids.{Id}
 use Rattle.vms_model.specs.Transactions.{Outcome, Commit, Abort, Reason, Vetoed}
-use Rattle.transcript_model.specs.Lines as line
-use Rattle.transcript_model.specs.Lines.{Line, Cause}
-use Rattle.script_model.specs.Statements.{Init, Boot, Direct, EndTrans, AbortTrans, AckEvent, Fuse, Clock}
+use Rattle.run_said.specs.transcript_model.Lines as line
+use Rattle.run_said.specs.transcript_model.Lines.{Line, Cause}
+use Rattle.run_said.specs.script_model.Statements.{Init, Boot, Direct, EndTrans, AbortTrans, AckEvent, Fuse, Clock}
 use Rattle.commit_protocol.specs.Messages as message
 use Rattle.commit_protocol.specs.Messages.{LogRecord, Message, Name, Kind, RmEvent}
 use Rattle.commit_protocol.specs.Table as table
@@ -16,19 +16,19 @@ use Rattle.commit_protocol.specs.Rows.{Event, Got, abort_row, abort_state, inter
 use Rattle.commit_protocol.specs.Allowed.{is_prepared}
 use Rattle.commit_protocol.specs.World.{In, undo_all}
 use Rattle.commit_protocol.proofs.Lists.{find-key}
-use Rattle.log_laws.specs.Slots.{prepared_of, records_in}
-use Rattle.run_model.specs.World as world
-use Rattle.run_model.specs.World.{Shared, Node, Act, Tables, Outturn, acted, fallen, next_moment, powered, shared_after, tm_of, unpowered}
-use Rattle.run_model.specs.Answers as answers
-use Rattle.run_model.specs.Answers.{Row, Service, Task, Serves, Ticks, Takes, Hears, LosesLink, RunsDown, Restarts, boot_rows, branch_labelled, just, powers, refused_before_reading, service, shown_line, spoils, table_rows, task_service, told_if, told_rows, touches, unit_key}
-use Rattle.run_model.specs.Operations.{refused_if}
-use Rattle.run_model.specs.Steps.{Choice, Cut, TaskAllowed, Unpowered, Whole, WithoutMemory, act_begun, begun, node_after, node_after_rows, ready_node, rows_if, rows_to_cut, task_effect, whole, with_unknown_volume}
-use Rattle.run_model.proofs.Refusing.{not_ready}
-use Rattle.world_laws.specs.Nodes.{IsKeptNode, IsUp}
-use Rattle.world_laws.proofs.AnswerLemmas.{neither, not_refused}
-use Rattle.world_laws.proofs.LogLemmas.{branch_of}
-use Rattle.world_laws.proofs.TableLemmas.{found_in, in_serials, one_branch}
-use Rattle.world_laws.proofs.UpLemmas.{branch_drawn, differ}
+use Rattle.run_said.specs.log_laws.Slots.{prepared_of, records_in}
+use Rattle.run_said.specs.run_model.World as world
+use Rattle.run_said.specs.run_model.World.{Shared, Node, Act, Tables, Outturn, acted, fallen, next_moment, powered, shared_after, tm_of, unpowered}
+use Rattle.run_said.specs.run_model.Answers as answers
+use Rattle.run_said.specs.run_model.Answers.{Row, Service, Task, Serves, Ticks, Takes, Hears, LosesLink, RunsDown, Restarts, boot_rows, branch_labelled, just, powers, refused_before_reading, service, shown_line, spoils, table_rows, task_service, told_if, told_rows, touches, unit_key}
+use Rattle.run_said.specs.run_model.Operations.{refused_if}
+use Rattle.run_said.specs.run_model.Steps.{Choice, Cut, TaskAllowed, Unpowered, Whole, WithoutMemory, act_begun, begun, node_after, node_after_rows, ready_node, rows_if, rows_to_cut, task_effect, whole, with_unknown_volume}
+use Rattle.run_said.proofs.run_model.Refusing.{not_ready}
+use Rattle.recovery_laws.specs.world_laws.Nodes.{IsKeptNode, IsUp}
+use Rattle.recovery_laws.proofs.world_laws.AnswerLemmas.{neither, not_refused}
+use Rattle.recovery_laws.proofs.world_laws.LogLemmas.{branch_of}
+use Rattle.recovery_laws.proofs.world_laws.TableLemmas.{found_in, in_serials, one_branch}
+use Rattle.recovery_laws.proofs.world_laws.UpLemmas.{branch_drawn, differ}
 use Rattle.run_laws.proofs.EffectsTell.{after_under, rows_under}
 use Rattle.run_laws.proofs.Keeping.{AllTake, begun_act, closes_none, rows_cut}
 use Rattle.run_laws.proofs.Moments.{ready_either}

@@ -7,10 +7,10 @@ use Rattle.std.specs.Option.{is_some}
 use Rattle.std.proofs.lemmas.Bool.{both_ways}
 use Rattle.vms_model.specs.Ids.{Id}
 use Rattle.vms_model.specs.Transactions.{Outcome, Commit, Abort, Reason, Aborted, Vetoed, SyncFail, Timeout, CommFail, SegFail}
-use Rattle.transcript_model.specs.Lines as line
-use Rattle.transcript_model.specs.Lines.{Line, Cause}
-use Rattle.script_model.specs.Statements.{Request, Init, Boot, StartTrans, AddBranch, StartBranch, Direct, EndTrans, AbortTrans, AckEvent}
-use Rattle.records_model.specs.History.{same_id}
+use Rattle.run_said.specs.transcript_model.Lines as line
+use Rattle.run_said.specs.transcript_model.Lines.{Line, Cause}
+use Rattle.run_said.specs.script_model.Statements.{Request, Init, Boot, StartTrans, AddBranch, StartBranch, Direct, EndTrans, AbortTrans, AckEvent}
+use Rattle.unit_laws.specs.records_model.History.{same_id}
 use Rattle.unit_laws.specs.Journal.{RecoveryUnit, find_unit, units_in}
 use Rattle.unit_laws.specs.Units.{Map}
 use Rattle.unit_laws.proofs.LiveLemmas.{id_is}
@@ -20,14 +20,14 @@ use Rattle.commit_protocol.specs.Table as table
 use Rattle.commit_protocol.specs.Table.{Branch, Key as BranchKey, Settles, child}
 use Rattle.commit_protocol.specs.Allowed.{is_prepared}
 use Rattle.commit_protocol.specs.World.{In}
-use Rattle.run_model.specs.World as world
-use Rattle.run_model.specs.World.{World, Shared, Node, Act, Durable, Settlement, Tables, acted, next_moment, aborted_prepared, with_half, prepared_left, tm_of}
-use Rattle.run_model.specs.Answers.{Row, Task, Serves, Ticks, Takes, Hears, LosesLink, RunsDown, Restarts, task_service, service, powers, last_line, last_lines, settled_line, unit_key}
-use Rattle.run_model.specs.Steps.{Choice, TaskAllowed, task_effect, node_after}
-use Rattle.world_laws.specs.Nodes.{IsUp}
-use Rattle.world_laws.proofs.BootLemmas.{branch_in}
-use Rattle.world_laws.proofs.RestartLemmas.{has_settled, undone_unit}
-use Rattle.world_laws.proofs.TableLemmas.{in_cut}
+use Rattle.run_said.specs.run_model.World as world
+use Rattle.run_said.specs.run_model.World.{World, Shared, Node, Act, Durable, Settlement, Tables, acted, next_moment, aborted_prepared, with_half, prepared_left, tm_of}
+use Rattle.run_said.specs.run_model.Answers.{Row, Task, Serves, Ticks, Takes, Hears, LosesLink, RunsDown, Restarts, task_service, service, powers, last_line, last_lines, settled_line, unit_key}
+use Rattle.run_said.specs.run_model.Steps.{Choice, TaskAllowed, task_effect, node_after}
+use Rattle.recovery_laws.specs.world_laws.Nodes.{IsUp}
+use Rattle.recovery_laws.proofs.world_laws.BootLemmas.{branch_in}
+use Rattle.recovery_laws.proofs.world_laws.RestartLemmas.{has_settled, undone_unit}
+use Rattle.recovery_laws.proofs.world_laws.TableLemmas.{in_cut}
 use Rattle.run_laws.specs.Promises.{abort, settlement_in}
 use Rattle.run_laws.proofs.EachRow.{ArePlain, is_plain}
 use Rattle.run_laws.proofs.Keeping.{AllTake, Keeps, Kept, Scheme, any_effect, down_effect, is_special, closes_plain}

@@ -6,30 +6,30 @@ use Rattle.std.proofs.lemmas.Bool.{both_ways}
 use Rattle.std.proofs.lemmas.Slice.Eq.{bytes_eq-Decides}
 use Rattle.vms_model.specs.Ids.{Id}
 use Rattle.vms_model.specs.Transactions.{SegFail}
-use Rattle.transcript_model.specs.Lines as line
-use Rattle.transcript_model.specs.Lines.{Line, Cause}
-use Rattle.script_model.specs.Statements.{Request, Statement, At, Reading, Says, StartTrans, AddBranch, StartBranch}
-use Rattle.script_model.specs.Grammar.{reading}
+use Rattle.run_said.specs.transcript_model.Lines as line
+use Rattle.run_said.specs.transcript_model.Lines.{Line, Cause}
+use Rattle.run_said.specs.script_model.Statements.{Request, Statement, At, Reading, Says, StartTrans, AddBranch, StartBranch}
+use Rattle.run_said.specs.script_model.Grammar.{reading}
 use Rattle.unit_laws.specs.Journal.{find_unit, units_in}
 use Rattle.commit_protocol.specs.Table as table
 use Rattle.commit_protocol.specs.Table.{Branch, State, Key as BranchKey, child, find, first}
 use Rattle.commit_protocol.specs.Rows as rows
 use Rattle.commit_protocol.specs.Rows.{row}
 use Rattle.commit_protocol.specs.World.{In}
-use Rattle.run_model.specs.World as world
-use Rattle.run_model.specs.World.{World, Shared, Node, Act, DiskCounts, IsOpening, Label, Settlement, Tables, acted, find_node, next_moment, opened, shared_after, tm_of}
-use Rattle.run_model.specs.Answers as answers
-use Rattle.run_model.specs.Answers.{Row, Serves, Service, begins, branch_labelled, refused_before_reading, service, table_rows, told_if, told_rows}
-use Rattle.run_model.specs.Steps.{node_after, node_after_rows, succeeded}
-use Rattle.run_model.specs.Statements.{Step}
-use Rattle.run_model.specs.Transcript.{Entry, AreOpening, Legal, Turn}
-use Rattle.run_model.specs.Operations.{first_of, refused_if}
-use Rattle.run_model.specs.StepLaws.{task_of}
-use Rattle.run_model.proofs.NodeLists.{found_name, put_node, some_is}
-use Rattle.world_laws.specs.Nodes.{IsKeptDisk, IsKeptNode}
-use Rattle.run_model.proofs.TaskLemmas.{rows_name}
-use Rattle.world_laws.proofs.NodeLemmas.{rows_way}
-use Rattle.world_laws.proofs.WorldLemmas.{each_opening}
+use Rattle.run_said.specs.run_model.World as world
+use Rattle.run_said.specs.run_model.World.{World, Shared, Node, Act, DiskCounts, IsOpening, Label, Settlement, Tables, acted, find_node, next_moment, opened, shared_after, tm_of}
+use Rattle.run_said.specs.run_model.Answers as answers
+use Rattle.run_said.specs.run_model.Answers.{Row, Serves, Service, begins, branch_labelled, refused_before_reading, service, table_rows, told_if, told_rows}
+use Rattle.run_said.specs.run_model.Steps.{node_after, node_after_rows, succeeded}
+use Rattle.run_said.specs.run_model.Statements.{Step}
+use Rattle.run_said.specs.run_model.Transcript.{Entry, AreOpening, Legal, Turn}
+use Rattle.run_said.specs.run_model.Operations.{first_of, refused_if}
+use Rattle.run_said.specs.run_model.StepLaws.{task_of}
+use Rattle.run_said.proofs.run_model.NodeLists.{found_name, put_node, some_is}
+use Rattle.recovery_laws.specs.world_laws.Nodes.{IsKeptDisk, IsKeptNode}
+use Rattle.run_said.proofs.run_model.TaskLemmas.{rows_name}
+use Rattle.recovery_laws.proofs.world_laws.NodeLemmas.{rows_way}
+use Rattle.recovery_laws.proofs.world_laws.WorldLemmas.{each_opening}
 use Rattle.run_laws.specs.Causes.{AbortCause, HasBegun}
 use Rattle.run_laws.specs.Promises.{ShownThere, WasLeft, abort, settlements_of}
 use Rattle.run_laws.specs.Laws.{FallsBegunHold}

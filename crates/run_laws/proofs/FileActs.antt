@@ -8,30 +8,30 @@ use Rattle.std.proofs.lemmas.Slice.Eq.{bytes_eq-Decides}
 use Rattle.vms_model.specs.Ids.{Id}
 use Rattle.vms_model.specs.Keys.{Key}
 use Rattle.vms_model.specs.Transactions.{Commit}
-use Rattle.records_model.specs.Records.{Records, Change, applied}
-use Rattle.records_model.specs.History.{History, LiveChanges, changed_with, changes_by, records, same_id, settled_at, with_changes}
+use Rattle.unit_laws.specs.records_model.Records.{Records, Change, applied}
+use Rattle.unit_laws.specs.records_model.History.{History, LiveChanges, changed_with, changes_by, records, same_id, settled_at, with_changes}
 use Rattle.unit_laws.specs.JournalLaws.{is_unit}
 use Rattle.commit_protocol.specs.Messages.{LogRecord}
 use Rattle.commit_protocol.specs.Table.{Branch, branch_serials}
 use Rattle.commit_protocol.specs.Allowed.{is_prepared}
 use Rattle.commit_protocol.specs.World.{In}
-use Rattle.log_laws.specs.Slots.{prepared_of, records_in}
-use Rattle.run_model.specs.Locks.{is_locked}
-use Rattle.run_model.specs.World.{Node, Durable, File, Changes, Creates, Directs, Recovers, Settlement, acted, changed_file, directly_changed, find_file, recovered_file, free_place, next_id, with_file}
-use Rattle.run_model.specs.Answers as answers
+use Rattle.run_said.specs.log_laws.Slots.{prepared_of, records_in}
+use Rattle.run_said.specs.run_model.Locks.{is_locked}
+use Rattle.run_said.specs.run_model.World.{Node, Durable, File, Changes, Creates, Directs, Recovers, Settlement, acted, changed_file, directly_changed, find_file, recovered_file, free_place, next_id, with_file}
+use Rattle.run_said.specs.run_model.Answers as answers
 use Rattle.run_laws.specs.Accounts.{Account, MayHave, Set, Told, left_by, told_by, with_sets}
-use Rattle.world_laws.specs.Nodes.{IsOf, IsUp}
-use Rattle.world_laws.specs.Running.{IsDrawn, history_in, history_of}
-use Rattle.world_laws.proofs.IdLemmas.{id_is, id_itself}
-use Rattle.world_laws.proofs.DirectLemmas.{live_same, none_of}
-use Rattle.world_laws.proofs.FindLemmas.{either_way, placed_file, some_is}
-use Rattle.world_laws.proofs.HeldLemmas.{noted_at}
-use Rattle.world_laws.proofs.HistoryLemmas.{applied_append, by_with_changes, committed_leaves}
-use Rattle.world_laws.proofs.LogLemmas.{branch_of}
-use Rattle.world_laws.proofs.RunningLemmas.{none_after}
-use Rattle.world_laws.proofs.ServedLemmas.{undrawn}
-use Rattle.world_laws.proofs.TableLemmas.{changed_serials, in_serials, one_branch}
-use Rattle.world_laws.proofs.UpLemmas.{branch_drawn, differ, drawn_more}
+use Rattle.recovery_laws.specs.world_laws.Nodes.{IsOf, IsUp}
+use Rattle.recovery_laws.specs.world_laws.Running.{IsDrawn, history_in, history_of}
+use Rattle.recovery_laws.proofs.world_laws.IdLemmas.{id_is, id_itself}
+use Rattle.recovery_laws.proofs.world_laws.DirectLemmas.{live_same, none_of}
+use Rattle.recovery_laws.proofs.world_laws.FindLemmas.{either_way, placed_file, some_is}
+use Rattle.recovery_laws.proofs.world_laws.HeldLemmas.{noted_at}
+use Rattle.recovery_laws.proofs.world_laws.HistoryLemmas.{applied_append, by_with_changes, committed_leaves}
+use Rattle.recovery_laws.proofs.world_laws.LogLemmas.{branch_of}
+use Rattle.recovery_laws.proofs.world_laws.RunningLemmas.{none_after}
+use Rattle.recovery_laws.proofs.world_laws.ServedLemmas.{undrawn}
+use Rattle.recovery_laws.proofs.world_laws.TableLemmas.{changed_serials, in_serials, one_branch}
+use Rattle.recovery_laws.proofs.world_laws.UpLemmas.{branch_drawn, differ, drawn_more}
 use Rattle.run_laws.proofs.AccountLemmas.{IsUntold, TellSame, history_here, history_kept, history_placed, last_left, last_same, left_given, left_is, left_may, sure_still, left_others, left_told, shown_left}
 use Rattle.run_laws.proofs.FileTelling.{IsTold, IsToldDisk, IsToldUp, falls_told, no_changes}
 use Rattle.run_laws.proofs.Once.{unit_branch}

@@ -6,38 +6,38 @@ use Rattle.std.specs.FinMap.{empty, entries}
 use Rattle.std.proofs.lemmas.Bool.{and_parts, both_ways}
 use Rattle.std.proofs.lemmas.Slice.Eq.{bytes_eq-Decides}
 use Rattle.vms_model.specs.Ids.{Id}
-use Rattle.transcript_model.specs.Lines as line
-use Rattle.transcript_model.specs.Lines.{Line, Cause}
-use Rattle.script_model.specs.Statements.{At, Request, Init, Create, Records, Direct, Form, Operation, Recover, Recovery, Says}
-use Rattle.records_model.specs.Records.{Records as TheRecords, Change, applied}
-use Rattle.records_model.specs.History.{records}
+use Rattle.run_said.specs.transcript_model.Lines as line
+use Rattle.run_said.specs.transcript_model.Lines.{Line, Cause}
+use Rattle.run_said.specs.script_model.Statements.{At, Request, Init, Create, Records, Direct, Form, Operation, Recover, Recovery, Says}
+use Rattle.unit_laws.specs.records_model.Records.{Records as TheRecords, Change, applied}
+use Rattle.unit_laws.specs.records_model.History.{records}
 use Rattle.commit_protocol.specs.Table.{Branch, State, Active, Ending, Joining, Prepared, Voting, branch_serials}
 use Rattle.commit_protocol.specs.Allowed.{is_active, is_prepared, is_working}
 use Rattle.commit_protocol.specs.World.{In}
-use Rattle.log_laws.specs.Slots.{prepared_of}
-use Rattle.run_model.specs.World as world
-use Rattle.run_model.specs.World.{World, Shared, Node, File, Act, Changes, Creates, Directs, Formats, Holds, Outturn, Recovers, acted, fallen, find_file, find_node, free_place, is_durable, lowest_free, next_id, next_moment, powered}
-use Rattle.run_model.specs.Operations.{changes_of, form_refused, operation_answer, refused_if}
-use Rattle.run_model.specs.Answers as answers
-use Rattle.run_model.specs.Answers.{Row, Service, Serves, blocks_for, branch_labelled, changes_at, commit_settlement, created, creates, directed, in_state, keys_at, made_label, needs_unit, new_file, of_file, operated, operation_act, operation_told, powers, records_recovered, refused_before_reading, service, silent, there_is_file, to_branch, unsettled_label}
-use Rattle.run_model.specs.Steps.{Choice, Cut, TaskAllowed, Unpowered, Whole, WithoutMemory, act_begun, begun, if_durable, lines_of_rows, node_after, node_after_rows, ready_node, rows_if, rows_to_cut, task_effect, whole, with_unknown_volume}
-use Rattle.run_model.specs.Transcript.{Entry}
-use Rattle.run_model.specs.StepLaws.{is_refusal}
-use Rattle.run_model.proofs.NodeLists.{found_name}
-use Rattle.run_model.proofs.CauseLemmas.{refuses_first, refuses_then, task_succeeds}
+use Rattle.run_said.specs.log_laws.Slots.{prepared_of}
+use Rattle.run_said.specs.run_model.World as world
+use Rattle.run_said.specs.run_model.World.{World, Shared, Node, File, Act, Changes, Creates, Directs, Formats, Holds, Outturn, Recovers, acted, fallen, find_file, find_node, free_place, is_durable, lowest_free, next_id, next_moment, powered}
+use Rattle.run_said.specs.run_model.Operations.{changes_of, form_refused, operation_answer, refused_if}
+use Rattle.run_said.specs.run_model.Answers as answers
+use Rattle.run_said.specs.run_model.Answers.{Row, Service, Serves, blocks_for, branch_labelled, changes_at, commit_settlement, created, creates, directed, in_state, keys_at, made_label, needs_unit, new_file, of_file, operated, operation_act, operation_told, powers, records_recovered, refused_before_reading, service, silent, there_is_file, to_branch, unsettled_label}
+use Rattle.run_said.specs.run_model.Steps.{Choice, Cut, TaskAllowed, Unpowered, Whole, WithoutMemory, act_begun, begun, if_durable, lines_of_rows, node_after, node_after_rows, ready_node, rows_if, rows_to_cut, task_effect, whole, with_unknown_volume}
+use Rattle.run_said.specs.run_model.Transcript.{Entry}
+use Rattle.run_said.specs.run_model.StepLaws.{is_refusal}
+use Rattle.run_said.proofs.run_model.NodeLists.{found_name}
+use Rattle.run_said.proofs.run_model.CauseLemmas.{refuses_first, refuses_then, task_succeeds}
 use Rattle.run_laws.specs.Accounts.{Account, MayHave, Told, account_by, broken_id, broken_sets, commits_here, created_here, direct_told, file_of, given_in, left_by, made_anew, no_account, one_told, recovered_by, recovered_here, serial_told, sets_here, sets_of, with_sets}
 use Rattle.run_laws.specs.Naming.{ToldLabel, find_told, labels_told}
-use Rattle.world_laws.specs.Nodes.{AreUp, IsUp}
-use Rattle.world_laws.specs.Running.{history_in, history_of}
-use Rattle.world_laws.proofs.AnswerLemmas.{neither, not_refused}
-use Rattle.world_laws.proofs.EffectLemmas.{none_in}
-use Rattle.world_laws.proofs.Induction.{powered_name}
-use Rattle.world_laws.proofs.FindLemmas.{some_is}
-use Rattle.world_laws.proofs.NodeLemmas.{last_up, rows_way}
-use Rattle.world_laws.proofs.OperationLemmas.{changes_there}
-use Rattle.world_laws.proofs.ServedLemmas.{file_says, not_there, recovery_rests, there_is as there_is_one}
-use Rattle.world_laws.proofs.TableLemmas.{in_serials}
-use Rattle.world_laws.proofs.TaskLemmas.{holds_it, task_rows}
+use Rattle.recovery_laws.specs.world_laws.Nodes.{AreUp, IsUp}
+use Rattle.recovery_laws.specs.world_laws.Running.{history_in, history_of}
+use Rattle.recovery_laws.proofs.world_laws.AnswerLemmas.{neither, not_refused}
+use Rattle.recovery_laws.proofs.world_laws.EffectLemmas.{none_in}
+use Rattle.recovery_laws.proofs.world_laws.Induction.{powered_name}
+use Rattle.recovery_laws.proofs.world_laws.FindLemmas.{some_is}
+use Rattle.recovery_laws.proofs.world_laws.NodeLemmas.{last_up, rows_way}
+use Rattle.recovery_laws.proofs.world_laws.OperationLemmas.{changes_there}
+use Rattle.recovery_laws.proofs.world_laws.ServedLemmas.{file_says, not_there, recovery_rests, there_is as there_is_one}
+use Rattle.recovery_laws.proofs.world_laws.TableLemmas.{in_serials}
+use Rattle.recovery_laws.proofs.world_laws.TaskLemmas.{holds_it, task_rows}
 use Rattle.run_laws.proofs.AccountLemmas.{TellSame, commits_plain, sure_records, sure_still}
 use Rattle.run_laws.proofs.EachRow.{is_plain}
 use Rattle.run_laws.proofs.FileActs.{broken_disk, created_beside, created_up, directs_up, disk_same, entered_disk, entered_up, recovers_up, telling_more, up_same}

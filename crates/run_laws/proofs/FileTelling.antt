@@ -7,11 +7,11 @@ use Rattle.std.specs.Option.{option_and_then, option_map}
 use Rattle.std.proofs.lemmas.Bool.{both_ways, false_from_ne_true}
 use Rattle.vms_model.specs.Ids.{Id}
 use Rattle.vms_model.specs.Transactions.{Outcome, Commit, Abort, Reason, Aborted, SegFail}
-use Rattle.transcript_model.specs.Lines as line
-use Rattle.transcript_model.specs.Lines.{Line}
-use Rattle.script_model.specs.Statements.{Operation, Request, Init, Boot, Create, SetFile, StartTrans, AddBranch, StartBranch, Records, Direct, EndBranch, EndTrans, AbortTrans, Inquire, DeclareRm, JoinRm, AckEvent, ForgetRm, GetDti, LmcpShow, LmcpDump, Dump, DumpJournal, DumpImages, Backup, Recover, Fuse, Crash, Clock}
-use Rattle.records_model.specs.Records.{Records as TheRecords, Change, applied}
-use Rattle.records_model.specs.History.{History, LiveChanges, changes_by, records, same_id}
+use Rattle.run_said.specs.transcript_model.Lines as line
+use Rattle.run_said.specs.transcript_model.Lines.{Line}
+use Rattle.run_said.specs.script_model.Statements.{Operation, Request, Init, Boot, Create, SetFile, StartTrans, AddBranch, StartBranch, Records, Direct, EndBranch, EndTrans, AbortTrans, Inquire, DeclareRm, JoinRm, AckEvent, ForgetRm, GetDti, LmcpShow, LmcpDump, Dump, DumpJournal, DumpImages, Backup, Recover, Fuse, Crash, Clock}
+use Rattle.unit_laws.specs.records_model.Records.{Records as TheRecords, Change, applied}
+use Rattle.unit_laws.specs.records_model.History.{History, LiveChanges, changes_by, records, same_id}
 use Rattle.unit_laws.specs.Units.{Map}
 use Rattle.unit_laws.specs.Journal.{Journal, RecoveryUnit, find_unit, units_in}
 use Rattle.unit_laws.specs.JournalLaws.{is_unit}
@@ -24,34 +24,34 @@ use Rattle.commit_protocol.specs.Rows.{Event, row}
 use Rattle.commit_protocol.specs.Standing.{Stands}
 use Rattle.commit_protocol.specs.World.{In}
 use Rattle.commit_protocol.proofs.Lists.{find-key}
-use Rattle.log_laws.specs.Slots.{prepared_of, records_in, slot_records}
-use Rattle.log_laws.proofs.Reading.{is_prepared_one}
-use Rattle.run_model.specs.Locks.{is_locked}
-use Rattle.run_model.specs.World as world
-use Rattle.run_model.specs.World.{Shared, Node, Durable, File, Act, Arms, Boots, Changes, Clocks, ComesUp, Creates, Directs, Draws, Falls, Formats, Holds, Labels, Marks, Saves, Recovers, Numbers, Tables, Settlement, Half, MayTurnOut, aborted_prepared, acted, changed_file, directly_changed, find_file, free_place, half_undone, is_durable, next_id, next_moment, settled_file, settlement, settlement_of, with_file, with_half}
-use Rattle.run_model.specs.Answers as answers
-use Rattle.run_model.specs.Answers.{Row, Task, Serves, Ticks, Takes, Hears, LosesLink, RunsDown, Restarts, last_lines, powers, settled_line, task_service, unit_key}
-use Rattle.run_model.specs.Steps.{node_after}
+use Rattle.run_said.specs.log_laws.Slots.{prepared_of, records_in, slot_records}
+use Rattle.run_said.proofs.log_laws.Reading.{is_prepared_one}
+use Rattle.run_said.specs.run_model.Locks.{is_locked}
+use Rattle.run_said.specs.run_model.World as world
+use Rattle.run_said.specs.run_model.World.{Shared, Node, Durable, File, Act, Arms, Boots, Changes, Clocks, ComesUp, Creates, Directs, Draws, Falls, Formats, Holds, Labels, Marks, Saves, Recovers, Numbers, Tables, Settlement, Half, MayTurnOut, aborted_prepared, acted, changed_file, directly_changed, find_file, free_place, half_undone, is_durable, next_id, next_moment, settled_file, settlement, settlement_of, with_file, with_half}
+use Rattle.run_said.specs.run_model.Answers as answers
+use Rattle.run_said.specs.run_model.Answers.{Row, Task, Serves, Ticks, Takes, Hears, LosesLink, RunsDown, Restarts, last_lines, powers, settled_line, task_service, unit_key}
+use Rattle.run_said.specs.run_model.Steps.{node_after}
 use Rattle.run_laws.specs.Accounts.{Account, MayHave, commits_here, left_by, told_by}
-use Rattle.world_laws.specs.Nodes.{IsOf, IsUp}
+use Rattle.recovery_laws.specs.world_laws.Nodes.{IsOf, IsUp}
 use Rattle.recovery_laws.specs.Entering.{FindsImages}
-use Rattle.world_laws.specs.Restarts.{AllNoted}
-use Rattle.world_laws.specs.Running.{IsDrawn, history_in, history_of}
-use Rattle.world_laws.proofs.IdLemmas.{id_is, id_other}
-use Rattle.world_laws.proofs.BootLemmas.{branch_in}
-use Rattle.world_laws.proofs.DirectLemmas.{none_of}
-use Rattle.world_laws.proofs.FindLemmas.{mapped_file, some_is}
-use Rattle.world_laws.proofs.HalfLemmas.{by_leaving}
-use Rattle.world_laws.proofs.HeldLemmas.{noted_at}
-use Rattle.world_laws.proofs.HistoryLemmas.{aborted_leaves, by_settled, committed_leaves}
-use Rattle.world_laws.proofs.LogLemmas.{branch_of, record_there, state_prepared}
-use Rattle.world_laws.proofs.PlainLemmas.{by_others}
-use Rattle.world_laws.proofs.RestartLemmas.{undone_unit}
-use Rattle.world_laws.proofs.RunningLemmas.{none_after}
-use Rattle.world_laws.proofs.FileRows.{images_by, recovers_by, saves_by, sets_by}
-use Rattle.world_laws.proofs.ServedLemmas.{undrawn}
-use Rattle.world_laws.proofs.TableLemmas.{changed_serials, found_in, in_cut, in_serials, of_serial, serials_apart}
-use Rattle.world_laws.proofs.UpLemmas.{branch_drawn, differ, drawn_more}
+use Rattle.recovery_laws.specs.world_laws.Restarts.{AllNoted}
+use Rattle.recovery_laws.specs.world_laws.Running.{IsDrawn, history_in, history_of}
+use Rattle.recovery_laws.proofs.world_laws.IdLemmas.{id_is, id_other}
+use Rattle.recovery_laws.proofs.world_laws.BootLemmas.{branch_in}
+use Rattle.recovery_laws.proofs.world_laws.DirectLemmas.{none_of}
+use Rattle.recovery_laws.proofs.world_laws.FindLemmas.{mapped_file, some_is}
+use Rattle.recovery_laws.proofs.world_laws.HalfLemmas.{by_leaving}
+use Rattle.recovery_laws.proofs.world_laws.HeldLemmas.{noted_at}
+use Rattle.recovery_laws.proofs.world_laws.HistoryLemmas.{aborted_leaves, by_settled, committed_leaves}
+use Rattle.recovery_laws.proofs.world_laws.LogLemmas.{branch_of, record_there, state_prepared}
+use Rattle.recovery_laws.proofs.world_laws.PlainLemmas.{by_others}
+use Rattle.recovery_laws.proofs.world_laws.RestartLemmas.{undone_unit}
+use Rattle.recovery_laws.proofs.world_laws.RunningLemmas.{none_after}
+use Rattle.recovery_laws.proofs.world_laws.FileRows.{images_by, recovers_by, saves_by, sets_by}
+use Rattle.recovery_laws.proofs.world_laws.ServedLemmas.{undrawn}
+use Rattle.recovery_laws.proofs.world_laws.TableLemmas.{changed_serials, found_in, in_cut, in_serials, of_serial, serials_apart}
+use Rattle.recovery_laws.proofs.world_laws.UpLemmas.{branch_drawn, differ, drawn_more}
 use Rattle.run_laws.proofs.AccountLemmas.{IsQuiet, IsShownBy, IsStill, IsUntold, commits_append, commits_last, commits_plain, history_kept, history_other, history_settled, last_left, last_told, left_is, left_given, left_may, last_given, still_settled, left_others, left_shown, left_told, none_settled, shown_left}
 use Rattle.run_laws.proofs.EachRow.{ArePlain, VotesSo}
 use Rattle.run_laws.proofs.Keeping.{AllTake, IsNextUnit, Keeps, Scheme, is_special, closes_plain}

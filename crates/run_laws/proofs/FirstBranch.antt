@@ -1,17 +1,17 @@
 -- The first branch of a transaction is never prepared.
 use Rattle.std.proofs.Common.{◌≡◌, List, [], ◌∷◌, ◌++◌, true, false, Option, Some, refl, sym, ◌∙◌, ap, subst}
 use Rattle.vms_model.specs.Ids.{Id}
-use Rattle.script_model.specs.Statements.{EndBranch, AckEvent}
-use Rattle.script_model.specs.Grammar.{reading}
+use Rattle.run_said.specs.script_model.Statements.{EndBranch, AckEvent}
+use Rattle.run_said.specs.script_model.Grammar.{reading}
 use Rattle.commit_protocol.specs.Messages.{Message}
 use Rattle.commit_protocol.specs.Table.{Branch, Key as BranchKey, Prepares}
 use Rattle.commit_protocol.specs.Rows as rows
 use Rattle.commit_protocol.specs.Rows.{Event, row}
 use Rattle.commit_protocol.specs.Allowed.{is_prepared}
 use Rattle.commit_protocol.specs.World.{In}
-use Rattle.run_model.specs.World.{World, Shared, Node, Act, DiskCounts, Tables, opened}
-use Rattle.run_model.specs.Answers.{Row, Task, Serves, Ticks, Takes, Hears, LosesLink, RunsDown, Restarts, powers, task_service}
-use Rattle.run_model.specs.Transcript.{Entry, Legal, AreOpening}
+use Rattle.run_said.specs.run_model.World.{World, Shared, Node, Act, DiskCounts, Tables, opened}
+use Rattle.run_said.specs.run_model.Answers.{Row, Task, Serves, Ticks, Takes, Hears, LosesLink, RunsDown, Restarts, powers, task_service}
+use Rattle.run_said.specs.run_model.Transcript.{Entry, Legal, AreOpening}
 use Rattle.run_laws.proofs.Contents.{IsTold}
 use Rattle.run_laws.proofs.Keeping.{AllTake, Kept}
 use Rattle.run_laws.proofs.Leading.{taken}

@@ -3,36 +3,36 @@ use Rattle.std.specs.Prelude.{◌||◌, not}
 use Rattle.std.specs.List.{last_or}
 use Rattle.std.specs.Str.{bytes_eq}
 use Rattle.std.proofs.Common.{◌≡◌, ◌⊎◌, inl, inr, ℕ, zero, suc, Bool, true, false, List, [], ◌∷◌, ◌++◌, Option, Some, None, if◌then◌else◌, refl, ap, sym, subst, ◌∙◌, append_assoc}
-use Rattle.transcript_model.specs.Lines as line
-use Rattle.transcript_model.specs.Lines.{Cause, Line, Normal}
-use Rattle.script_model.specs.Statements as said
-use Rattle.script_model.specs.Statements.{At, Bad, Blank, Boot, Clock, Deliver, Fuse, Init, LinkDown, Reading, Request, Says, Settle, Statement}
-use Rattle.script_model.specs.Grammar.{reading}
+use Rattle.run_said.specs.transcript_model.Lines as line
+use Rattle.run_said.specs.transcript_model.Lines.{Cause, Line, Normal}
+use Rattle.run_said.specs.script_model.Statements as said
+use Rattle.run_said.specs.script_model.Statements.{At, Bad, Blank, Boot, Clock, Deliver, Fuse, Init, LinkDown, Reading, Request, Says, Settle, Statement}
+use Rattle.run_said.specs.script_model.Grammar.{reading}
 use Rattle.vms_model.specs.Ids.{Id}
 use Rattle.commit_protocol.specs.Allowed.{is_prepared}
 use Rattle.commit_protocol.specs.Messages.{Message, Name}
 use Rattle.commit_protocol.specs.Table.{Branch, Key as BranchKey, coordinator_of}
 use Rattle.commit_protocol.specs.World.{arranged}
 use Rattle.commit_protocol.proofs.Lists.{cases_name}
-use Rattle.run_model.specs.World as world
-use Rattle.run_model.specs.World.{DiskCounts, Node, Lost, Shared, World, disk_of, find_node, opened, powered, unpowered, with_node}
-use Rattle.run_model.specs.Operations.{first_of, refused_if}
-use Rattle.run_model.specs.Answers as answers
-use Rattle.run_model.specs.Answers.{Hears, LosesLink, Restarts, RunsDown, Serves, Service, Takes, Task, Ticks, refused_before_reading, task_service}
-use Rattle.run_model.specs.Steps as steps
-use Rattle.run_model.specs.Steps.{Choice, Cut, TaskAllowed, TaskEffect, Unpowered, Whole, WithoutMemory, count_of, ready_node, service_effect, task_effect}
-use Rattle.run_model.specs.StepLaws.{is_refusal}
-use Rattle.run_model.specs.Statements.{Allowed, AllowedAt, AllowedOf, Asks, Begins, Does, Doubtful, Heard, Onward, Part, PartEffect, Parts, Phase, Phases, Question, RoseAt, Step, Then, Unanswered, all_questions, answer_of, asked, asking, begun_with, done_at, in_doubt, is_up, message_at, named_node, other_node, part_effect, phases_of, put_into, question, question_effect, questions_of, refused_at_once, restarts_of, run_downs_of, stops_at, where_up}
-use Rattle.run_model.specs.Transcript.{AreOpening, Entry, Legal, Turn}
-use Rattle.transcript_model.specs.Outside.{Rose}
-use Rattle.run_model.proofs.CauseLemmas.{refuses_first}
-use Rattle.run_model.proofs.NodeLists.{some_is}
-use Rattle.run_model.proofs.PartLemmas.{allowed_here, done_here, ended, ends_so, here_allowed}
+use Rattle.run_said.specs.run_model.World as world
+use Rattle.run_said.specs.run_model.World.{DiskCounts, Node, Lost, Shared, World, disk_of, find_node, opened, powered, unpowered, with_node}
+use Rattle.run_said.specs.run_model.Operations.{first_of, refused_if}
+use Rattle.run_said.specs.run_model.Answers as answers
+use Rattle.run_said.specs.run_model.Answers.{Hears, LosesLink, Restarts, RunsDown, Serves, Service, Takes, Task, Ticks, refused_before_reading, task_service}
+use Rattle.run_said.specs.run_model.Steps as steps
+use Rattle.run_said.specs.run_model.Steps.{Choice, Cut, TaskAllowed, TaskEffect, Unpowered, Whole, WithoutMemory, count_of, ready_node, service_effect, task_effect}
+use Rattle.run_said.specs.run_model.StepLaws.{is_refusal}
+use Rattle.run_said.specs.run_model.Statements.{Allowed, AllowedAt, AllowedOf, Asks, Begins, Does, Doubtful, Heard, Onward, Part, PartEffect, Parts, Phase, Phases, Question, RoseAt, Step, Then, Unanswered, all_questions, answer_of, asked, asking, begun_with, done_at, in_doubt, is_up, message_at, named_node, other_node, part_effect, phases_of, put_into, question, question_effect, questions_of, refused_at_once, restarts_of, run_downs_of, stops_at, where_up}
+use Rattle.run_said.specs.run_model.Transcript.{AreOpening, Entry, Legal, Turn}
+use Rattle.run_said.specs.transcript_model.Outside.{Rose}
+use Rattle.run_said.proofs.run_model.CauseLemmas.{refuses_first}
+use Rattle.run_said.proofs.run_model.NodeLists.{some_is}
+use Rattle.run_said.proofs.run_model.PartLemmas.{allowed_here, done_here, ended, ends_so, here_allowed}
 use Rattle.run_agreement.specs.Laws.{NamesApart}
 use Rattle.run_agreement.proofs.Barred.{quiet_powered}
 use Rattle.run_agreement.proofs.Found.{bytes_itself, bytes_same, found_put, found_there, name_found}
 use Rattle.run_agreement.proofs.Tasks.{awake_refused, none_some}
-use Rattle.world_laws.proofs.Induction.{acts_name}
+use Rattle.recovery_laws.proofs.world_laws.Induction.{acts_name}
 use Rattle.run_laws.specs.Anew.{AreForgotten, InitsForget, IsMadeAnew, IsMadeIn, Makes}
 use Rattle.run_laws.proofs.AgreedRuns.{legal_names}
 
@@ -400,8 +400,8 @@ module _ (M : Name → Type 0) where
           go (Some n) found = let r = found_like node w.nodes ms n l.all found in both_other n found r.node r.there fits r.like (allowed_here w node t n after c found may)
           go None none =
               let gone = missing_like node w.nodes ms l.all none in
-              let mine : done_at w node t c ≡ Rattle.run_model.specs.Statements.no_node w = rw (none, done_at) refl in
-              let other : done_at (in_place w ms) node t c ≡ Rattle.run_model.specs.Statements.no_node (in_place w ms) = rw (gone, done_at) refl in
+              let mine : done_at w node t c ≡ Rattle.run_said.specs.run_model.Statements.no_node w = rw (none, done_at) refl in
+              let other : done_at (in_place w ms) node t c ≡ Rattle.run_said.specs.run_model.Statements.no_node (in_place w ms) = rw (gone, done_at) refl in
               record {
                 choice = c;
                 allowed = subst (λ o. elim o as (λ x. Type 0) [ Some m ↦ TaskAllowed w.shared (stops_at node (in_place w ms)) m t (λ cause. RoseAt (in_place w ms) node cause after) c | None ↦ Unit {0} ]) (sym gone) tt;
@@ -810,10 +810,10 @@ module _ (full : List Entry) (T : Name → Type 0) where
   opening_like (n ∷ ns) [] o p f = absurd f
   opening_like (n ∷ ns) (m ∷ ms) o p f = (one f.0, opening_like ns ms o.1 p.1 f.1)
     where
-      a : Rattle.run_model.specs.World.IsOpening n
+      a : Rattle.run_said.specs.run_model.World.IsOpening n
       a = o.0
 
-      b : Rattle.run_model.specs.World.IsOpening m
+      b : Rattle.run_said.specs.run_model.World.IsOpening m
       b = p.0
 
       one : (m ≡ n) ⊎ (IsMadeAnew n.name full × (m.name ≡ n.name) × (m.blocks ≡ n.blocks)) → AreLike M n m

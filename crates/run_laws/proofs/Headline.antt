@@ -1,10 +1,10 @@
 -- All that is proved of the promises, gathered.
 use Rattle.std.proofs.Common.{◌≡◌, inl, inr, ℕ, List, [], ◌∷◌, ◌++◌, Some, refl, sym, ap, subst, ◌∙◌, append_assoc}
-use Rattle.script_model.specs.Statements.{Settle}
+use Rattle.run_said.specs.script_model.Statements.{Settle}
 use Rattle.commit_protocol.specs.Opening.{IsAgreeing}
-use Rattle.run_model.specs.World.{DiskCounts, Node, World, find_node, opened}
-use Rattle.run_model.specs.Transcript.{AreOpening, Entry, Legal}
-use Rattle.run_model.proofs.NodeLists.{found_name}
+use Rattle.run_said.specs.run_model.World.{DiskCounts, Node, World, find_node, opened}
+use Rattle.run_said.specs.run_model.Transcript.{AreOpening, Entry, Legal}
+use Rattle.run_said.proofs.run_model.NodeLists.{found_name}
 use Rattle.run_agreement.specs.Seen.{IsKnown}
 use Rattle.run_agreement.specs.Laws.{NamesApart, image_told, opening_told, volume_image, CommittedAreOfCommitted, LeaveAgreement, RestingAreWhole, SettleAlike, SettlingEnds, SettlingLeavesNone}
 use Rattle.run_laws.specs.Laws.{AgreedPromises, AgreedPromisesAreKept, PromisesAreKept}

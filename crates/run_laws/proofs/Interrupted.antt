@@ -7,16 +7,16 @@ use Rattle.std.proofs.lemmas.List.{append_assoc}
 use Rattle.std.proofs.lemmas.Slice.Eq.{bytes_eq-Decides}
 use Rattle.vms_model.specs.Ids.{Id}
 use Rattle.vms_model.specs.Transactions.{Commit, Abort}
-use Rattle.transcript_model.specs.Lines as line
-use Rattle.transcript_model.specs.Lines.{Line, Cause}
-use Rattle.script_model.specs.Statements.{Statement, At, Settle, Deliver, LinkDown, Boot, EndTrans, StartTrans, Says}
-use Rattle.script_model.specs.Grammar.{reading}
+use Rattle.run_said.specs.transcript_model.Lines as line
+use Rattle.run_said.specs.transcript_model.Lines.{Line, Cause}
+use Rattle.run_said.specs.script_model.Statements.{Statement, At, Settle, Deliver, LinkDown, Boot, EndTrans, StartTrans, Says}
+use Rattle.run_said.specs.script_model.Grammar.{reading}
 use Rattle.commit_protocol.specs.World.{In}
 use Rattle.commit_protocol.proofs.Lists.{in_left}
-use Rattle.run_model.specs.World.{World, Node, DiskCounts, Settlement, find_node, opened}
-use Rattle.run_model.specs.Statements.{Step}
-use Rattle.run_model.proofs.Refusing.{same_last}
-use Rattle.run_model.specs.Transcript.{Entry, Legal, AreOpening, Turn}
+use Rattle.run_said.specs.run_model.World.{World, Node, DiskCounts, Settlement, find_node, opened}
+use Rattle.run_said.specs.run_model.Statements.{Step}
+use Rattle.run_said.proofs.run_model.Refusing.{same_last}
+use Rattle.run_said.specs.run_model.Transcript.{Entry, Legal, AreOpening, Turn}
 use Rattle.run_laws.specs.Causes.{WasBegun}
 use Rattle.run_laws.specs.Laws.{InterruptedHold}
 use Rattle.run_laws.specs.Promises.{IsDecided, NoneCamePast, came_past, commitment, is_of_boot, last_in, settlements_of}

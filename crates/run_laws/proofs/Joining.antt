@@ -7,9 +7,9 @@ use Rattle.std.proofs.lemmas.Bool.{cases_Bool}
 use Rattle.vms_model.specs.Ids.{Id}
 use Rattle.vms_model.specs.Transactions.{Aborted}
 use Rattle.vms_model.specs.Limits.{message_limit}
-use Rattle.transcript_model.specs.Lines as line
-use Rattle.transcript_model.specs.Lines.{Line, Cause}
-use Rattle.script_model.specs.Statements.{Request, Boot, StartTrans, AddBranch, StartBranch, EndBranch, EndTrans, AbortTrans, Inquire, JoinRm, AckEvent, Clock}
+use Rattle.run_said.specs.transcript_model.Lines as line
+use Rattle.run_said.specs.transcript_model.Lines.{Line, Cause}
+use Rattle.run_said.specs.script_model.Statements.{Request, Boot, StartTrans, AddBranch, StartBranch, EndBranch, EndTrans, AbortTrans, Inquire, JoinRm, AckEvent, Clock}
 use Rattle.commit_protocol.specs.Messages as message
 use Rattle.commit_protocol.specs.Messages.{Message, same_id}
 use Rattle.commit_protocol.specs.Table as table
@@ -18,11 +18,11 @@ use Rattle.commit_protocol.specs.Allowed.{is_prepared}
 use Rattle.commit_protocol.specs.Rows as rows
 use Rattle.commit_protocol.specs.Rows.{Event, Got, grants_join, has_bid, join_row, join_state, joined_as, refuses_join, row}
 use Rattle.commit_protocol.specs.World.{In}
-use Rattle.run_model.specs.World as world
-use Rattle.run_model.specs.World.{Shared, Node, Label, Tables, next_id, next_moment, labelled, tm_of}
-use Rattle.run_model.specs.Answers as answers
-use Rattle.run_model.specs.Answers.{Row, Service, Task, Serves, Ticks, Takes, Hears, LosesLink, RunsDown, Restarts, begins, powers, prepared_lines, refused_before_reading, sent_line, service, table_rows, task_service, told_if}
-use Rattle.run_model.specs.Steps.{Choice, Whole, WithoutMemory, Unpowered, Cut, begun, lines_of_rows, node_after, node_after_rows, ready_node, rows_if, task_effect, whole}
+use Rattle.run_said.specs.run_model.World as world
+use Rattle.run_said.specs.run_model.World.{Shared, Node, Label, Tables, next_id, next_moment, labelled, tm_of}
+use Rattle.run_said.specs.run_model.Answers as answers
+use Rattle.run_said.specs.run_model.Answers.{Row, Service, Task, Serves, Ticks, Takes, Hears, LosesLink, RunsDown, Restarts, begins, powers, prepared_lines, refused_before_reading, sent_line, service, table_rows, task_service, told_if}
+use Rattle.run_said.specs.run_model.Steps.{Choice, Whole, WithoutMemory, Unpowered, Cut, begun, lines_of_rows, node_after, node_after_rows, ready_node, rows_if, task_effect, whole}
 use Rattle.run_laws.proofs.Contents.{ArePutting, IsTold, PutsIn, TaskAccepts, TaskNotes, begins_none, task_putting}
 use Rattle.run_laws.proofs.EachRow.{AreVoteless, EachRow, VotesSo, cut_each, is_voteless, take_each}
 use Rattle.run_said.proofs.Passing.{AllPass, append_passes, prepared_passes}

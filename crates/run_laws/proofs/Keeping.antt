@@ -5,28 +5,28 @@ use Rattle.std.specs.List.{AllByRecursion}
 use Rattle.std.proofs.lemmas.Bool.{both_ways, false_from_ne_true}
 use Rattle.vms_model.specs.Ids.{Id}
 use Rattle.vms_model.specs.Transactions.{Abort, SegFail}
-use Rattle.transcript_model.specs.Lines as line
-use Rattle.transcript_model.specs.Lines.{Line, Cause}
-use Rattle.script_model.specs.Statements.{Request, Init, Boot, Create, SetFile, StartTrans, AddBranch, StartBranch, Records, Direct, EndBranch, EndTrans, AbortTrans, Inquire, DeclareRm, JoinRm, AckEvent, ForgetRm, GetDti, LmcpShow, LmcpDump, Dump, DumpJournal, DumpImages, Backup, Recover, Fuse, Crash, Clock}
-use Rattle.records_model.specs.History.{same_id}
+use Rattle.run_said.specs.transcript_model.Lines as line
+use Rattle.run_said.specs.transcript_model.Lines.{Line, Cause}
+use Rattle.run_said.specs.script_model.Statements.{Request, Init, Boot, Create, SetFile, StartTrans, AddBranch, StartBranch, Records, Direct, EndBranch, EndTrans, AbortTrans, Inquire, DeclareRm, JoinRm, AckEvent, ForgetRm, GetDti, LmcpShow, LmcpDump, Dump, DumpJournal, DumpImages, Backup, Recover, Fuse, Crash, Clock}
+use Rattle.unit_laws.specs.records_model.History.{same_id}
 use Rattle.unit_laws.specs.Units.{Map}
 use Rattle.unit_laws.specs.Journal.{Journal, RecoveryUnit, active_units, find_unit, units_in}
 use Rattle.unit_laws.specs.JournalLaws.{HasSettled, is_unit}
 use Rattle.commit_protocol.specs.World.{undo_all}
-use Rattle.run_model.specs.World.{Shared, Node, Act, Arms, Boots, Clocks, ComesUp, Directs, Formats, Tables, Outturn, Lost, Taken, Half, MayTurnOut, Settlement, Unknown, aborted_prepared, acted, durable_after, fallen, is_durable, next_moment, powered, settlement_of, settled_more, unpowered, with_half}
-use Rattle.run_model.specs.Operations.{first_of, refused_if}
-use Rattle.run_model.specs.Answers.{Row, Service, Task, Serves, Ticks, Takes, Hears, LosesLink, RunsDown, Restarts, boot_rows, left_active, last_lines, prepared_lines, powers, refused_before_reading, service, settled_line, spoils, table_rows, task_service, touches, unit_key}
-use Rattle.run_model.specs.Steps.{Choice, Cut, TaskAllowed, Unpowered, Whole, WithoutMemory, act_begun, begun, if_durable, lines_of_rows, node_after, node_after_rows, ready_node, rows_if, rows_to_cut, task_effect, whole, with_unknown_volume}
-use Rattle.world_laws.specs.Nodes.{AreKept, IsKeptDisk, IsKeptNode, IsOf, IsUp}
-use Rattle.world_laws.proofs.IdLemmas.{id_is, id_itself}
-use Rattle.world_laws.proofs.AnswerLemmas.{neither, not_refused}
-use Rattle.world_laws.proofs.ComeUp.{come_up}
-use Rattle.world_laws.proofs.FindLemmas.{some_is}
-use Rattle.world_laws.proofs.NodeLemmas.{IsReady, acted_name, powered_ready, rows_way}
-use Rattle.world_laws.proofs.Induction.{powered_name}
-use Rattle.world_laws.proofs.RestartLemmas.{AreActive, IsUnprepared, active_settled, are_active, first_active, has_settled, undone_unit}
-use Rattle.world_laws.proofs.UndoLemmas.{boot_kept, left_of}
-use Rattle.world_laws.proofs.UnitSets.{UnitsDiffer, found_active, none_is, units_differ}
+use Rattle.run_said.specs.run_model.World.{Shared, Node, Act, Arms, Boots, Clocks, ComesUp, Directs, Formats, Tables, Outturn, Lost, Taken, Half, MayTurnOut, Settlement, Unknown, aborted_prepared, acted, durable_after, fallen, is_durable, next_moment, powered, settlement_of, settled_more, unpowered, with_half}
+use Rattle.run_said.specs.run_model.Operations.{first_of, refused_if}
+use Rattle.run_said.specs.run_model.Answers.{Row, Service, Task, Serves, Ticks, Takes, Hears, LosesLink, RunsDown, Restarts, boot_rows, left_active, last_lines, prepared_lines, powers, refused_before_reading, service, settled_line, spoils, table_rows, task_service, touches, unit_key}
+use Rattle.run_said.specs.run_model.Steps.{Choice, Cut, TaskAllowed, Unpowered, Whole, WithoutMemory, act_begun, begun, if_durable, lines_of_rows, node_after, node_after_rows, ready_node, rows_if, rows_to_cut, task_effect, whole, with_unknown_volume}
+use Rattle.recovery_laws.specs.world_laws.Nodes.{AreKept, IsKeptDisk, IsKeptNode, IsOf, IsUp}
+use Rattle.recovery_laws.proofs.world_laws.IdLemmas.{id_is, id_itself}
+use Rattle.recovery_laws.proofs.world_laws.AnswerLemmas.{neither, not_refused}
+use Rattle.recovery_laws.proofs.world_laws.ComeUp.{come_up}
+use Rattle.recovery_laws.proofs.world_laws.FindLemmas.{some_is}
+use Rattle.recovery_laws.proofs.world_laws.NodeLemmas.{IsReady, acted_name, powered_ready, rows_way}
+use Rattle.recovery_laws.proofs.world_laws.Induction.{powered_name}
+use Rattle.recovery_laws.proofs.world_laws.RestartLemmas.{AreActive, IsUnprepared, active_settled, are_active, first_active, has_settled, undone_unit}
+use Rattle.recovery_laws.proofs.world_laws.UndoLemmas.{boot_kept, left_of}
+use Rattle.recovery_laws.proofs.world_laws.UnitSets.{UnitsDiffer, found_active, none_is, units_differ}
 use Rattle.run_laws.proofs.EachRow.{ArePlain, AreVoteless, is_plain}
 use Rattle.run_said.proofs.Passing.{prepared_passes}
 use Rattle.run_laws.proofs.RowFits.{EachFits, RowFits, free_after, task_fits}

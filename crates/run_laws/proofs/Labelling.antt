@@ -5,26 +5,26 @@ use Rattle.std.specs.Option.{option_and_then}
 use Rattle.std.specs.Str.{bytes_eq}
 use Rattle.std.proofs.lemmas.Slice.Eq.{bytes_eq-Decides}
 use Rattle.vms_model.specs.Ids.{Id}
-use Rattle.transcript_model.specs.Lines as line
-use Rattle.transcript_model.specs.Lines.{Line, Cause}
-use Rattle.script_model.specs.Statements.{Statement, At, Request, StartTrans, AddBranch, StartBranch, Direct, Reading, Says}
-use Rattle.script_model.specs.Grammar.{reading}
-use Rattle.records_model.specs.History.{same_id}
+use Rattle.run_said.specs.transcript_model.Lines as line
+use Rattle.run_said.specs.transcript_model.Lines.{Line, Cause}
+use Rattle.run_said.specs.script_model.Statements.{Statement, At, Request, StartTrans, AddBranch, StartBranch, Direct, Reading, Says}
+use Rattle.run_said.specs.script_model.Grammar.{reading}
+use Rattle.unit_laws.specs.records_model.History.{same_id}
 use Rattle.unit_laws.proofs.LiveLemmas.{id_is}
 use Rattle.commit_protocol.specs.Table.{Branch}
 use Rattle.commit_protocol.specs.World.{In}
-use Rattle.run_model.specs.World.{World, Shared, Node, Label, find_branch, find_label, find_node, labelled}
-use Rattle.run_model.specs.Operations.{first_of, refused_if}
-use Rattle.run_model.specs.Answers.{Task, Serves, Service, service, task_service, refused_before_reading, branch_labelled, powers, touches}
-use Rattle.run_model.specs.Steps.{Choice, Whole, WithoutMemory, Unpowered, Cut, TaskAllowed, TaskEffect, task_effect, ready_node, refused, succeeded, whole, begun}
-use Rattle.run_model.specs.Statements.{Step, put_into, stops_at, RoseAt}
-use Rattle.run_model.specs.Transcript.{Entry}
-use Rattle.run_model.specs.StepLaws.{is_refusal, task_of}
-use Rattle.run_model.proofs.NodeLists.{clash, found_name, put_node, put_same, some_is}
-use Rattle.run_model.proofs.CauseLemmas.{refuses_first, refuses_then}
-use Rattle.run_model.proofs.Refusing.{not_ready}
-use Rattle.run_model.proofs.TaskLemmas as tasks
-use Rattle.run_model.proofs.TaskLemmas.{First, Late, Success, Lacking, Failing, outcome}
+use Rattle.run_said.specs.run_model.World.{World, Shared, Node, Label, find_branch, find_label, find_node, labelled}
+use Rattle.run_said.specs.run_model.Operations.{first_of, refused_if}
+use Rattle.run_said.specs.run_model.Answers.{Task, Serves, Service, service, task_service, refused_before_reading, branch_labelled, powers, touches}
+use Rattle.run_said.specs.run_model.Steps.{Choice, Whole, WithoutMemory, Unpowered, Cut, TaskAllowed, TaskEffect, task_effect, ready_node, refused, succeeded, whole, begun}
+use Rattle.run_said.specs.run_model.Statements.{Step, put_into, stops_at, RoseAt}
+use Rattle.run_said.specs.run_model.Transcript.{Entry}
+use Rattle.run_said.specs.run_model.StepLaws.{is_refusal, task_of}
+use Rattle.run_said.proofs.run_model.NodeLists.{clash, found_name, put_node, put_same, some_is}
+use Rattle.run_said.proofs.run_model.CauseLemmas.{refuses_first, refuses_then}
+use Rattle.run_said.proofs.run_model.Refusing.{not_ready}
+use Rattle.run_said.proofs.run_model.TaskLemmas as tasks
+use Rattle.run_said.proofs.run_model.TaskLemmas.{First, Late, Success, Lacking, Failing, outcome}
 use Rattle.run_laws.specs.Naming.{ToldLabel, find_told, ids_here, ids_told, labels_here, labels_told}
 use Rattle.run_laws.proofs.Directed.{neither, not_refused}
 use Rattle.run_laws.proofs.Moving.{IsPast, stays_so}

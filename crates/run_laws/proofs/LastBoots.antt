@@ -3,29 +3,29 @@ use Rattle.std.proofs.Common.{◌≡◌, ◌≤◌, ℕ, ◌⊎◌, zero, suc, L
 use Rattle.std.proofs.lemmas.Bool.{both_ways}
 use Rattle.vms_model.specs.Ids.{Id}
 use Rattle.vms_model.specs.Transactions.{Outcome, Commit, Abort, Reason}
-use Rattle.transcript_model.specs.Lines as line
-use Rattle.transcript_model.specs.Lines.{Line, Cause}
-use Rattle.script_model.specs.Statements.{Statement, At, Deliver, LinkDown, Settle, Reading, Blank, Says, Bad, Request, Init, Boot, Fuse, Clock}
-use Rattle.script_model.specs.Grammar.{reading}
+use Rattle.run_said.specs.transcript_model.Lines as line
+use Rattle.run_said.specs.transcript_model.Lines.{Line, Cause}
+use Rattle.run_said.specs.script_model.Statements.{Statement, At, Deliver, LinkDown, Settle, Reading, Blank, Says, Bad, Request, Init, Boot, Fuse, Clock}
+use Rattle.run_said.specs.script_model.Grammar.{reading}
 use Rattle.commit_protocol.specs.Messages.{Message}
 use Rattle.commit_protocol.specs.Table as table
 use Rattle.commit_protocol.specs.Table.{Key as BranchKey, Settles, Undoes}
 use Rattle.commit_protocol.specs.World.{In}
-use Rattle.run_model.specs.World.{World, Shared, Node, DiskCounts, Act, Boots, Directs, Tables, IsOpening, LastIsReached, Outturn, Settlement, find_node, opened, powered}
-use Rattle.run_model.specs.Operations.{refused_if}
-use Rattle.run_model.specs.Answers.{Row, Service, Task, LosesLink, Restarts, RunsDown, Serves, Takes, Ticks, last_line, powers, refused_before_reading, service, settled_line, spoils, task_service}
-use Rattle.run_model.specs.Steps.{Choice, Cut, TaskAllowed, Unpowered, Whole, WithoutMemory, begun, lines_of_rows, node_after, ready_node, rows_if, rows_to_cut, task_effect, whole, with_unknown_volume}
-use Rattle.run_model.specs.Statements.{Part, Asks, Does, PartEffect, Begins, Phases, Step, Allowed, RoseAt, begun_with, message_at, part_effect, phases_of, refused_at_once, stops_at}
-use Rattle.run_model.specs.StepLaws.{TaskAt, task_of_part}
-use Rattle.run_model.specs.Transcript.{Entry, Legal, AreOpening, Turn}
-use Rattle.run_model.proofs.NodeLists.{found_name, some_is}
-use Rattle.run_model.proofs.TaskLemmas.{effect_name}
-use Rattle.run_model.proofs.PartLemmas.{EachPart, EachPhase, phases_fold}
-use Rattle.run_model.proofs.PartTasks.{View, Doing, Fixed, all_asked, each_restart, each_run_down, each_up, view}
-use Rattle.run_model.proofs.Refusing.{each_phase}
-use Rattle.world_laws.specs.Nodes.{IsKeptNode}
-use Rattle.world_laws.proofs.AnswerLemmas.{neither, not_refused}
-use Rattle.world_laws.proofs.WorldLemmas.{each_opening}
+use Rattle.run_said.specs.run_model.World.{World, Shared, Node, DiskCounts, Act, Boots, Directs, Tables, IsOpening, LastIsReached, Outturn, Settlement, find_node, opened, powered}
+use Rattle.run_said.specs.run_model.Operations.{refused_if}
+use Rattle.run_said.specs.run_model.Answers.{Row, Service, Task, LosesLink, Restarts, RunsDown, Serves, Takes, Ticks, last_line, powers, refused_before_reading, service, settled_line, spoils, task_service}
+use Rattle.run_said.specs.run_model.Steps.{Choice, Cut, TaskAllowed, Unpowered, Whole, WithoutMemory, begun, lines_of_rows, node_after, ready_node, rows_if, rows_to_cut, task_effect, whole, with_unknown_volume}
+use Rattle.run_said.specs.run_model.Statements.{Part, Asks, Does, PartEffect, Begins, Phases, Step, Allowed, RoseAt, begun_with, message_at, part_effect, phases_of, refused_at_once, stops_at}
+use Rattle.run_said.specs.run_model.StepLaws.{TaskAt, task_of_part}
+use Rattle.run_said.specs.run_model.Transcript.{Entry, Legal, AreOpening, Turn}
+use Rattle.run_said.proofs.run_model.NodeLists.{found_name, some_is}
+use Rattle.run_said.proofs.run_model.TaskLemmas.{effect_name}
+use Rattle.run_said.proofs.run_model.PartLemmas.{EachPart, EachPhase, phases_fold}
+use Rattle.run_said.proofs.run_model.PartTasks.{View, Doing, Fixed, all_asked, each_restart, each_run_down, each_up, view}
+use Rattle.run_said.proofs.run_model.Refusing.{each_phase}
+use Rattle.recovery_laws.specs.world_laws.Nodes.{IsKeptNode}
+use Rattle.recovery_laws.proofs.world_laws.AnswerLemmas.{neither, not_refused}
+use Rattle.recovery_laws.proofs.world_laws.WorldLemmas.{each_opening}
 use Rattle.run_laws.specs.Promises.{WasLast, WasShownSo, abort, commitment, last_in, settlement_in, settlements_of}
 use Rattle.run_laws.specs.Laws.{LastsHold}
 use Rattle.run_laws.proofs.AllShown.{IsFormed, legal_shown}

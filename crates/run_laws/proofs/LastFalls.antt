@@ -2,15 +2,15 @@
 use Rattle.std.proofs.Common.{◌≡◌, ℕ, ◌⊎◌, List, [], ◌∷◌, ◌++◌, inl, inr, Option, Some, None, refl, sym, ◌∙◌, subst}
 use Rattle.vms_model.specs.Ids.{Id}
 use Rattle.vms_model.specs.Transactions.{SegFail}
-use Rattle.transcript_model.specs.Lines as line
-use Rattle.transcript_model.specs.Lines.{Line}
-use Rattle.script_model.specs.Statements.{Reading, Blank, Says, Bad}
-use Rattle.script_model.specs.Grammar.{reading}
+use Rattle.run_said.specs.transcript_model.Lines as line
+use Rattle.run_said.specs.transcript_model.Lines.{Line}
+use Rattle.run_said.specs.script_model.Statements.{Reading, Blank, Says, Bad}
+use Rattle.run_said.specs.script_model.Grammar.{reading}
 use Rattle.commit_protocol.specs.World.{In}
 use Rattle.commit_protocol.proofs.Lists.{in_left}
-use Rattle.run_model.specs.World.{World, Node, Act, DiskCounts, Settlement, find_node, opened}
-use Rattle.run_model.specs.Transcript.{Entry, AreOpening, Legal, Turn}
-use Rattle.world_laws.proofs.WorldLemmas.{each_opening}
+use Rattle.run_said.specs.run_model.World.{World, Node, Act, DiskCounts, Settlement, find_node, opened}
+use Rattle.run_said.specs.run_model.Transcript.{Entry, AreOpening, Legal, Turn}
+use Rattle.recovery_laws.proofs.world_laws.WorldLemmas.{each_opening}
 use Rattle.run_laws.specs.Causes.{HasBegun}
 use Rattle.run_laws.specs.Laws.{LastFallsBegunHold}
 use Rattle.run_laws.specs.Promises.{WasLeft, abort, settlements_of}

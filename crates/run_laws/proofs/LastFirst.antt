@@ -1,17 +1,17 @@
 -- A BOOT shows the last settlement of its disk before all else.
 use Rattle.std.proofs.Common.{◌≡◌, ℕ, List, [], ◌∷◌, ◌++◌, inl, inr, map, take, zero, suc, Option, Some, None, refl, sym, ◌∙◌, ap, subst}
 use Rattle.vms_model.specs.Transactions.{Outcome, Commit, Abort, Reason}
-use Rattle.transcript_model.specs.Lines as line
-use Rattle.transcript_model.specs.Lines.{Line, Cause}
-use Rattle.script_model.specs.Statements.{At, Boot}
+use Rattle.run_said.specs.transcript_model.Lines as line
+use Rattle.run_said.specs.transcript_model.Lines.{Line, Cause}
+use Rattle.run_said.specs.script_model.Statements.{At, Boot}
 use Rattle.commit_protocol.specs.World.{In}
-use Rattle.run_model.specs.World as world
-use Rattle.run_model.specs.World.{World, Shared, Node, Settlement, acted, opened, find_node}
-use Rattle.run_model.specs.Answers.{Serves, service, refused_before_reading, boot_rows, last_line, last_lines, left_active, unit_key}
-use Rattle.run_model.specs.Steps.{Choice, Whole, WithoutMemory, Unpowered, Cut, task_effect, ready_node, rows_if, rows_to_cut, whole, begun, lines_of_rows}
-use Rattle.run_model.specs.Statements.{Step, stops_at}
-use Rattle.run_model.specs.Transcript.{Legal, Turn as LineTurn}
-use Rattle.run_model.proofs.Refusing.{same_last}
+use Rattle.run_said.specs.run_model.World as world
+use Rattle.run_said.specs.run_model.World.{World, Shared, Node, Settlement, acted, opened, find_node}
+use Rattle.run_said.specs.run_model.Answers.{Serves, service, refused_before_reading, boot_rows, last_line, last_lines, left_active, unit_key}
+use Rattle.run_said.specs.run_model.Steps.{Choice, Whole, WithoutMemory, Unpowered, Cut, task_effect, ready_node, rows_if, rows_to_cut, whole, begun, lines_of_rows}
+use Rattle.run_said.specs.run_model.Statements.{Step, stops_at}
+use Rattle.run_said.specs.run_model.Transcript.{Legal, Turn as LineTurn}
+use Rattle.run_said.proofs.run_model.Refusing.{same_last}
 use Rattle.run_laws.specs.Promises.{last_in}
 use Rattle.run_laws.specs.Laws.{LastsFirstHold}
 use Rattle.run_laws.proofs.LastBoots.{NoLast, none_last, plain_one}

@@ -5,11 +5,11 @@ use Rattle.unit_laws.specs.Units.{Map}
 use Rattle.commit_protocol.specs.Table as table
 use Rattle.commit_protocol.specs.Table.{Settles, Undoes}
 use Rattle.commit_protocol.specs.World.{In}
-use Rattle.run_model.specs.World as world
-use Rattle.run_model.specs.World.{Node, Act, Directs, Formats, Settlement, Tables, aborted_prepared, acted, with_half}
-use Rattle.run_model.specs.Steps.{node_after}
+use Rattle.run_said.specs.run_model.World as world
+use Rattle.run_said.specs.run_model.World.{Node, Act, Directs, Formats, Settlement, Tables, aborted_prepared, acted, with_half}
+use Rattle.run_said.specs.run_model.Steps.{node_after}
 use Rattle.run_laws.proofs.Keeping.{Keeps, Scheme, closes_plain}
-use Rattle.world_laws.proofs.FindLemmas.{some_is}
+use Rattle.recovery_laws.proofs.world_laws.FindLemmas.{some_is}
 
 module _ (x : Id) where
   abbrev pub IsOwn : Option Settlement → List Settlement → Type 0
@@ -61,8 +61,8 @@ module _ (x : Id) where
     spoils = λ a n h. h;
     boots = λ a n k h. h;
     booting = λ a n k h. h;
-    undoes = λ a n u next h. acted_own (Tables (Undoes (Rattle.run_model.specs.Answers.unit_key u)) (world.next_moment n)) n h;
-    undoing = λ a n u next h. acted_own (Tables (Undoes (Rattle.run_model.specs.Answers.unit_key u)) (world.next_moment n)) n h;
+    undoes = λ a n u next h. acted_own (Tables (Undoes (Rattle.run_said.specs.run_model.Answers.unit_key u)) (world.next_moment n)) n h;
+    undoing = λ a n u next h. acted_own (Tables (Undoes (Rattle.run_said.specs.run_model.Answers.unit_key u)) (world.next_moment n)) n h;
     rests = λ a n k h. h;
     none_ready = λ n e. tt;
     same_ready = λ n m e h. tt;

@@ -2,26 +2,26 @@
 use Rattle.std.proofs.Common.{◌≡◌, ℕ, ◌⊎◌, List, [], ◌∷◌, ◌++◌, inl, inr, take, Bool, true, false, Option, Some, None, if◌then◌else◌, refl, sym, ◌∙◌, ap, subst}
 use Rattle.vms_model.specs.Ids.{Id}
 use Rattle.vms_model.specs.Transactions.{Outcome, Commit, Abort, Reason, SegFail}
-use Rattle.transcript_model.specs.Lines as line
-use Rattle.transcript_model.specs.Lines.{Line, Cause}
-use Rattle.script_model.specs.Statements.{Statement, At, Deliver, LinkDown, Settle, Reading, Blank, Says, Bad}
-use Rattle.script_model.specs.Grammar.{reading}
-use Rattle.records_model.specs.Records.{Change}
+use Rattle.run_said.specs.transcript_model.Lines as line
+use Rattle.run_said.specs.transcript_model.Lines.{Line, Cause}
+use Rattle.run_said.specs.script_model.Statements.{Statement, At, Deliver, LinkDown, Settle, Reading, Blank, Says, Bad}
+use Rattle.run_said.specs.script_model.Grammar.{reading}
+use Rattle.unit_laws.specs.records_model.Records.{Change}
 use Rattle.unit_laws.specs.Units.{Map}
 use Rattle.commit_protocol.specs.Table.{Key as BranchKey, Settles, Undoes}
 use Rattle.commit_protocol.specs.World.{In}
-use Rattle.run_model.specs.World as world
-use Rattle.run_model.specs.World.{World, Shared, Node, DiskCounts, Durable, Settlement, Act, Boots, Formats, Tables, Directs, Outturn, Lost, Taken, Half, acted, powered, unpowered, settled_more, settlement_of, with_settlement, aborted_prepared, with_half, next_moment, find_node, with_node, opened}
-use Rattle.run_model.specs.Answers as answers
-use Rattle.run_model.specs.Answers.{Row, Service, Task, task_service, refused_before_reading, powers, spoils, last_line, last_lines, settled_line}
-use Rattle.run_model.specs.Steps.{Choice, Whole, WithoutMemory, Unpowered, Cut, task_effect, ready_node, node_after, node_after_rows, lines_of_rows, rows_to_cut, with_unknown_volume, whole, begun}
-use Rattle.run_model.specs.Statements.{Part, PartEffect, Begins, Phases, Step, part_effect, put_into, stops_at, phases_of, refused_at_once, begun_with}
-use Rattle.run_model.specs.Transcript.{Entry, Legal, Turn as LineTurn}
-use Rattle.run_model.proofs.NodeLists.{put_node, some_is}
-use Rattle.run_model.proofs.TaskLemmas.{effect_name}
-use Rattle.run_model.proofs.PartLemmas.{phases_fold}
-use Rattle.run_model.proofs.PartTasks.{View, Doing, Fixed, view}
-use Rattle.run_model.proofs.Refusing.{each_phase}
+use Rattle.run_said.specs.run_model.World as world
+use Rattle.run_said.specs.run_model.World.{World, Shared, Node, DiskCounts, Durable, Settlement, Act, Boots, Formats, Tables, Directs, Outturn, Lost, Taken, Half, acted, powered, unpowered, settled_more, settlement_of, with_settlement, aborted_prepared, with_half, next_moment, find_node, with_node, opened}
+use Rattle.run_said.specs.run_model.Answers as answers
+use Rattle.run_said.specs.run_model.Answers.{Row, Service, Task, task_service, refused_before_reading, powers, spoils, last_line, last_lines, settled_line}
+use Rattle.run_said.specs.run_model.Steps.{Choice, Whole, WithoutMemory, Unpowered, Cut, task_effect, ready_node, node_after, node_after_rows, lines_of_rows, rows_to_cut, with_unknown_volume, whole, begun}
+use Rattle.run_said.specs.run_model.Statements.{Part, PartEffect, Begins, Phases, Step, part_effect, put_into, stops_at, phases_of, refused_at_once, begun_with}
+use Rattle.run_said.specs.run_model.Transcript.{Entry, Legal, Turn as LineTurn}
+use Rattle.run_said.proofs.run_model.NodeLists.{put_node, some_is}
+use Rattle.run_said.proofs.run_model.TaskLemmas.{effect_name}
+use Rattle.run_said.proofs.run_model.PartLemmas.{phases_fold}
+use Rattle.run_said.proofs.run_model.PartTasks.{View, Doing, Fixed, view}
+use Rattle.run_said.proofs.run_model.Refusing.{each_phase}
 use Rattle.run_laws.specs.Accounts.{made_anew}
 use Rattle.run_laws.specs.Promises.{left_at, settlements_of, last_in}
 use Rattle.run_laws.specs.Laws.{LastsAreSettled}

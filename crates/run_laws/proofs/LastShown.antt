@@ -3,23 +3,23 @@ use Rattle.std.proofs.Common.{◌≡◌, ◌≤◌, ℕ, ◌⊎◌, List, [], �
 use Rattle.std.proofs.lemmas.Bool.{both_ways}
 use Rattle.vms_model.specs.Ids.{Id}
 use Rattle.vms_model.specs.Transactions.{Outcome, Commit, Abort, Reason}
-use Rattle.transcript_model.specs.Lines as line
-use Rattle.transcript_model.specs.Lines.{Line, Cause}
-use Rattle.script_model.specs.Statements.{Statement, Reading, Blank, Says, Bad}
+use Rattle.run_said.specs.transcript_model.Lines as line
+use Rattle.run_said.specs.transcript_model.Lines.{Line, Cause}
+use Rattle.run_said.specs.script_model.Statements.{Statement, Reading, Blank, Says, Bad}
 use Rattle.commit_protocol.specs.Table as table
 use Rattle.commit_protocol.specs.World.{In}
 use Rattle.unit_laws.specs.Units.{Map}
-use Rattle.run_model.specs.World as world
-use Rattle.run_model.specs.World.{World, Shared, Node, Act, DiskCounts, Outturn, Lost, Taken, Half, MayTurnOut, Settlement, Tables, Directs, acted, find_node, is_durable, powered, with_half, aborted_prepared}
-use Rattle.run_model.specs.Answers.{Task, last_line, last_lines, powers, task_service}
-use Rattle.run_model.specs.Steps.{Choice, TaskAllowed, task_effect}
-use Rattle.run_model.specs.Statements.{Part, PartEffect, Begins, Phases, Step, Allowed, RoseAt, begun_with, part_effect, phases_of, put_into, refused_at_once, stops_at}
-use Rattle.run_model.specs.Transcript.{Entry, Legal}
-use Rattle.run_model.proofs.NodeLists.{found_name, put_node, some_is}
-use Rattle.run_model.proofs.PartTasks.{View, Doing, Fixed, view}
-use Rattle.run_model.proofs.Refusing.{each_phase}
-use Rattle.run_model.proofs.TaskLemmas.{effect_name}
-use Rattle.world_laws.specs.Nodes.{IsOf}
+use Rattle.run_said.specs.run_model.World as world
+use Rattle.run_said.specs.run_model.World.{World, Shared, Node, Act, DiskCounts, Outturn, Lost, Taken, Half, MayTurnOut, Settlement, Tables, Directs, acted, find_node, is_durable, powered, with_half, aborted_prepared}
+use Rattle.run_said.specs.run_model.Answers.{Task, last_line, last_lines, powers, task_service}
+use Rattle.run_said.specs.run_model.Steps.{Choice, TaskAllowed, task_effect}
+use Rattle.run_said.specs.run_model.Statements.{Part, PartEffect, Begins, Phases, Step, Allowed, RoseAt, begun_with, part_effect, phases_of, put_into, refused_at_once, stops_at}
+use Rattle.run_said.specs.run_model.Transcript.{Entry, Legal}
+use Rattle.run_said.proofs.run_model.NodeLists.{found_name, put_node, some_is}
+use Rattle.run_said.proofs.run_model.PartTasks.{View, Doing, Fixed, view}
+use Rattle.run_said.proofs.run_model.Refusing.{each_phase}
+use Rattle.run_said.proofs.run_model.TaskLemmas.{effect_name}
+use Rattle.recovery_laws.specs.world_laws.Nodes.{IsOf}
 use Rattle.run_laws.specs.Promises.{last_in, settlements_of}
 use Rattle.run_laws.proofs.Keeping.{Kept, else_effect, is_init, powered_kept}
 use Rattle.run_laws.proofs.LastBoots.{boots, plain_one}
@@ -186,7 +186,7 @@ module _ (x : Id) where
       old_keeps : Rattle.run_laws.proofs.Keeping.Keeps (one x (λ t. Unit {0}) (λ t. Unit {0}) (λ s. Unit {0}))
       old_keeps = one_keeps x (λ t. Unit {0}) (λ t. Unit {0}) (λ s. Unit {0}) (λ t p. p) (λ s e h. h)
 
-      e : Rattle.run_model.specs.Steps.TaskEffect
+      e : Rattle.run_said.specs.run_model.Steps.TaskEffect
       e = task_effect u.shared (stops_at x.node u) a.n a.task c
 
       found : find_node x.node (part_effect u p c).world.nodes ≡ Some (task_effect u.shared (stops_at x.node u) a.n a.task c).node
@@ -219,9 +219,9 @@ module _ (x : Id) where
       }
 
       no_init : (t : Task) → boots t ≡ true → (is_init t ≡ false) × (powers (task_service t) ≡ true)
-      no_init (Rattle.run_model.specs.Answers.Serves Rattle.script_model.specs.Statements.Boot) on = (refl, refl)
-      no_init Rattle.run_model.specs.Answers.Restarts on = (refl, refl)
-      no_init (Rattle.run_model.specs.Answers.Serves _) on = let no : ⊥ = cc in absurd no
+      no_init (Rattle.run_said.specs.run_model.Answers.Serves Rattle.run_said.specs.script_model.Statements.Boot) on = (refl, refl)
+      no_init Rattle.run_said.specs.run_model.Answers.Restarts on = (refl, refl)
+      no_init (Rattle.run_said.specs.run_model.Answers.Serves _) on = let no : ⊥ = cc in absurd no
       no_init _ on = let no : ⊥ = cc in absurd no
 
       kept : Kept (one x (λ t. Unit {0}) (λ t. Unit {0}) (λ s. Unit {0})) (one_keeps x (λ t. Unit {0}) (λ t. Unit {0}) (λ s. Unit {0}) (λ t p. p) (λ s e h. h)) tt (task_effect u.shared (stops_at x.node u) a.n a.task c).node

@@ -5,10 +5,10 @@ use Rattle.vms_model.specs.Transactions.{Outcome, Commit, Abort, Reason, SegFail
 use Rattle.unit_laws.specs.Units.{Map}
 use Rattle.commit_protocol.specs.Table as table
 use Rattle.commit_protocol.specs.Table.{Key as BranchKey, Settles, Undoes}
-use Rattle.run_model.specs.World as world
-use Rattle.run_model.specs.World.{Node, Act, Directs, Formats, Settlement, Tables, aborted_prepared, acted, is_durable, next_moment, settlement, with_half}
-use Rattle.run_model.specs.Answers.{unit_key}
-use Rattle.run_model.specs.Steps.{node_after}
+use Rattle.run_said.specs.run_model.World as world
+use Rattle.run_said.specs.run_model.World.{Node, Act, Directs, Formats, Settlement, Tables, aborted_prepared, acted, is_durable, next_moment, settlement, with_half}
+use Rattle.run_said.specs.run_model.Answers.{unit_key}
+use Rattle.run_said.specs.run_model.Steps.{node_after}
 use Rattle.run_laws.proofs.AllShown.{IsFormed}
 use Rattle.run_laws.proofs.Keeping.{Keeps, Scheme, closes_plain}
 use Rattle.run_laws.proofs.RowFits.{Fits}

@@ -1,5 +1,5 @@
 -- Messages by which a branch is brought into a transaction, or to its vote, are of none that is a first one.
-use Rattle.log_laws.specs.Slots.{slot_records}
+use Rattle.run_said.specs.log_laws.Slots.{slot_records}
 use Rattle.std.proofs.Common.{◌≡◌, ℕ, zero, suc, ◌⊎◌, List, [], ◌∷◌, ◌++◌, map, take, inl, inr, Bool, true, false, Option, Some, None, if◌then◌else◌, refl, sym, ◌∙◌, ap, subst}
 use Rattle.std.specs.Prelude.{nat_lt, length}
 use Rattle.std.specs.Option.{option_map, option_and_then}
@@ -7,10 +7,10 @@ use Rattle.vms_model.specs.Ids.{Id}
 use Rattle.vms_model.specs.Keys.{Key}
 use Rattle.vms_model.specs.Transactions.{Aborted}
 use Rattle.vms_model.specs.Limits.{message_limit}
-use Rattle.transcript_model.specs.Lines as line
-use Rattle.transcript_model.specs.Lines.{Line}
-use Rattle.script_model.specs.Statements.{Statement, At, Deliver, LinkDown, Settle, Operation, Request, Init, Boot, Create, SetFile, StartTrans, AddBranch, StartBranch, Records, Direct, EndBranch, EndTrans, AbortTrans, Inquire, DeclareRm, JoinRm, AckEvent, ForgetRm, GetDti, LmcpShow, LmcpDump, Dump, DumpJournal, DumpImages, Backup, Recover, Fuse, Crash, Clock, Reading, Blank, Says, Bad}
-use Rattle.records_model.specs.Records.{Change}
+use Rattle.run_said.specs.transcript_model.Lines as line
+use Rattle.run_said.specs.transcript_model.Lines.{Line}
+use Rattle.run_said.specs.script_model.Statements.{Statement, At, Deliver, LinkDown, Settle, Operation, Request, Init, Boot, Create, SetFile, StartTrans, AddBranch, StartBranch, Records, Direct, EndBranch, EndTrans, AbortTrans, Inquire, DeclareRm, JoinRm, AckEvent, ForgetRm, GetDti, LmcpShow, LmcpDump, Dump, DumpJournal, DumpImages, Backup, Recover, Fuse, Crash, Clock, Reading, Blank, Says, Bad}
+use Rattle.unit_laws.specs.records_model.Records.{Change}
 use Rattle.commit_protocol.specs.Messages as message
 use Rattle.commit_protocol.specs.Messages.{Message, Name, Reply}
 use Rattle.commit_protocol.specs.Table as table
@@ -20,19 +20,19 @@ use Rattle.commit_protocol.specs.Rows.{Event, row}
 use Rattle.commit_protocol.specs.Allowed.{is_prepared}
 use Rattle.commit_protocol.specs.World.{In, undo_all}
 use Rattle.commit_protocol.proofs.Lists.{in_parts, slice_in}
-use Rattle.run_model.specs.World as world
-use Rattle.run_model.specs.World.{World, Shared, Node, Act, DiskCounts, Label, Tables, acted, find_node, next_id, next_moment, posted, shared_after, shared_tabled, tm_of}
-use Rattle.run_model.specs.Answers as answers
-use Rattle.run_model.specs.Answers.{Row, Service, Task, Serves, Ticks, Takes, Hears, LosesLink, RunsDown, Restarts, begins, branch_labelled, branch_named, just, powers, refused_before_reading, service, silent, table_rows, task_service, told_if, told_rows}
-use Rattle.run_model.specs.Steps.{Choice, Cut, Unpowered, Whole, WithoutMemory, TaskAllowed, begun, ready_node, rows_if, rows_to_cut, shared_after_rows, shared_then, task_effect, whole}
-use Rattle.run_model.specs.Statements.{Part, Does, Asks, PartEffect, Question, Heard, Unanswered, Doubtful, Begins, Phase, Phases, Step, Allowed, RoseAt, begun_with, done_at, message_at, named_node, no_node, part_effect, phases_of, put_into, question, refused_at_once, stops_at}
-use Rattle.run_model.specs.StepLaws.{TaskAt, asked_by, task_of, task_of_part}
-use Rattle.run_model.specs.Transcript.{Entry, Turn as LineTurn}
-use Rattle.run_model.proofs.NodeLists.{some_is}
-use Rattle.run_model.proofs.PartLemmas.{EachPart, EachPhase, allowed_here, done_here, phases_fold}
-use Rattle.run_model.proofs.PartTasks.{View, Doing, Fixed, each_up, view}
-use Rattle.run_model.proofs.Refusing.{not_ready}
-use Rattle.run_model.proofs.TaskLemmas.{effect_name}
+use Rattle.run_said.specs.run_model.World as world
+use Rattle.run_said.specs.run_model.World.{World, Shared, Node, Act, DiskCounts, Label, Tables, acted, find_node, next_id, next_moment, posted, shared_after, shared_tabled, tm_of}
+use Rattle.run_said.specs.run_model.Answers as answers
+use Rattle.run_said.specs.run_model.Answers.{Row, Service, Task, Serves, Ticks, Takes, Hears, LosesLink, RunsDown, Restarts, begins, branch_labelled, branch_named, just, powers, refused_before_reading, service, silent, table_rows, task_service, told_if, told_rows}
+use Rattle.run_said.specs.run_model.Steps.{Choice, Cut, Unpowered, Whole, WithoutMemory, TaskAllowed, begun, ready_node, rows_if, rows_to_cut, shared_after_rows, shared_then, task_effect, whole}
+use Rattle.run_said.specs.run_model.Statements.{Part, Does, Asks, PartEffect, Question, Heard, Unanswered, Doubtful, Begins, Phase, Phases, Step, Allowed, RoseAt, begun_with, done_at, message_at, named_node, no_node, part_effect, phases_of, put_into, question, refused_at_once, stops_at}
+use Rattle.run_said.specs.run_model.StepLaws.{TaskAt, asked_by, task_of, task_of_part}
+use Rattle.run_said.specs.run_model.Transcript.{Entry, Turn as LineTurn}
+use Rattle.run_said.proofs.run_model.NodeLists.{some_is}
+use Rattle.run_said.proofs.run_model.PartLemmas.{EachPart, EachPhase, allowed_here, done_here, phases_fold}
+use Rattle.run_said.proofs.run_model.PartTasks.{View, Doing, Fixed, each_up, view}
+use Rattle.run_said.proofs.run_model.Refusing.{not_ready}
+use Rattle.run_said.proofs.run_model.TaskLemmas.{effect_name}
 use Rattle.run_laws.proofs.Contents.{IsTold}
 use Rattle.run_laws.proofs.Drawing.{next_new}
 use Rattle.run_laws.proofs.EffectsTell.{effect_step}
@@ -42,7 +42,7 @@ use Rattle.run_laws.proofs.Preparing.{AllTell, PreparesBy, SendsBy, Tells, is_le
 use Rattle.run_laws.proofs.Told.{IsApart}
 use Rattle.run_laws.proofs.ToldParts.{IsThinPart, Thins, found_after, link_phases, part_thins, settle_phases}
 use Rattle.run_laws.proofs.TurnsTell.{HaveSteps, found_step, put_step}
-use Rattle.world_laws.proofs.FileRows.{images_by, recovers_by, saves_by, sets_by}
+use Rattle.recovery_laws.proofs.world_laws.FileRows.{images_by, recovers_by, saves_by, sets_by}
 
 -- What the acts of rows send.
 

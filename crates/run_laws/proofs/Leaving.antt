@@ -2,15 +2,15 @@
 use Rattle.std.proofs.Common.{◌≡◌, ℕ, ◌⊎◌, List, [], ◌∷◌, ◌++◌, inl, inr, Option, Some, None, refl, sym, ◌∙◌, subst}
 use Rattle.std.proofs.lemmas.Bool.{both_ways}
 use Rattle.std.proofs.lemmas.List.{append_assoc}
-use Rattle.transcript_model.specs.Lines as line
-use Rattle.transcript_model.specs.Lines.{Line, Cause}
-use Rattle.script_model.specs.Statements.{Statement, At, Settle, Deliver, LinkDown}
+use Rattle.run_said.specs.transcript_model.Lines as line
+use Rattle.run_said.specs.transcript_model.Lines.{Line, Cause}
+use Rattle.run_said.specs.script_model.Statements.{Statement, At, Settle, Deliver, LinkDown}
 use Rattle.commit_protocol.specs.World.{In}
 use Rattle.commit_protocol.proofs.Lists.{in_left, in_right}
-use Rattle.run_model.specs.World.{World, Settlement}
-use Rattle.run_model.specs.Statements.{Begins, Phases, Step, begun_with, part_effect, phases_of, refused_at_once}
-use Rattle.run_model.proofs.PartLemmas.{phases_fold}
-use Rattle.run_model.proofs.Refusing.{each_phase}
+use Rattle.run_said.specs.run_model.World.{World, Settlement}
+use Rattle.run_said.specs.run_model.Statements.{Begins, Phases, Step, begun_with, part_effect, phases_of, refused_at_once}
+use Rattle.run_said.proofs.run_model.PartLemmas.{phases_fold}
+use Rattle.run_said.proofs.run_model.Refusing.{each_phase}
 use Rattle.run_laws.specs.Promises.{settlements_of}
 use Rattle.run_laws.proofs.Traces.{IsQuick, IsUnder, part_in, part_under, phases_trace}
 use Rattle.run_laws.proofs.Unshown.{IsLineOf}

@@ -5,20 +5,20 @@ use Rattle.std.specs.Str.{bytes_eq}
 use Rattle.std.proofs.lemmas.Bool.{both_ways}
 use Rattle.std.proofs.lemmas.Slice.Eq.{bytes_eq-Decides}
 use Rattle.vms_model.specs.Ids.{Id}
-use Rattle.transcript_model.specs.Lines as line
-use Rattle.transcript_model.specs.Lines.{Line, Cause}
-use Rattle.script_model.specs.Statements.{Request, StartTrans, StartBranch, Clock}
-use Rattle.records_model.specs.History.{same_id}
+use Rattle.run_said.specs.transcript_model.Lines as line
+use Rattle.run_said.specs.transcript_model.Lines.{Line, Cause}
+use Rattle.run_said.specs.script_model.Statements.{Request, StartTrans, StartBranch, Clock}
+use Rattle.unit_laws.specs.records_model.History.{same_id}
 use Rattle.commit_protocol.specs.Table as table
 use Rattle.commit_protocol.specs.Table.{Branch, Child, Prepared, Key as BranchKey, child, table_after}
 use Rattle.commit_protocol.specs.Allowed.{is_prepared}
 use Rattle.commit_protocol.specs.World.{In}
-use Rattle.run_model.specs.World as world
-use Rattle.run_model.specs.World.{Shared, Node, Act, Tables, acted, booted, prepared_left, with_changed}
-use Rattle.run_model.specs.Answers.{Row, Task, Serves, last_lines, powers, prepared_line, task_service}
-use Rattle.run_model.specs.Steps.{Choice, TaskAllowed, node_after, task_effect}
-use Rattle.world_laws.proofs.BootLemmas.{branch_in}
-use Rattle.world_laws.proofs.TableLemmas.{found_in}
+use Rattle.run_said.specs.run_model.World as world
+use Rattle.run_said.specs.run_model.World.{Shared, Node, Act, Tables, acted, booted, prepared_left, with_changed}
+use Rattle.run_said.specs.run_model.Answers.{Row, Task, Serves, last_lines, powers, prepared_line, task_service}
+use Rattle.run_said.specs.run_model.Steps.{Choice, TaskAllowed, node_after, task_effect}
+use Rattle.recovery_laws.proofs.world_laws.BootLemmas.{branch_in}
+use Rattle.recovery_laws.proofs.world_laws.TableLemmas.{found_in}
 use Rattle.run_laws.proofs.Contents.{ArePutting, PutsIn, TaskAccepts, TaskNotes, begins_none, task_putting}
 use Rattle.run_laws.proofs.EachRow.{AreVoteless, VotesSo, is_voteless}
 use Rattle.run_laws.proofs.FallsBegun.{with_fall}

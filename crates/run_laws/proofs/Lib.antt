@@ -123,3 +123,4 @@ pub mod Retelling
 pub mod EventsWait
 pub mod EventsTasks
 pub mod Vetoing
+pub mod run_agreement

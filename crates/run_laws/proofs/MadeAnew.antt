@@ -2,20 +2,20 @@
 use Rattle.std.proofs.Common.{◌≡◌, ℕ, true, false, List, [], ◌∷◌, ◌++◌, Option, Some, None, refl, sym, ◌∙◌, ap, subst}
 use Rattle.std.specs.Str.{bytes_eq}
 use Rattle.std.proofs.lemmas.Slice.Eq.{bytes_eq-Decides}
-use Rattle.transcript_model.specs.Lines as line
-use Rattle.transcript_model.specs.Lines.{Line}
-use Rattle.script_model.specs.Statements.{At, Bad, Blank, Deliver, Init, LinkDown, Reading, Request, Says, Settle}
-use Rattle.run_model.specs.World as world
-use Rattle.run_model.specs.World.{Node, Outturn, World, acted, empty_directory, find_node, powered}
-use Rattle.run_model.specs.Answers.{Serves, refused_before_reading, service}
-use Rattle.run_model.specs.Statements.{Step, stops_at}
-use Rattle.run_model.specs.StepLaws.{is_refusal}
-use Rattle.run_model.specs.Steps.{Choice, Cut, TaskEffect, Unpowered, Whole, WithoutMemory, ready_node, task_effect, whole, with_unknown_volume}
-use Rattle.run_model.specs.Transcript.{Turn}
-use Rattle.run_model.proofs.CauseLemmas.{refuses_first}
-use Rattle.run_model.proofs.NodeLists.{put_node, some_is}
-use Rattle.run_model.proofs.Refusing.{same_last}
-use Rattle.run_model.proofs.TaskLemmas.{effect_name}
+use Rattle.run_said.specs.transcript_model.Lines as line
+use Rattle.run_said.specs.transcript_model.Lines.{Line}
+use Rattle.run_said.specs.script_model.Statements.{At, Bad, Blank, Deliver, Init, LinkDown, Reading, Request, Says, Settle}
+use Rattle.run_said.specs.run_model.World as world
+use Rattle.run_said.specs.run_model.World.{Node, Outturn, World, acted, empty_directory, find_node, powered}
+use Rattle.run_said.specs.run_model.Answers.{Serves, refused_before_reading, service}
+use Rattle.run_said.specs.run_model.Statements.{Step, stops_at}
+use Rattle.run_said.specs.run_model.StepLaws.{is_refusal}
+use Rattle.run_said.specs.run_model.Steps.{Choice, Cut, TaskEffect, Unpowered, Whole, WithoutMemory, ready_node, task_effect, whole, with_unknown_volume}
+use Rattle.run_said.specs.run_model.Transcript.{Turn}
+use Rattle.run_said.proofs.run_model.CauseLemmas.{refuses_first}
+use Rattle.run_said.proofs.run_model.NodeLists.{put_node, some_is}
+use Rattle.run_said.proofs.run_model.Refusing.{same_last}
+use Rattle.run_said.proofs.run_model.TaskLemmas.{effect_name}
 use Rattle.run_laws.specs.Accounts.{made_anew}
 use Rattle.run_laws.proofs.Named.{Ended, Refused, Turned, ended}
 

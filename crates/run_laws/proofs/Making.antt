@@ -5,25 +5,25 @@ use Rattle.std.specs.Option.{option_map, option_and_then}
 use Rattle.std.specs.Str.{bytes_eq}
 use Rattle.std.proofs.lemmas.Bool.{and_parts}
 use Rattle.vms_model.specs.Ids.{Id}
-use Rattle.transcript_model.specs.Lines as line
-use Rattle.transcript_model.specs.Lines.{Line}
-use Rattle.script_model.specs.Statements.{At, StartTrans, AddBranch, StartBranch, Says}
-use Rattle.script_model.specs.Grammar.{reading}
+use Rattle.run_said.specs.transcript_model.Lines as line
+use Rattle.run_said.specs.transcript_model.Lines.{Line}
+use Rattle.run_said.specs.script_model.Statements.{At, StartTrans, AddBranch, StartBranch, Says}
+use Rattle.run_said.specs.script_model.Grammar.{reading}
 use Rattle.commit_protocol.specs.Table as table
 use Rattle.commit_protocol.specs.Table.{Branch, State, Active, Joining, Key as BranchKey, child, is_first}
 use Rattle.commit_protocol.specs.Allowed.{is_active, is_prepared}
 use Rattle.commit_protocol.specs.Rows as rows
 use Rattle.commit_protocol.specs.Rows.{blank, row}
 use Rattle.commit_protocol.specs.World.{In}
-use Rattle.run_model.specs.World as world
-use Rattle.run_model.specs.World.{World, Shared, Node, Label, Act, acted, find_label, find_node, labelled, next_id, shared_after, tm_of, with_node, with_serial}
-use Rattle.run_model.specs.Operations.{first_of, refused_if}
-use Rattle.run_model.specs.Answers as answers
-use Rattle.run_model.specs.Answers.{Row, Service, service, refused_before_reading, branch_labelled, in_state, is_first_active, made_label, new_label, of_label, authorised, silent, table_rows, to_branch, told_if, begins, unsettled, unsettled_label}
-use Rattle.run_model.specs.Steps.{succeeded, node_after_rows, shared_after_rows}
-use Rattle.run_model.specs.Transcript.{Entry}
-use Rattle.run_model.proofs.NodeLists.{found_name, some_is}
-use Rattle.run_model.proofs.TaskLemmas.{rows_name}
+use Rattle.run_said.specs.run_model.World as world
+use Rattle.run_said.specs.run_model.World.{World, Shared, Node, Label, Act, acted, find_label, find_node, labelled, next_id, shared_after, tm_of, with_node, with_serial}
+use Rattle.run_said.specs.run_model.Operations.{first_of, refused_if}
+use Rattle.run_said.specs.run_model.Answers as answers
+use Rattle.run_said.specs.run_model.Answers.{Row, Service, service, refused_before_reading, branch_labelled, in_state, is_first_active, made_label, new_label, of_label, authorised, silent, table_rows, to_branch, told_if, begins, unsettled, unsettled_label}
+use Rattle.run_said.specs.run_model.Steps.{succeeded, node_after_rows, shared_after_rows}
+use Rattle.run_said.specs.run_model.Transcript.{Entry}
+use Rattle.run_said.proofs.run_model.NodeLists.{found_name, some_is}
+use Rattle.run_said.proofs.run_model.TaskLemmas.{rows_name}
 use Rattle.run_laws.specs.Causes.{HasBegun}
 use Rattle.run_laws.specs.Naming.{ToldLabel, find_told, id_given, serial_begun, ids_here, ids_told, labels_here, labels_told, numbered}
 use Rattle.run_laws.proofs.Directed.{neither, not_refused}

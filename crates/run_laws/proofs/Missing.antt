@@ -4,10 +4,10 @@ use Rattle.std.specs.Option.{option_map, option_and_then}
 use Rattle.std.specs.Str.{bytes_eq}
 use Rattle.std.proofs.lemmas.Bool.{and_parts, both_ways}
 use Rattle.vms_model.specs.Ids.{Id}
-use Rattle.transcript_model.specs.Lines as line
-use Rattle.transcript_model.specs.Lines.{Line, Cause}
-use Rattle.script_model.specs.Statements.{Statement, At, Deliver, LinkDown, Settle, Request, StartTrans, AddBranch, StartBranch, Clock, EndTrans, Reading, Blank, Says, Bad}
-use Rattle.script_model.specs.Grammar.{reading}
+use Rattle.run_said.specs.transcript_model.Lines as line
+use Rattle.run_said.specs.transcript_model.Lines.{Line, Cause}
+use Rattle.run_said.specs.script_model.Statements.{Statement, At, Deliver, LinkDown, Settle, Request, StartTrans, AddBranch, StartBranch, Clock, EndTrans, Reading, Blank, Says, Bad}
+use Rattle.run_said.specs.script_model.Grammar.{reading}
 use Rattle.commit_protocol.specs.Agreement.{Distinct}
 use Rattle.commit_protocol.specs.Messages as message
 use Rattle.commit_protocol.specs.Messages.{Message, same_id}
@@ -18,21 +18,21 @@ use Rattle.commit_protocol.specs.Rows as rows
 use Rattle.commit_protocol.specs.Rows.{Event, Got, all_taken, authorise_row, authorise_state, blank, ending, has_bid, row}
 use Rattle.commit_protocol.specs.World.{In}
 use Rattle.commit_protocol.proofs.Lists.{find-key, in_left, in_right, same_id-refl, same_id-true, same_key-refl, same_key-true}
-use Rattle.run_model.specs.World as world
-use Rattle.run_model.specs.World.{World, Shared, Node, Label, DiskCounts, find_node, labelled, next_id, opened, tm_of, with_node}
-use Rattle.run_model.specs.Answers as answers
-use Rattle.run_model.specs.Answers.{Row, Task, is_first_active, made_label, new_label, unsettled_label, Serves, Ticks, Takes, Hears, LosesLink, RunsDown, Restarts, begins, branch_labelled, powers, refused_before_reading, service, table_rows, task_service, told_if, told_rows, touches}
-use Rattle.run_model.specs.Steps.{Choice, TaskAllowed, TaskEffect, lines_of_rows, node_after_rows, succeeded, task_effect}
-use Rattle.run_model.specs.Statements.{Part, PartEffect, Begins, Phase, Phases, Step, RoseAt, begun_with, message_at, named_node, part_effect, phases_of, put_into, refused_at_once, stops_at, where_up}
-use Rattle.run_model.specs.StepLaws.{TaskAt, is_refusal, task_of}
-use Rattle.run_model.specs.Transcript.{Entry, Legal, AreOpening, Turn as LineTurn}
-use Rattle.run_model.proofs.NodeLists.{clash, put_node, some_is}
-use Rattle.run_model.proofs.PartLemmas.{EachPhase, phases_fold}
-use Rattle.run_model.proofs.PartTasks.{View, Doing, Fixed, each_up, view}
-use Rattle.run_model.proofs.Refusing.{same_last}
-use Rattle.run_model.proofs.TaskLemmas.{effect_name, rows_name}
-use Rattle.world_laws.proofs.TableLemmas.{in_serials}
-use Rattle.world_laws.proofs.UpLemmas.{differ}
+use Rattle.run_said.specs.run_model.World as world
+use Rattle.run_said.specs.run_model.World.{World, Shared, Node, Label, DiskCounts, find_node, labelled, next_id, opened, tm_of, with_node}
+use Rattle.run_said.specs.run_model.Answers as answers
+use Rattle.run_said.specs.run_model.Answers.{Row, Task, is_first_active, made_label, new_label, unsettled_label, Serves, Ticks, Takes, Hears, LosesLink, RunsDown, Restarts, begins, branch_labelled, powers, refused_before_reading, service, table_rows, task_service, told_if, told_rows, touches}
+use Rattle.run_said.specs.run_model.Steps.{Choice, TaskAllowed, TaskEffect, lines_of_rows, node_after_rows, succeeded, task_effect}
+use Rattle.run_said.specs.run_model.Statements.{Part, PartEffect, Begins, Phase, Phases, Step, RoseAt, begun_with, message_at, named_node, part_effect, phases_of, put_into, refused_at_once, stops_at, where_up}
+use Rattle.run_said.specs.run_model.StepLaws.{TaskAt, is_refusal, task_of}
+use Rattle.run_said.specs.run_model.Transcript.{Entry, Legal, AreOpening, Turn as LineTurn}
+use Rattle.run_said.proofs.run_model.NodeLists.{clash, put_node, some_is}
+use Rattle.run_said.proofs.run_model.PartLemmas.{EachPhase, phases_fold}
+use Rattle.run_said.proofs.run_model.PartTasks.{View, Doing, Fixed, each_up, view}
+use Rattle.run_said.proofs.run_model.Refusing.{same_last}
+use Rattle.run_said.proofs.run_model.TaskLemmas.{effect_name, rows_name}
+use Rattle.recovery_laws.proofs.world_laws.TableLemmas.{in_serials}
+use Rattle.recovery_laws.proofs.world_laws.UpLemmas.{differ}
 use Rattle.run_laws.specs.Naming.{ToldLabel, find_told, ids_here, ids_told, labels_told}
 use Rattle.run_laws.specs.Causes.{HasBegun, HasJoined, HasJoinedBy, IsMissing, IsWhole, JoinsBy, WasAuthorised, WasSent}
 use Rattle.run_laws.specs.Laws.{MissingHold, PendingHold, WaitsHold}
@@ -649,11 +649,11 @@ module _ (e : Entry) (es : List Entry) (w v : World) (h : AreJoined es w) (named
       never_told : (request : Request) → ((label other new : List ℕ) → request ≡ AddBranch label other new → ⊥) → (n : Node) (tid bid : Id) → IsTold w.shared n (Serves request) (rows.Authorise tid bid) → ⊥
       never_told (AddBranch label other new) never n tid bid told = never label other new refl
       never_told (EndTrans label) never n tid bid told = let no : rows.Authorise tid bid ≡ rows.EndTrans told.0.key.tid = told.2 in cc
-      never_told (Rattle.script_model.specs.Statements.EndBranch label) never n tid bid told = let no : rows.Authorise tid bid ≡ rows.EndBranch told.0.key.serial = told.1 in cc
-      never_told (Rattle.script_model.specs.Statements.AbortTrans label) never n tid bid told = let no : rows.Authorise tid bid ≡ rows.AbortBranch told.0.key.serial Rattle.vms_model.specs.Transactions.Aborted = told.1 in cc
-      never_told (Rattle.script_model.specs.Statements.Inquire who) never n tid bid told = let no : rows.Authorise tid bid ≡ rows.InquireBranch told.0.key.serial = told.1 in cc
-      never_told (Rattle.script_model.specs.Statements.JoinRm label rm) never n tid bid told = let no : rows.Authorise tid bid ≡ rows.JoinRm told.0.key.serial rm = told.1 in cc
-      never_told (Rattle.script_model.specs.Statements.AckEvent who rm reply) never n tid bid told = let no : rows.Authorise tid bid ≡ rows.Replied told.0 rm reply = told.1 in cc
+      never_told (Rattle.run_said.specs.script_model.Statements.EndBranch label) never n tid bid told = let no : rows.Authorise tid bid ≡ rows.EndBranch told.0.key.serial = told.1 in cc
+      never_told (Rattle.run_said.specs.script_model.Statements.AbortTrans label) never n tid bid told = let no : rows.Authorise tid bid ≡ rows.AbortBranch told.0.key.serial Rattle.vms_model.specs.Transactions.Aborted = told.1 in cc
+      never_told (Rattle.run_said.specs.script_model.Statements.Inquire who) never n tid bid told = let no : rows.Authorise tid bid ≡ rows.InquireBranch told.0.key.serial = told.1 in cc
+      never_told (Rattle.run_said.specs.script_model.Statements.JoinRm label rm) never n tid bid told = let no : rows.Authorise tid bid ≡ rows.JoinRm told.0.key.serial rm = told.1 in cc
+      never_told (Rattle.run_said.specs.script_model.Statements.AckEvent who rm reply) never n tid bid told = let no : rows.Authorise tid bid ≡ rows.Replied told.0 rm reply = told.1 in cc
       never_told _ never n tid bid told = told
 
       clocked : (now : ℕ) → reading e.source.text ≡ Says (At node (Clock now)) → (step : Step w (At node (Clock now)) e.lines v) → AreJoined (e ∷ es) v

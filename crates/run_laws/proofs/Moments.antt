@@ -5,26 +5,26 @@ use Rattle.std.specs.Str.{bytes_eq}
 use Rattle.std.proofs.lemmas.Bool.{leb-false, or_parts}
 use Rattle.vms_model.specs.Ids.{Id}
 use Rattle.vms_model.specs.Transactions.{Abort, SegFail}
-use Rattle.transcript_model.specs.Lines as line
-use Rattle.transcript_model.specs.Lines.{Line, Cause}
-use Rattle.script_model.specs.Statements.{Statement, At, Deliver, LinkDown, Settle, Request, Init, Boot, Fuse, Clock, Reading, Blank, Says, Bad}
-use Rattle.script_model.specs.Grammar.{reading}
+use Rattle.run_said.specs.transcript_model.Lines as line
+use Rattle.run_said.specs.transcript_model.Lines.{Line, Cause}
+use Rattle.run_said.specs.script_model.Statements.{Statement, At, Deliver, LinkDown, Settle, Request, Init, Boot, Fuse, Clock, Reading, Blank, Says, Bad}
+use Rattle.run_said.specs.script_model.Grammar.{reading}
 use Rattle.commit_protocol.specs.Table as table
 use Rattle.commit_protocol.specs.Table.{Key as BranchKey, Settles, Undoes}
 use Rattle.commit_protocol.specs.World.{In}
-use Rattle.run_model.specs.World as world
-use Rattle.run_model.specs.World.{World, Shared, Node, DiskCounts, Durable, Settlement, Act, Boots, ComesUp, Formats, Tables, Directs, Outturn, Lost, Taken, Half, IsOpening, acted, powered, unpowered, settled_more, settlement_of, with_settlement, aborted_prepared, with_half, next_moment, find_node, with_node, opened}
-use Rattle.run_model.specs.Operations.{refused_if}
-use Rattle.run_model.specs.Answers as answers
-use Rattle.run_model.specs.Answers.{Row, Service, Task, Serves, Ticks, Takes, Hears, LosesLink, RunsDown, Restarts, task_service, service, refused_before_reading, powers, spoils, occupies, touches}
-use Rattle.run_model.specs.Steps.{Choice, Whole, WithoutMemory, Unpowered, Cut, TaskAllowed, task_effect, ready_node, node_after, node_after_rows, shared_then, shared_after_rows, rows_to_cut, act_begun, if_durable, with_unknown_volume, whole, begun, occupied}
-use Rattle.run_model.specs.Statements.{Part, PartEffect, Begins, Phases, Step, Allowed, part_effect, stops_at, RoseAt, phases_of, refused_at_once, begun_with}
-use Rattle.run_model.specs.Transcript.{Entry, Legal, Turn as LineTurn, AreOpening}
-use Rattle.run_model.proofs.NodeLists.{clash, some_is}
-use Rattle.run_model.proofs.TaskLemmas.{effect_name}
-use Rattle.run_model.proofs.PartLemmas.{phases_fold}
-use Rattle.run_model.proofs.PartTasks.{View, Doing, Fixed, view}
-use Rattle.run_model.proofs.Refusing.{each_phase}
+use Rattle.run_said.specs.run_model.World as world
+use Rattle.run_said.specs.run_model.World.{World, Shared, Node, DiskCounts, Durable, Settlement, Act, Boots, ComesUp, Formats, Tables, Directs, Outturn, Lost, Taken, Half, IsOpening, acted, powered, unpowered, settled_more, settlement_of, with_settlement, aborted_prepared, with_half, next_moment, find_node, with_node, opened}
+use Rattle.run_said.specs.run_model.Operations.{refused_if}
+use Rattle.run_said.specs.run_model.Answers as answers
+use Rattle.run_said.specs.run_model.Answers.{Row, Service, Task, Serves, Ticks, Takes, Hears, LosesLink, RunsDown, Restarts, task_service, service, refused_before_reading, powers, spoils, occupies, touches}
+use Rattle.run_said.specs.run_model.Steps.{Choice, Whole, WithoutMemory, Unpowered, Cut, TaskAllowed, task_effect, ready_node, node_after, node_after_rows, shared_then, shared_after_rows, rows_to_cut, act_begun, if_durable, with_unknown_volume, whole, begun, occupied}
+use Rattle.run_said.specs.run_model.Statements.{Part, PartEffect, Begins, Phases, Step, Allowed, part_effect, stops_at, RoseAt, phases_of, refused_at_once, begun_with}
+use Rattle.run_said.specs.run_model.Transcript.{Entry, Legal, Turn as LineTurn, AreOpening}
+use Rattle.run_said.proofs.run_model.NodeLists.{clash, some_is}
+use Rattle.run_said.proofs.run_model.TaskLemmas.{effect_name}
+use Rattle.run_said.proofs.run_model.PartLemmas.{phases_fold}
+use Rattle.run_said.proofs.run_model.PartTasks.{View, Doing, Fixed, view}
+use Rattle.run_said.proofs.run_model.Refusing.{each_phase}
 use Rattle.run_laws.specs.Promises.{Descends}
 use Rattle.run_laws.proofs.Directed.{neither, not_refused}
 use Rattle.run_laws.proofs.EachRow.{EachRow, cut_each, is_quiet, take_each, task_each}

@@ -1,15 +1,15 @@
 -- What a task leaves of a node by which no label is made or takes a branch, and no volume is made: the ids that the node drew stay drawn, no branch begins, and the
 -- labels stay.
-use Rattle.log_laws.specs.Slots.{slot_records}
+use Rattle.run_said.specs.log_laws.Slots.{slot_records}
 use Rattle.std.proofs.Common.{◌≡◌, ◌<◌, ◌≤◌, ℕ, ◌+◌, zero, suc, ◌⊎◌, List, [], ◌∷◌, ◌++◌, map, take, inl, inr, Bool, true, false, Option, Some, None, if◌then◌else◌, refl, sym, ◌∙◌, ap, subst, arith}
 use Rattle.std.specs.Option.{option_map}
 use Rattle.vms_model.specs.Ids.{Id}
 use Rattle.vms_model.specs.Keys.{Key}
 use Rattle.vms_model.specs.Transactions.{Aborted}
-use Rattle.transcript_model.specs.Lines.{Line}
-use Rattle.script_model.specs.Statements.{Operation, Request, Init, Boot, Create, SetFile, StartTrans, AddBranch, StartBranch, Records, Direct, EndBranch, EndTrans, AbortTrans, Inquire, DeclareRm, JoinRm, AckEvent, ForgetRm, GetDti, LmcpShow, LmcpDump, Dump, DumpJournal, DumpImages, Backup, Recover, Fuse, Crash, Clock}
-use Rattle.records_model.specs.Records.{Change}
-use Rattle.records_model.specs.History.{same_id}
+use Rattle.run_said.specs.transcript_model.Lines.{Line}
+use Rattle.run_said.specs.script_model.Statements.{Operation, Request, Init, Boot, Create, SetFile, StartTrans, AddBranch, StartBranch, Records, Direct, EndBranch, EndTrans, AbortTrans, Inquire, DeclareRm, JoinRm, AckEvent, ForgetRm, GetDti, LmcpShow, LmcpDump, Dump, DumpJournal, DumpImages, Backup, Recover, Fuse, Crash, Clock}
+use Rattle.unit_laws.specs.records_model.Records.{Change}
+use Rattle.unit_laws.specs.records_model.History.{same_id}
 use Rattle.unit_laws.specs.Units.{Map}
 use Rattle.commit_protocol.specs.Messages.{LogRecord, Name, Reply}
 use Rattle.commit_protocol.specs.Table as table
@@ -19,15 +19,15 @@ use Rattle.commit_protocol.specs.Rows.{Event, row}
 use Rattle.commit_protocol.specs.Allowed.{is_prepared}
 use Rattle.commit_protocol.specs.Standing.{BeginsNothing}
 use Rattle.commit_protocol.specs.World.{In, undo_all}
-use Rattle.run_model.specs.World as world
-use Rattle.run_model.specs.World.{Shared, Node, File, Settlement, Durable, Act, Boots, ComesUp, Tables, Outturn, Lost, Taken, Half, acted, shared_after, shared_tabled, powered, unpowered, with_changed, with_half, with_settlement, settlement_of, aborted_prepared, is_durable, prepared_left, next_moment, tm_of}
-use Rattle.run_model.specs.Answers as answers
-use Rattle.run_model.specs.Answers.{Row, Service, Task, Serves, Ticks, Takes, Hears, LosesLink, RunsDown, Restarts, task_service, service, refused_before_reading, table_rows, told_if, told_rows, just, silent, branch_labelled, branch_named, powers, spoils}
-use Rattle.run_model.specs.Steps.{Choice, Whole, WithoutMemory, Unpowered, Cut, task_effect, ready_node, node_after, node_after_rows, shared_then, shared_after_rows, rows_if, rows_to_cut, with_unknown_volume, whole, begun}
-use Rattle.run_model.proofs.NodeLists.{clash}
+use Rattle.run_said.specs.run_model.World as world
+use Rattle.run_said.specs.run_model.World.{Shared, Node, File, Settlement, Durable, Act, Boots, ComesUp, Tables, Outturn, Lost, Taken, Half, acted, shared_after, shared_tabled, powered, unpowered, with_changed, with_half, with_settlement, settlement_of, aborted_prepared, is_durable, prepared_left, next_moment, tm_of}
+use Rattle.run_said.specs.run_model.Answers as answers
+use Rattle.run_said.specs.run_model.Answers.{Row, Service, Task, Serves, Ticks, Takes, Hears, LosesLink, RunsDown, Restarts, task_service, service, refused_before_reading, table_rows, told_if, told_rows, just, silent, branch_labelled, branch_named, powers, spoils}
+use Rattle.run_said.specs.run_model.Steps.{Choice, Whole, WithoutMemory, Unpowered, Cut, task_effect, ready_node, node_after, node_after_rows, shared_then, shared_after_rows, rows_if, rows_to_cut, with_unknown_volume, whole, begun}
+use Rattle.run_said.proofs.run_model.NodeLists.{clash}
 use Rattle.run_laws.proofs.EffectsTell.{IsStep}
 use Rattle.run_laws.proofs.Noting.{OpenIn, NotesIn, AllNote, row_notes}
-use Rattle.world_laws.proofs.FileRows.{images_by, recovers_by, saves_by, sets_by}
+use Rattle.recovery_laws.proofs.world_laws.FileRows.{images_by, recovers_by, saves_by, sets_by}
 
 -- a node has an unsettled branch of this key that is not prepared; while the node is down, it had one when it fell
 abbrev pub HasOpen : Node → BranchKey → Type 0

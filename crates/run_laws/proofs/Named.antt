@@ -3,24 +3,24 @@ use Rattle.std.proofs.Common.{◌≡◌, ℕ, List, [], ◌∷◌, ◌++◌, map
 use Rattle.std.specs.Option.{option_map}
 use Rattle.std.proofs.lemmas.Bool.{or_parts}
 use Rattle.vms_model.specs.Ids.{Id}
-use Rattle.transcript_model.specs.Lines as line
-use Rattle.transcript_model.specs.Lines.{Line, Cause}
-use Rattle.script_model.specs.Statements.{Statement, At, Deliver, LinkDown, Settle, Request, Init, StartTrans, AddBranch, StartBranch, Direct, Clock, Says}
+use Rattle.run_said.specs.transcript_model.Lines as line
+use Rattle.run_said.specs.transcript_model.Lines.{Line, Cause}
+use Rattle.run_said.specs.script_model.Statements.{Statement, At, Deliver, LinkDown, Settle, Request, Init, StartTrans, AddBranch, StartBranch, Direct, Clock, Says}
 use Rattle.commit_protocol.specs.Table.{Key as BranchKey}
 use Rattle.commit_protocol.specs.Messages.{Message}
 use Rattle.commit_protocol.specs.World.{In}
-use Rattle.run_model.specs.World.{World, Shared, Node, Label, DiskCounts, find_node, with_node}
-use Rattle.run_model.specs.Answers as answers
-use Rattle.run_model.specs.Answers.{Row, Task, Serves, Service, service, task_service, refused_before_reading, occupies, powers, touches}
-use Rattle.run_model.specs.Steps.{Choice, Whole, WithoutMemory, Unpowered, Cut, TaskAllowed, task_effect, ready_node, succeeded, whole, begun, occupied, shared_then, shared_after_rows, rows_to_cut}
-use Rattle.run_model.specs.Statements.{Part, PartEffect, Begins, Phases, Step, part_effect, put_into, stops_at, RoseAt, message_at, phases_of, refused_at_once, begun_with}
-use Rattle.run_model.specs.Transcript.{Entry}
-use Rattle.run_model.specs.StepLaws.{TaskAt, is_refusal, task_of}
-use Rattle.run_model.proofs.NodeLists.{some_is}
-use Rattle.run_model.proofs.PartLemmas.{turn, phases_fold}
-use Rattle.run_model.proofs.PartTasks.{View, Doing, Fixed, view, IsOk, sweep_ok, task_there}
-use Rattle.run_model.proofs.TaskLemmas.{effect_name}
-use Rattle.run_model.proofs.Failing.{once_refuses}
+use Rattle.run_said.specs.run_model.World.{World, Shared, Node, Label, DiskCounts, find_node, with_node}
+use Rattle.run_said.specs.run_model.Answers as answers
+use Rattle.run_said.specs.run_model.Answers.{Row, Task, Serves, Service, service, task_service, refused_before_reading, occupies, powers, touches}
+use Rattle.run_said.specs.run_model.Steps.{Choice, Whole, WithoutMemory, Unpowered, Cut, TaskAllowed, task_effect, ready_node, succeeded, whole, begun, occupied, shared_then, shared_after_rows, rows_to_cut}
+use Rattle.run_said.specs.run_model.Statements.{Part, PartEffect, Begins, Phases, Step, part_effect, put_into, stops_at, RoseAt, message_at, phases_of, refused_at_once, begun_with}
+use Rattle.run_said.specs.run_model.Transcript.{Entry}
+use Rattle.run_said.specs.run_model.StepLaws.{TaskAt, is_refusal, task_of}
+use Rattle.run_said.proofs.run_model.NodeLists.{some_is}
+use Rattle.run_said.proofs.run_model.PartLemmas.{turn, phases_fold}
+use Rattle.run_said.proofs.run_model.PartTasks.{View, Doing, Fixed, view, IsOk, sweep_ok, task_there}
+use Rattle.run_said.proofs.run_model.TaskLemmas.{effect_name}
+use Rattle.run_said.proofs.run_model.Failing.{once_refuses}
 use Rattle.run_laws.specs.Naming.{ToldLabel, IdsDiffer, ids_here, ids_told, labels_here, labels_told}
 use Rattle.run_laws.specs.Causes.{HasBegun, WasBegun}
 use Rattle.run_laws.specs.SaidLaws.{SaidThere}

@@ -2,25 +2,25 @@
 use Rattle.std.proofs.Common.{◌≡◌, ℕ, zero, suc, ◌⊎◌, List, [], ◌∷◌, ◌++◌, map, take, drop, inl, inr, true, false, not, ◌||◌, Option, Some, None, refl, sym, ◌∙◌, ap, subst}
 use Rattle.std.specs.List.{last_or}
 use Rattle.vms_model.specs.Ids.{Id}
-use Rattle.transcript_model.specs.Lines as line
-use Rattle.transcript_model.specs.Lines.{Line, Cause}
-use Rattle.script_model.specs.Statements.{Statement, At, Request, Init, StartTrans, AddBranch, StartBranch, Direct, Operation, Reading, Blank, Says, Bad}
-use Rattle.script_model.specs.Grammar.{reading}
-use Rattle.records_model.specs.Records.{Change}
+use Rattle.run_said.specs.transcript_model.Lines as line
+use Rattle.run_said.specs.transcript_model.Lines.{Line, Cause}
+use Rattle.run_said.specs.script_model.Statements.{Statement, At, Request, Init, StartTrans, AddBranch, StartBranch, Direct, Operation, Reading, Blank, Says, Bad}
+use Rattle.run_said.specs.script_model.Grammar.{reading}
+use Rattle.unit_laws.specs.records_model.Records.{Change}
 use Rattle.commit_protocol.specs.Table.{Key as BranchKey}
 use Rattle.commit_protocol.specs.World.{In}
-use Rattle.run_model.specs.World as world
-use Rattle.run_model.specs.World.{World, Shared, Node, Label, DiskCounts, Act, acted, fallen, Volatile, find_node, next_id, next_moment, opened, with_node}
-use Rattle.run_model.specs.Operations.{refused_if}
-use Rattle.run_model.specs.Answers as answers
-use Rattle.run_model.specs.Answers.{Row, Serves, Service, service, task_service, refused_before_reading, directed, changes_at}
-use Rattle.run_model.specs.Steps.{Choice, Whole, WithoutMemory, Unpowered, Cut, TaskAllowed, TaskEffect, task_effect, ready_node, whole, begun, cut, act_begun, lines_of_rows, node_after_rows, shared_after_rows, rows_if, rows_to_cut}
-use Rattle.run_model.specs.Statements.{Step, put_into, stops_at, RoseAt}
-use Rattle.run_model.specs.Transcript.{Entry, Legal, Turn as LineTurn, AreOpening}
-use Rattle.run_model.specs.StepLaws.{is_refusal}
-use Rattle.run_model.proofs.NodeLists.{clash, some_is}
-use Rattle.run_model.proofs.TaskLemmas.{effect_name, outcome}
-use Rattle.run_model.proofs.Refusing.{not_ready}
+use Rattle.run_said.specs.run_model.World as world
+use Rattle.run_said.specs.run_model.World.{World, Shared, Node, Label, DiskCounts, Act, acted, fallen, Volatile, find_node, next_id, next_moment, opened, with_node}
+use Rattle.run_said.specs.run_model.Operations.{refused_if}
+use Rattle.run_said.specs.run_model.Answers as answers
+use Rattle.run_said.specs.run_model.Answers.{Row, Serves, Service, service, task_service, refused_before_reading, directed, changes_at}
+use Rattle.run_said.specs.run_model.Steps.{Choice, Whole, WithoutMemory, Unpowered, Cut, TaskAllowed, TaskEffect, task_effect, ready_node, whole, begun, cut, act_begun, lines_of_rows, node_after_rows, shared_after_rows, rows_if, rows_to_cut}
+use Rattle.run_said.specs.run_model.Statements.{Step, put_into, stops_at, RoseAt}
+use Rattle.run_said.specs.run_model.Transcript.{Entry, Legal, Turn as LineTurn, AreOpening}
+use Rattle.run_said.specs.run_model.StepLaws.{is_refusal}
+use Rattle.run_said.proofs.run_model.NodeLists.{clash, some_is}
+use Rattle.run_said.proofs.run_model.TaskLemmas.{effect_name, outcome}
+use Rattle.run_said.proofs.run_model.Refusing.{not_ready}
 use Rattle.run_laws.specs.Naming.{IdsDiffer, committed_ids, ids_here, ids_told, labels_here, labels_told}
 use Rattle.run_laws.proofs.Directed.{neither, not_refused}
 use Rattle.run_laws.proofs.EachRow.{is_plain}

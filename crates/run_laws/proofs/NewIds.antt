@@ -2,11 +2,11 @@
 use Rattle.std.proofs.Common.{◌≡◌, ℕ, List, [], ◌∷◌, ◌++◌, None, refl, sym, ◌∙◌, ap, subst}
 use Rattle.vms_model.specs.Ids.{Id}
 use Rattle.vms_model.specs.Transactions.{Commit}
-use Rattle.script_model.specs.Statements.{At, Direct, Says}
+use Rattle.run_said.specs.script_model.Statements.{At, Direct, Says}
 use Rattle.commit_protocol.specs.World.{In}
-use Rattle.run_model.specs.World.{World, opened}
-use Rattle.run_model.specs.Statements.{Step}
-use Rattle.run_model.specs.Transcript.{Legal, Turn as LineTurn}
+use Rattle.run_said.specs.run_model.World.{World, opened}
+use Rattle.run_said.specs.run_model.Statements.{Step}
+use Rattle.run_said.specs.run_model.Transcript.{Legal, Turn as LineTurn}
 use Rattle.commit_protocol.proofs.Lists.{in_right}
 use Rattle.run_laws.specs.Naming.{IdsDiffer, ids_here, ids_told, committed_ids}
 use Rattle.run_laws.specs.Promises.{IsSettledSo, commitment, settlements_of}

@@ -4,23 +4,23 @@ use Rattle.std.specs.Str.{bytes_eq}
 use Rattle.std.proofs.lemmas.Bool.{both_ways}
 use Rattle.vms_model.specs.Ids.{Id}
 use Rattle.vms_model.specs.Transactions.{Outcome, Commit, Abort, Reason, SegFail}
-use Rattle.transcript_model.specs.Lines as line
-use Rattle.transcript_model.specs.Lines.{Line, Cause}
-use Rattle.script_model.specs.Statements.{At, Reading, Says}
-use Rattle.script_model.specs.Grammar.{reading}
+use Rattle.run_said.specs.transcript_model.Lines as line
+use Rattle.run_said.specs.transcript_model.Lines.{Line, Cause}
+use Rattle.run_said.specs.script_model.Statements.{At, Reading, Says}
+use Rattle.run_said.specs.script_model.Grammar.{reading}
 use Rattle.unit_laws.specs.Units.{Map}
 use Rattle.unit_laws.specs.Journal.{RecoveryUnit}
 use Rattle.commit_protocol.specs.Table as table
 use Rattle.commit_protocol.specs.Table.{Key as BranchKey, Settles, Undoes}
 use Rattle.commit_protocol.specs.World.{In}
-use Rattle.run_model.specs.World.{World, Node, Durable, DiskCounts, Act, Boots, ComesUp, Directs, Formats, Tables, Settlement, IsOpening, aborted_prepared, acted, find_node, next_moment, opened, settlement, with_half}
-use Rattle.run_model.specs.Answers.{Row, last_line, last_lines, settled_line, task_service, unit_key}
-use Rattle.run_model.specs.Steps.{node_after, task_effect}
-use Rattle.run_model.specs.Transcript.{Entry, Legal, AreOpening}
+use Rattle.run_said.specs.run_model.World.{World, Node, Durable, DiskCounts, Act, Boots, ComesUp, Directs, Formats, Tables, Settlement, IsOpening, aborted_prepared, acted, find_node, next_moment, opened, settlement, with_half}
+use Rattle.run_said.specs.run_model.Answers.{Row, last_line, last_lines, settled_line, task_service, unit_key}
+use Rattle.run_said.specs.run_model.Steps.{node_after, task_effect}
+use Rattle.run_said.specs.run_model.Transcript.{Entry, Legal, AreOpening}
 use Rattle.run_laws.specs.Promises.{WasShownSo, abort, commitment, last_in, settlement_in, shown_in}
-use Rattle.world_laws.proofs.FindLemmas.{some_is}
-use Rattle.world_laws.proofs.RestartLemmas.{undone_unit}
-use Rattle.world_laws.proofs.WorldLemmas.{each_opening}
+use Rattle.recovery_laws.proofs.world_laws.FindLemmas.{some_is}
+use Rattle.recovery_laws.proofs.world_laws.RestartLemmas.{undone_unit}
+use Rattle.recovery_laws.proofs.world_laws.WorldLemmas.{each_opening}
 use Rattle.run_laws.proofs.EachRow.{ArePlain, is_plain}
 use Rattle.run_laws.proofs.Keeping.{Keeps, Kept, Scheme, all_take, any_effect, closes_plain}
 use Rattle.run_laws.proofs.Moments.{later_moment}

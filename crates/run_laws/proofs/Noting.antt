@@ -10,7 +10,7 @@ use Rattle.commit_protocol.specs.Allowed.{is_prepared}
 use Rattle.commit_protocol.specs.Standing.{BeginsNothing}
 use Rattle.commit_protocol.specs.World.{In}
 use Rattle.commit_protocol.proofs.Lists.{find-key, in_left}
-use Rattle.run_model.proofs.NodeLists.{some_is}
+use Rattle.run_said.proofs.run_model.NodeLists.{some_is}
 
 -- one of these branches has this key and is not prepared
 abbrev pub OpenIn : List Branch → Key → Type 0

@@ -5,8 +5,8 @@ use Rattle.std.specs.List.{AllByRecursion}
 use Rattle.std.proofs.lemmas.Bool.{both_ways, false_from_ne_true}
 use Rattle.vms_model.specs.Ids.{Id}
 use Rattle.vms_model.specs.Transactions.{Outcome, Reason}
-use Rattle.transcript_model.specs.Lines.{Line}
-use Rattle.records_model.specs.History.{same_id}
+use Rattle.run_said.specs.transcript_model.Lines.{Line}
+use Rattle.unit_laws.specs.records_model.History.{same_id}
 use Rattle.unit_laws.specs.Units.{Map}
 use Rattle.unit_laws.specs.Journal.{RecoveryUnit, find_unit, units_in}
 use Rattle.unit_laws.specs.JournalLaws.{is_unit}
@@ -19,25 +19,25 @@ use Rattle.commit_protocol.specs.World as protocol
 use Rattle.commit_protocol.specs.World.{In}
 use Rattle.commit_protocol.proofs.Lists.{find-key}
 use Rattle.commit_protocol.proofs.Serials.{ApartAfter, act_apart, keyed, parts_apart}
-use Rattle.log_laws.specs.Slots.{prepared_of, records_in}
-use Rattle.log_laws.proofs.Reading.{is_prepared_one}
-use Rattle.run_model.specs.World as world
-use Rattle.run_model.specs.World.{Node, Durable, Act, Arms, Boots, Changes, Clocks, ComesUp, Creates, Directs, Draws, Falls, Formats, Holds, Labels, Marks, Saves, Recovers, Numbers, Tables, Settlement, Half, MayTurnOut, Unknown, aborted_prepared, acted, is_durable, next_id, next_moment, settlement, settlement_of, with_half, with_changed}
-use Rattle.run_model.specs.Answers as answers
-use Rattle.run_model.specs.Answers.{Row, last_lines, settled_line, unit_key}
-use Rattle.run_model.specs.Steps.{node_after}
+use Rattle.run_said.specs.log_laws.Slots.{prepared_of, records_in}
+use Rattle.run_said.proofs.log_laws.Reading.{is_prepared_one}
+use Rattle.run_said.specs.run_model.World as world
+use Rattle.run_said.specs.run_model.World.{Node, Durable, Act, Arms, Boots, Changes, Clocks, ComesUp, Creates, Directs, Draws, Falls, Formats, Holds, Labels, Marks, Saves, Recovers, Numbers, Tables, Settlement, Half, MayTurnOut, Unknown, aborted_prepared, acted, is_durable, next_id, next_moment, settlement, settlement_of, with_half, with_changed}
+use Rattle.run_said.specs.run_model.Answers as answers
+use Rattle.run_said.specs.run_model.Answers.{Row, last_lines, settled_line, unit_key}
+use Rattle.run_said.specs.run_model.Steps.{node_after}
 use Rattle.run_laws.specs.Promises.{SettledOnce}
-use Rattle.world_laws.specs.Nodes.{IsKeptDisk, IsOf, IsUp}
-use Rattle.world_laws.specs.Running.{IsDrawn}
-use Rattle.world_laws.proofs.IdLemmas.{id_is}
-use Rattle.world_laws.proofs.BootLemmas.{branch_in}
-use Rattle.world_laws.proofs.FindLemmas.{some_is}
-use Rattle.world_laws.proofs.LogLemmas.{branch_of, record_there, state_prepared}
-use Rattle.world_laws.proofs.RestartLemmas.{has_settled, undone_unit}
-use Rattle.world_laws.proofs.ServedLemmas.{undrawn}
-use Rattle.world_laws.proofs.TableLemmas.{changed_serials, found_in, in_cut, in_serials, of_serial, serials_apart}
-use Rattle.world_laws.proofs.UndoLemmas.{all_onto}
-use Rattle.world_laws.proofs.UpLemmas.{branch_drawn, differ, drawn_more}
+use Rattle.recovery_laws.specs.world_laws.Nodes.{IsKeptDisk, IsOf, IsUp}
+use Rattle.recovery_laws.specs.world_laws.Running.{IsDrawn}
+use Rattle.recovery_laws.proofs.world_laws.IdLemmas.{id_is}
+use Rattle.recovery_laws.proofs.world_laws.BootLemmas.{branch_in}
+use Rattle.recovery_laws.proofs.world_laws.FindLemmas.{some_is}
+use Rattle.recovery_laws.proofs.world_laws.LogLemmas.{branch_of, record_there, state_prepared}
+use Rattle.recovery_laws.proofs.world_laws.RestartLemmas.{has_settled, undone_unit}
+use Rattle.recovery_laws.proofs.world_laws.ServedLemmas.{undrawn}
+use Rattle.recovery_laws.proofs.world_laws.TableLemmas.{changed_serials, found_in, in_cut, in_serials, of_serial, serials_apart}
+use Rattle.recovery_laws.proofs.world_laws.UndoLemmas.{all_onto}
+use Rattle.recovery_laws.proofs.world_laws.UpLemmas.{branch_drawn, differ, drawn_more}
 use Rattle.run_laws.proofs.RowFits.{FitsTable, RowFits, free_after, latest_id}
 use Rattle.run_laws.proofs.Keeping.{IsNextUnit, Keeps, Scheme, closes_plain}
 

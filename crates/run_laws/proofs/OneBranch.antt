@@ -3,8 +3,8 @@ use Rattle.std.proofs.Common.{◌≡◌, ◌<◌, ℕ, List, [], ◌∷◌, ◌+
 use Rattle.std.proofs.lemmas.Bool.{both_ways}
 use Rattle.vms_model.specs.Ids.{Id}
 use Rattle.vms_model.specs.Transactions.{Commit, Abort}
-use Rattle.transcript_model.specs.Lines.{Line}
-use Rattle.records_model.specs.History.{same_id}
+use Rattle.run_said.specs.transcript_model.Lines.{Line}
+use Rattle.unit_laws.specs.records_model.History.{same_id}
 use Rattle.unit_laws.specs.Units.{Map}
 use Rattle.unit_laws.specs.Journal.{RecoveryUnit}
 use Rattle.commit_protocol.specs.Messages.{LogRecord}
@@ -14,21 +14,21 @@ use Rattle.commit_protocol.specs.Allowed.{is_prepared}
 use Rattle.commit_protocol.specs.Standing.{Restates}
 use Rattle.commit_protocol.specs.World.{In}
 use Rattle.commit_protocol.proofs.Lists.{find-key}
-use Rattle.log_laws.specs.Slots.{prepared_of, records_in}
-use Rattle.run_model.specs.World as world
-use Rattle.run_model.specs.World.{Node, Durable, Act, Arms, Boots, Changes, Clocks, ComesUp, Creates, Directs, Draws, Falls, Formats, Holds, Labels, Marks, Saves, Recovers, Numbers, Tables, Settlement, Half, MayTurnOut, Unknown, aborted_prepared, acted, find_record, is_durable, next_id, next_moment, prepared_left, prepared_serials, records_by, settlement, with_changed, with_half, without_record}
-use Rattle.run_model.specs.Answers as answers
-use Rattle.run_model.specs.Answers.{Row, last_lines, settled_line, unit_key}
-use Rattle.run_model.specs.Steps.{node_after}
-use Rattle.world_laws.specs.Nodes.{IsOf, IsUp}
-use Rattle.world_laws.specs.Running.{IsDrawn}
-use Rattle.world_laws.proofs.BootLemmas.{branch_in}
-use Rattle.world_laws.proofs.FindLemmas.{some_is}
-use Rattle.world_laws.proofs.LogLemmas.{branch_of}
-use Rattle.world_laws.proofs.RestartLemmas.{undone_unit}
-use Rattle.world_laws.proofs.ServedLemmas.{undrawn}
-use Rattle.world_laws.proofs.TableLemmas.{found_in}
-use Rattle.world_laws.proofs.UpLemmas.{drawn_more, drawn_of}
+use Rattle.run_said.specs.log_laws.Slots.{prepared_of, records_in}
+use Rattle.run_said.specs.run_model.World as world
+use Rattle.run_said.specs.run_model.World.{Node, Durable, Act, Arms, Boots, Changes, Clocks, ComesUp, Creates, Directs, Draws, Falls, Formats, Holds, Labels, Marks, Saves, Recovers, Numbers, Tables, Settlement, Half, MayTurnOut, Unknown, aborted_prepared, acted, find_record, is_durable, next_id, next_moment, prepared_left, prepared_serials, records_by, settlement, with_changed, with_half, without_record}
+use Rattle.run_said.specs.run_model.Answers as answers
+use Rattle.run_said.specs.run_model.Answers.{Row, last_lines, settled_line, unit_key}
+use Rattle.run_said.specs.run_model.Steps.{node_after}
+use Rattle.recovery_laws.specs.world_laws.Nodes.{IsOf, IsUp}
+use Rattle.recovery_laws.specs.world_laws.Running.{IsDrawn}
+use Rattle.recovery_laws.proofs.world_laws.BootLemmas.{branch_in}
+use Rattle.recovery_laws.proofs.world_laws.FindLemmas.{some_is}
+use Rattle.recovery_laws.proofs.world_laws.LogLemmas.{branch_of}
+use Rattle.recovery_laws.proofs.world_laws.RestartLemmas.{undone_unit}
+use Rattle.recovery_laws.proofs.world_laws.ServedLemmas.{undrawn}
+use Rattle.recovery_laws.proofs.world_laws.TableLemmas.{found_in}
+use Rattle.recovery_laws.proofs.world_laws.UpLemmas.{drawn_more, drawn_of}
 use Rattle.run_laws.proofs.Moving.{in_cut, in_put}
 use Rattle.run_laws.proofs.RowFits.{FitsTable, RowFits, free_after, latest_id}
 use Rattle.run_laws.proofs.Keeping.{Keeps, Scheme, closes_plain}

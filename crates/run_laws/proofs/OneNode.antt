@@ -6,11 +6,11 @@ use Rattle.std.specs.Str.{bytes_eq}
 use Rattle.std.proofs.lemmas.Bool.{both_ways}
 use Rattle.vms_model.specs.Ids.{Id}
 use Rattle.vms_model.specs.Transactions.{Outcome, Commit, Abort}
-use Rattle.transcript_model.specs.Lines as line
-use Rattle.transcript_model.specs.Lines.{Line}
-use Rattle.script_model.specs.Statements.{At, Init, Reading, Says}
-use Rattle.script_model.specs.Grammar.{reading}
-use Rattle.records_model.specs.History.{same_id}
+use Rattle.run_said.specs.transcript_model.Lines as line
+use Rattle.run_said.specs.transcript_model.Lines.{Line}
+use Rattle.run_said.specs.script_model.Statements.{At, Init, Reading, Says}
+use Rattle.run_said.specs.script_model.Grammar.{reading}
+use Rattle.unit_laws.specs.records_model.History.{same_id}
 use Rattle.unit_laws.specs.Journal.{RecoveryUnit, active_units, find_unit, units_in}
 use Rattle.unit_laws.proofs.LiveLemmas.{id_is, id_itself}
 use Rattle.commit_protocol.specs.Messages.{LogRecord, Name, same_name}
@@ -20,17 +20,17 @@ use Rattle.commit_protocol.specs.Agreement.{Distinct}
 use Rattle.commit_protocol.specs.Opening.{Image, IsAgreeing, OldIn, OldKey, Opening, Shows, image_at, log_serials, no_image, or_none}
 use Rattle.commit_protocol.proofs.Lists.{same_name-true}
 use Rattle.commit_protocol.proofs.NewVolumes.{new_agree}
-use Rattle.log_laws.specs.Slots.{committed_of, prepared_of}
-use Rattle.run_model.specs.World as world
-use Rattle.run_model.specs.World.{Durable, IsOpening, IsReached, LastIsReached, Node, Settlement, prepared_left}
-use Rattle.run_model.specs.Answers.{unit_key}
-use Rattle.run_model.specs.Transcript.{Entry}
-use Rattle.run_model.proofs.NodeLists.{some_is}
+use Rattle.run_said.specs.log_laws.Slots.{committed_of, prepared_of}
+use Rattle.run_said.specs.run_model.World as world
+use Rattle.run_said.specs.run_model.World.{Durable, IsOpening, IsReached, LastIsReached, Node, Settlement, prepared_left}
+use Rattle.run_said.specs.run_model.Answers.{unit_key}
+use Rattle.run_said.specs.run_model.Transcript.{Entry}
+use Rattle.run_said.proofs.run_model.NodeLists.{some_is}
 use Rattle.run_agreement.specs.Seen.{has_volume, image_of, outcome_of}
 use Rattle.run_agreement.specs.Laws.{image_after_init, image_here, image_told, volume_image, with_image}
 use Rattle.run_laws.specs.Laws.{IsOfOneNode, OneNodeAgrees}
-use Rattle.world_laws.proofs.UndoLemmas.{all_onto}
-use Rattle.world_laws.proofs.UnitSets.{UnitsDiffer, units_differ}
+use Rattle.recovery_laws.proofs.world_laws.UndoLemmas.{all_onto}
+use Rattle.recovery_laws.proofs.world_laws.UnitSets.{UnitsDiffer, units_differ}
 
 -- one image
 module _ (name : Name) (i : Image) where

@@ -4,28 +4,28 @@ use Rattle.std.specs.Option.{option_map}
 use Rattle.std.proofs.lemmas.Bool.{both_ways, cases_Bool}
 use Rattle.vms_model.specs.Ids.{Id}
 use Rattle.vms_model.specs.Transactions.{Outcome, Commit, Abort, Reason}
-use Rattle.transcript_model.specs.Lines as line
-use Rattle.transcript_model.specs.Lines.{Line, Cause}
-use Rattle.script_model.specs.Statements.{AbortTrans, AckEvent, At, Bad, Blank, Boot, Clock, Deliver, Direct, EndTrans, LinkDown, Reading, Request, Says, Settle, Statement}
-use Rattle.script_model.specs.Grammar.{reading}
+use Rattle.run_said.specs.transcript_model.Lines as line
+use Rattle.run_said.specs.transcript_model.Lines.{Line, Cause}
+use Rattle.run_said.specs.script_model.Statements.{AbortTrans, AckEvent, At, Bad, Blank, Boot, Clock, Deliver, Direct, EndTrans, LinkDown, Reading, Request, Says, Settle, Statement}
+use Rattle.run_said.specs.script_model.Grammar.{reading}
 use Rattle.commit_protocol.specs.Messages as message
 use Rattle.commit_protocol.specs.Messages.{Message}
 use Rattle.commit_protocol.specs.Table.{Key as BranchKey, child, first, key_of}
 use Rattle.commit_protocol.specs.World.{In}
 use Rattle.commit_protocol.proofs.Lists.{find-key}
-use Rattle.run_model.specs.World.{DiskCounts, Node, Shared, World, find_node, opened, tm_of}
-use Rattle.run_model.specs.Answers.{Hears, LosesLink, Restarts, RunsDown, Serves, Takes, Task, Ticks, refused_before_reading, task_service}
-use Rattle.run_model.specs.Steps.{Choice, TaskAllowed, task_effect}
-use Rattle.run_model.specs.Statements.{Allowed, Begins, Part, PartEffect, Phases, RoseAt, Step, begun_with, message_at, named_node, part_effect, phases_of, refused_at_once, stops_at}
-use Rattle.run_model.specs.StepLaws.{TaskAt, task_of}
-use Rattle.run_model.specs.Transcript.{AreOpening, Entry, Legal, Turn}
-use Rattle.run_model.proofs.NodeLists.{found_name}
-use Rattle.run_model.proofs.PartLemmas.{EachPhase, phases_fold}
-use Rattle.run_model.proofs.PartTasks.{Doing, Fixed, View, view}
-use Rattle.run_model.proofs.Refusing.{refusals}
-use Rattle.run_model.proofs.TaskLemmas.{outcome}
-use Rattle.world_laws.specs.Nodes.{IsUp}
-use Rattle.world_laws.proofs.TableLemmas.{found_in}
+use Rattle.run_said.specs.run_model.World.{DiskCounts, Node, Shared, World, find_node, opened, tm_of}
+use Rattle.run_said.specs.run_model.Answers.{Hears, LosesLink, Restarts, RunsDown, Serves, Takes, Task, Ticks, refused_before_reading, task_service}
+use Rattle.run_said.specs.run_model.Steps.{Choice, TaskAllowed, task_effect}
+use Rattle.run_said.specs.run_model.Statements.{Allowed, Begins, Part, PartEffect, Phases, RoseAt, Step, begun_with, message_at, named_node, part_effect, phases_of, refused_at_once, stops_at}
+use Rattle.run_said.specs.run_model.StepLaws.{TaskAt, task_of}
+use Rattle.run_said.specs.run_model.Transcript.{AreOpening, Entry, Legal, Turn}
+use Rattle.run_said.proofs.run_model.NodeLists.{found_name}
+use Rattle.run_said.proofs.run_model.PartLemmas.{EachPhase, phases_fold}
+use Rattle.run_said.proofs.run_model.PartTasks.{Doing, Fixed, View, view}
+use Rattle.run_said.proofs.run_model.Refusing.{refusals}
+use Rattle.run_said.proofs.run_model.TaskLemmas.{outcome}
+use Rattle.recovery_laws.specs.world_laws.Nodes.{IsUp}
+use Rattle.recovery_laws.proofs.world_laws.TableLemmas.{found_in}
 use Rattle.run_laws.specs.Laws.{OthersHold}
 use Rattle.run_laws.specs.Promises.{commitment, is_told_prepared, prepared_by}
 use Rattle.run_laws.proofs.EachRow.{is_plain}
@@ -129,7 +129,7 @@ module _ (nodes : List Node) (disks : List DiskCounts) (opening : AreOpening nod
       x : IsToldSo n task (child tid serial)
       x = let r = effect_caused u.shared (stops_at other u) n task c (line.Committed tid serial moment) (commitment tid serial moment) here refl in by r.0 r.1 r.2 r.3 r.4 r.5
         where
-          by : (k : BranchKey) (o : Outcome) (reason : Reason) (at : ℕ) → line.Committed tid serial moment ≡ Rattle.run_model.specs.Answers.settled_line k o reason at → TaskCause u.shared n task k o reason → IsToldSo n task (child tid serial)
+          by : (k : BranchKey) (o : Outcome) (reason : Reason) (at : ℕ) → line.Committed tid serial moment ≡ Rattle.run_said.specs.run_model.Answers.settled_line k o reason at → TaskCause u.shared n task k o reason → IsToldSo n task (child tid serial)
           by k Commit reason at e cause =
               let tids : k.tid ≡ tid = tid_of k at e in
               let serials : k.serial ≡ serial = serial_of k at e in

@@ -6,8 +6,8 @@ use Rattle.std.specs.Str.{bytes_eq}
 use Rattle.std.proofs.lemmas.Slice.Eq.{bytes_eq-Decides}
 use Rattle.vms_model.specs.Ids.{Id}
 use Rattle.unit_laws.specs.Units.{Map}
-use Rattle.script_model.specs.Statements.{At, AckEvent, Init, Reading, Request, Says}
-use Rattle.script_model.specs.Grammar.{reading}
+use Rattle.run_said.specs.script_model.Statements.{At, AckEvent, Init, Reading, Request, Says}
+use Rattle.run_said.specs.script_model.Grammar.{reading}
 use Rattle.commit_protocol.specs.Messages.{CommittedRecord, ForgetReply, LogRecord, Name, NormalReply, PreparedRecord, PreparedReply, RecordKind, RememberReply, Reply, VetoReply, same_id, same_name}
 use Rattle.commit_protocol.specs.Table as table
 use Rattle.commit_protocol.specs.Table.{Key as BranchKey, acknowledge, acknowledged, holds, keep_record, nothing_left, records_after, release, waits_for, without_rm}
@@ -15,15 +15,15 @@ use Rattle.commit_protocol.specs.Table.{released as record_released}
 use Rattle.commit_protocol.specs.Rows.{is_forget}
 use Rattle.commit_protocol.specs.World.{In}
 use Rattle.commit_protocol.proofs.Lists.{in_left, same_id-true, same_name-refl, same_name-true}
-use Rattle.log_laws.specs.Slots.{records_in}
-use Rattle.log_laws.proofs.Reading.{committed_is, is_committed_one}
-use Rattle.run_model.specs.World as world
-use Rattle.run_model.specs.World.{Act, Durable, Node, Shared, Tables, World, aborted_prepared, acted, with_half}
-use Rattle.run_model.specs.Answers.{Row, Serves, Task, task_service}
-use Rattle.run_model.specs.Steps.{node_after}
-use Rattle.run_model.specs.Transcript.{Entry, Legal}
-use Rattle.world_laws.specs.Nodes.{IsUp}
-use Rattle.world_laws.proofs.LogLemmas.{prepared_branch}
+use Rattle.run_said.specs.log_laws.Slots.{records_in}
+use Rattle.run_said.proofs.log_laws.Reading.{committed_is, is_committed_one}
+use Rattle.run_said.specs.run_model.World as world
+use Rattle.run_said.specs.run_model.World.{Act, Durable, Node, Shared, Tables, World, aborted_prepared, acted, with_half}
+use Rattle.run_said.specs.run_model.Answers.{Row, Serves, Task, task_service}
+use Rattle.run_said.specs.run_model.Steps.{node_after}
+use Rattle.run_said.specs.run_model.Transcript.{Entry, Legal}
+use Rattle.recovery_laws.specs.world_laws.Nodes.{IsUp}
+use Rattle.recovery_laws.proofs.world_laws.LogLemmas.{prepared_branch}
 use Rattle.run_laws.specs.Owing.{IsOwed, MayForget, NoneForget, Waits}
 use Rattle.run_laws.proofs.Keeping.{AllTake, Kept, Keeps, Scheme, closes_plain, else_effect, is_init, is_special}
 use Rattle.run_laws.proofs.ReleasingTasks.{AllTakeOut, TakesOut, TaskReleases, task_releases}

@@ -1,22 +1,22 @@
 -- The settlements that a task shows are of branches of its node.
 use Rattle.std.proofs.Common.{◌≡◌, ℕ, List, [], ◌∷◌, inl, inr, Bool, false, Option, Some, None, refl, sym, ◌∙◌, ap, subst}
 use Rattle.vms_model.specs.Transactions.{Outcome, Commit, Abort, Reason, SegFail}
-use Rattle.transcript_model.specs.Lines as line
-use Rattle.transcript_model.specs.Lines.{Line, Cause}
+use Rattle.run_said.specs.transcript_model.Lines as line
+use Rattle.run_said.specs.transcript_model.Lines.{Line, Cause}
 use Rattle.commit_protocol.specs.Table as table
 use Rattle.commit_protocol.specs.Table.{Branch, Key as BranchKey, Settles, Undoes}
 use Rattle.commit_protocol.specs.World.{In}
 use Rattle.commit_protocol.proofs.Lists.{find-key}
-use Rattle.run_model.specs.World as world
-use Rattle.run_model.specs.World.{Shared, Node, Act, Directs, Formats, Tables, Settlement, acted, next_id, next_moment, settlement}
-use Rattle.run_model.specs.Answers.{Row, Task, last_line, last_lines, settled_line, task_service, unit_key}
-use Rattle.run_model.specs.Steps.{Choice, TaskAllowed, node_after, task_effect}
+use Rattle.run_said.specs.run_model.World as world
+use Rattle.run_said.specs.run_model.World.{Shared, Node, Act, Directs, Formats, Tables, Settlement, acted, next_id, next_moment, settlement}
+use Rattle.run_said.specs.run_model.Answers.{Row, Task, last_line, last_lines, settled_line, task_service, unit_key}
+use Rattle.run_said.specs.run_model.Steps.{Choice, TaskAllowed, node_after, task_effect}
 use Rattle.run_laws.specs.Accounts.{Account, commits_here}
 use Rattle.run_laws.specs.Promises.{commitment, settlement_in}
-use Rattle.run_model.proofs.TaskLemmas.{effect_name}
-use Rattle.world_laws.proofs.NodeLemmas.{acted_name}
-use Rattle.world_laws.proofs.TableLemmas.{found_in, in_serials}
-use Rattle.world_laws.proofs.UpLemmas.{branch_drawn}
+use Rattle.run_said.proofs.run_model.TaskLemmas.{effect_name}
+use Rattle.recovery_laws.proofs.world_laws.NodeLemmas.{acted_name}
+use Rattle.recovery_laws.proofs.world_laws.TableLemmas.{found_in, in_serials}
+use Rattle.recovery_laws.proofs.world_laws.UpLemmas.{branch_drawn}
 use Rattle.run_laws.proofs.AccountLemmas.{left_beside}
 use Rattle.run_laws.proofs.EachRow.{ArePlain}
 use Rattle.run_laws.proofs.AllShown.{shown_append, shown_on, shown_more, shown_plain, shown_stays}

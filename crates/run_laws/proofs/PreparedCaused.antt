@@ -4,23 +4,23 @@ use Rattle.std.proofs.Common.{◌≡◌, ℕ, ◌⊎◌, zero, suc, List, [], �
 use Rattle.std.specs.Option.{option_map}
 use Rattle.std.proofs.lemmas.Bool.{both_ways}
 use Rattle.vms_model.specs.Ids.{Id}
-use Rattle.transcript_model.specs.Lines as line
-use Rattle.transcript_model.specs.Lines.{Line, Cause}
-use Rattle.script_model.specs.Statements.{AckEvent, At, Bad, Blank, Boot, Clock, Deliver, EndBranch, Init, LinkDown, Reading, Request, Says, Settle, Statement}
+use Rattle.run_said.specs.transcript_model.Lines as line
+use Rattle.run_said.specs.transcript_model.Lines.{Line, Cause}
+use Rattle.run_said.specs.script_model.Statements.{AckEvent, At, Bad, Blank, Boot, Clock, Deliver, EndBranch, Init, LinkDown, Reading, Request, Says, Settle, Statement}
 use Rattle.commit_protocol.specs.Messages.{Message}
 use Rattle.commit_protocol.specs.Table.{Branch, Key as BranchKey, Leaves, Accepts, Prepares, child}
 use Rattle.commit_protocol.specs.World.{In}
-use Rattle.run_model.specs.World as world
-use Rattle.run_model.specs.World.{DiskCounts, Node, Outturn, Shared, Tables, World, find_node, opened, tm_of}
-use Rattle.run_model.specs.Answers.{prepared_lines, LosesLink, Restarts, Row, RunsDown, Serves, Takes, Task, Ticks, powers, refused_before_reading, service, task_service}
-use Rattle.run_model.specs.Steps.{Choice, Cut, Unpowered, Whole, WithoutMemory, begun, lines_of_rows, node_after, ready_node, rows_if, task_effect, whole}
-use Rattle.run_model.specs.Statements.{Begins, Does, Part, PartEffect, Phases, RoseAt, Step, begun_with, message_at, named_node, part_effect, phases_of, refused_at_once, stops_at}
-use Rattle.run_model.specs.StepLaws.{TaskAt, task_of, task_of_part}
-use Rattle.run_model.specs.Transcript.{AreOpening, Entry, Legal, Turn}
-use Rattle.run_model.proofs.NodeLists.{found_name, some_is}
-use Rattle.run_model.proofs.PartLemmas.{EachPhase, phases_fold}
-use Rattle.run_model.proofs.PartTasks.{Doing, Fixed, View, all_asked, each_restart, each_run_down, each_up, view}
-use Rattle.run_model.proofs.Refusing.{not_ready, refusals, same_last}
+use Rattle.run_said.specs.run_model.World as world
+use Rattle.run_said.specs.run_model.World.{DiskCounts, Node, Outturn, Shared, Tables, World, find_node, opened, tm_of}
+use Rattle.run_said.specs.run_model.Answers.{prepared_lines, LosesLink, Restarts, Row, RunsDown, Serves, Takes, Task, Ticks, powers, refused_before_reading, service, task_service}
+use Rattle.run_said.specs.run_model.Steps.{Choice, Cut, Unpowered, Whole, WithoutMemory, begun, lines_of_rows, node_after, ready_node, rows_if, task_effect, whole}
+use Rattle.run_said.specs.run_model.Statements.{Begins, Does, Part, PartEffect, Phases, RoseAt, Step, begun_with, message_at, named_node, part_effect, phases_of, refused_at_once, stops_at}
+use Rattle.run_said.specs.run_model.StepLaws.{TaskAt, task_of, task_of_part}
+use Rattle.run_said.specs.run_model.Transcript.{AreOpening, Entry, Legal, Turn}
+use Rattle.run_said.proofs.run_model.NodeLists.{found_name, some_is}
+use Rattle.run_said.proofs.run_model.PartLemmas.{EachPhase, phases_fold}
+use Rattle.run_said.proofs.run_model.PartTasks.{Doing, Fixed, View, all_asked, each_restart, each_run_down, each_up, view}
+use Rattle.run_said.proofs.run_model.Refusing.{not_ready, refusals, same_last}
 use Rattle.run_said.proofs.Passing.{AllPass, append_passes, prepared_passes}
 use Rattle.run_laws.specs.Laws.{LeavesCausedHold, VotesCausedHold}
 use Rattle.run_laws.specs.Promises.{IsPreparing, ShownThere}

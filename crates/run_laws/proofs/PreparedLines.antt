@@ -5,8 +5,8 @@ use Rattle.std.proofs.lemmas.Bool.{both_ways}
 use Rattle.vms_model.specs.Ids.{Id}
 use Rattle.vms_model.specs.Transactions.{Outcome, Commit, Abort, Reason}
 use Rattle.vms_model.specs.Limits.{message_limit}
-use Rattle.transcript_model.specs.Lines as line
-use Rattle.transcript_model.specs.Lines.{Line, Cause}
+use Rattle.run_said.specs.transcript_model.Lines as line
+use Rattle.run_said.specs.transcript_model.Lines.{Line, Cause}
 use Rattle.commit_protocol.specs.Messages as message
 use Rattle.commit_protocol.specs.Messages.{LogRecord, Message}
 use Rattle.commit_protocol.specs.Table as table
@@ -15,24 +15,24 @@ use Rattle.commit_protocol.specs.Rows as rows
 use Rattle.commit_protocol.specs.Rows.{Event, row}
 use Rattle.commit_protocol.specs.World.{In, undo_all}
 use Rattle.commit_protocol.proofs.Lists.{in_right}
-use Rattle.log_laws.proofs.Reading.{prepared_is}
-use Rattle.log_laws.specs.Slots.{prepared_of, records_in}
-use Rattle.run_model.specs.World as world
-use Rattle.run_model.specs.World.{World, DiskCounts, Shared, Node, Settlement, Outturn, MayTurnOut, Tables, acted, next_moment, powered, prepared_left, prepared_serials, shared_after, tm_of}
-use Rattle.run_model.specs.Answers as answers
-use Rattle.run_model.specs.Answers.{Row, Task, Serves, Ticks, Takes, Hears, LosesLink, RunsDown, Restarts, boot_rows, last_line, last_lines, left_active, powers, refused_before_reading, shown_by, shown_line, table_rows, task_service, unit_key}
-use Rattle.run_model.specs.Steps.{Choice, Cut, TaskAllowed, TaskEffect, Unpowered, Whole, WithoutMemory, begun, lines_of_rows, ready_node, rows_if, rows_to_cut, task_effect, whole}
-use Rattle.run_model.specs.Statements.{Part, Does, Asks, PartEffect, Question, Heard, Unanswered, Doubtful, Allowed, RoseAt, part_effect, question, stops_at}
-use Rattle.run_model.specs.StepLaws.{TaskAt, asked_by, task_of_part}
-use Rattle.run_model.proofs.NodeLists.{some_is}
-use Rattle.run_model.proofs.TaskLemmas as tasks
-use Rattle.run_model.proofs.TaskLemmas.{First, Failing, Lacking, Late, Success, outcome}
-use Rattle.run_model.proofs.PartTasks.{View, Doing, Fixed, view}
-use Rattle.run_model.proofs.Refusing.{not_ready}
-use Rattle.world_laws.specs.Nodes.{IsKeptDisk, IsKeptNode}
-use Rattle.world_laws.proofs.BootLemmas.{branch_in}
-use Rattle.world_laws.proofs.IdLemmas.{each_at}
-use Rattle.world_laws.proofs.NodeLemmas.{powered_ready}
+use Rattle.run_said.proofs.log_laws.Reading.{prepared_is}
+use Rattle.run_said.specs.log_laws.Slots.{prepared_of, records_in}
+use Rattle.run_said.specs.run_model.World as world
+use Rattle.run_said.specs.run_model.World.{World, DiskCounts, Shared, Node, Settlement, Outturn, MayTurnOut, Tables, acted, next_moment, powered, prepared_left, prepared_serials, shared_after, tm_of}
+use Rattle.run_said.specs.run_model.Answers as answers
+use Rattle.run_said.specs.run_model.Answers.{Row, Task, Serves, Ticks, Takes, Hears, LosesLink, RunsDown, Restarts, boot_rows, last_line, last_lines, left_active, powers, refused_before_reading, shown_by, shown_line, table_rows, task_service, unit_key}
+use Rattle.run_said.specs.run_model.Steps.{Choice, Cut, TaskAllowed, TaskEffect, Unpowered, Whole, WithoutMemory, begun, lines_of_rows, ready_node, rows_if, rows_to_cut, task_effect, whole}
+use Rattle.run_said.specs.run_model.Statements.{Part, Does, Asks, PartEffect, Question, Heard, Unanswered, Doubtful, Allowed, RoseAt, part_effect, question, stops_at}
+use Rattle.run_said.specs.run_model.StepLaws.{TaskAt, asked_by, task_of_part}
+use Rattle.run_said.proofs.run_model.NodeLists.{some_is}
+use Rattle.run_said.proofs.run_model.TaskLemmas as tasks
+use Rattle.run_said.proofs.run_model.TaskLemmas.{First, Failing, Lacking, Late, Success, outcome}
+use Rattle.run_said.proofs.run_model.PartTasks.{View, Doing, Fixed, view}
+use Rattle.run_said.proofs.run_model.Refusing.{not_ready}
+use Rattle.recovery_laws.specs.world_laws.Nodes.{IsKeptDisk, IsKeptNode}
+use Rattle.recovery_laws.proofs.world_laws.BootLemmas.{branch_in}
+use Rattle.recovery_laws.proofs.world_laws.IdLemmas.{each_at}
+use Rattle.recovery_laws.proofs.world_laws.NodeLemmas.{powered_ready}
 use Rattle.run_laws.proofs.Labelling.{served_up}
 use Rattle.run_laws.proofs.OneBranch.{in_order}
 use Rattle.run_said.proofs.Passing.{AllPass, acknowledged_passes, append_passes, printed_passes, released_passes}

@@ -7,30 +7,30 @@ use Rattle.std.proofs.lemmas.Bool.{both_ways, cases_Bool}
 use Rattle.std.proofs.lemmas.Slice.Eq.{bytes_eq-Decides}
 use Rattle.vms_model.specs.Ids.{Id}
 use Rattle.vms_model.specs.Transactions.{Outcome, Commit, Abort, Reason, Aborted, Vetoed, SyncFail, Timeout, CommFail, SegFail}
-use Rattle.transcript_model.specs.Lines as line
-use Rattle.transcript_model.specs.Lines.{Line, Cause}
-use Rattle.script_model.specs.Statements.{At, Blank, Bad, Clock, Deliver, Direct, EndTrans, AbortTrans, Init, LinkDown, Reading, Request, Says, Settle, Statement, AckEvent}
-use Rattle.script_model.specs.Grammar.{reading}
-use Rattle.records_model.specs.History.{same_id}
+use Rattle.run_said.specs.transcript_model.Lines as line
+use Rattle.run_said.specs.transcript_model.Lines.{Line, Cause}
+use Rattle.run_said.specs.script_model.Statements.{At, Blank, Bad, Clock, Deliver, Direct, EndTrans, AbortTrans, Init, LinkDown, Reading, Request, Says, Settle, Statement, AckEvent}
+use Rattle.run_said.specs.script_model.Grammar.{reading}
+use Rattle.unit_laws.specs.records_model.History.{same_id}
 use Rattle.commit_protocol.specs.Messages as message
 use Rattle.commit_protocol.specs.Messages.{LogRecord, Message, VetoReply}
 use Rattle.commit_protocol.specs.Table.{Key as BranchKey, key_of}
 use Rattle.commit_protocol.specs.World.{In}
-use Rattle.log_laws.specs.Slots.{prepared_of, records_in}
-use Rattle.run_model.specs.World as world
-use Rattle.run_model.specs.World.{World, Node, Act, DiskCounts, IsOpening, Settlement, find_node, opened, prepared_left, prepared_serials, settlement}
-use Rattle.run_model.specs.Answers.{Task, Serves, Ticks, Takes, Hears, LosesLink, Restarts, RunsDown, refused_before_reading, service}
-use Rattle.run_model.specs.Steps.{Choice, TaskEffect, Whole, TaskAllowed, task_effect, whole, ready_node}
-use Rattle.run_model.specs.Statements.{Part, named_node, Does, Asks, PartEffect, Phases, Begins, Step, Allowed, RoseAt, begun_with, message_at, part_effect, phases_of, refused_at_once, stops_at}
-use Rattle.run_model.specs.StepLaws.{TaskAt, task_of_part}
-use Rattle.run_model.specs.Transcript.{AreOpening, Entry, Legal, Turn}
-use Rattle.run_model.proofs.NodeLists.{found_name, put_node, some_is}
-use Rattle.run_model.proofs.PartLemmas.{EachPhase, phases_fold}
-use Rattle.run_model.proofs.PartTasks.{Doing, Fixed, View, all_asked, each_restart, each_run_down, each_up, view}
-use Rattle.run_model.proofs.Refusing.{refusals, same_last}
-use Rattle.run_model.proofs.TaskLemmas.{effect_name, outcome}
-use Rattle.world_laws.proofs.IdLemmas.{id_is}
-use Rattle.world_laws.proofs.WorldLemmas.{each_opening}
+use Rattle.run_said.specs.log_laws.Slots.{prepared_of, records_in}
+use Rattle.run_said.specs.run_model.World as world
+use Rattle.run_said.specs.run_model.World.{World, Node, Act, DiskCounts, IsOpening, Settlement, find_node, opened, prepared_left, prepared_serials, settlement}
+use Rattle.run_said.specs.run_model.Answers.{Task, Serves, Ticks, Takes, Hears, LosesLink, Restarts, RunsDown, refused_before_reading, service}
+use Rattle.run_said.specs.run_model.Steps.{Choice, TaskEffect, Whole, TaskAllowed, task_effect, whole, ready_node}
+use Rattle.run_said.specs.run_model.Statements.{Part, named_node, Does, Asks, PartEffect, Phases, Begins, Step, Allowed, RoseAt, begun_with, message_at, part_effect, phases_of, refused_at_once, stops_at}
+use Rattle.run_said.specs.run_model.StepLaws.{TaskAt, task_of_part}
+use Rattle.run_said.specs.run_model.Transcript.{AreOpening, Entry, Legal, Turn}
+use Rattle.run_said.proofs.run_model.NodeLists.{found_name, put_node, some_is}
+use Rattle.run_said.proofs.run_model.PartLemmas.{EachPhase, phases_fold}
+use Rattle.run_said.proofs.run_model.PartTasks.{Doing, Fixed, View, all_asked, each_restart, each_run_down, each_up, view}
+use Rattle.run_said.proofs.run_model.Refusing.{refusals, same_last}
+use Rattle.run_said.proofs.run_model.TaskLemmas.{effect_name, outcome}
+use Rattle.recovery_laws.proofs.world_laws.IdLemmas.{id_is}
+use Rattle.recovery_laws.proofs.world_laws.WorldLemmas.{each_opening}
 use Rattle.run_laws.specs.Accounts.{made_anew}
 use Rattle.run_laws.specs.Causes.{AbortCause, CommitCause, DeliversTo, IsDirect, WasSent}
 use Rattle.run_laws.specs.Laws.{PreparedHold}

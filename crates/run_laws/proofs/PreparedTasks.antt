@@ -4,11 +4,11 @@ use Rattle.std.proofs.Common.{◌≡◌, ◌+◌, ℕ, zero, suc, ◌⊎◌, Lis
 use Rattle.std.proofs.lemmas.Bool.{both_ways, cases_Bool}
 use Rattle.vms_model.specs.Ids.{Id}
 use Rattle.vms_model.specs.Transactions.{Outcome, Commit, Abort, Reason, Aborted, SegFail, Vetoed}
-use Rattle.transcript_model.specs.Lines as line
-use Rattle.transcript_model.specs.Lines.{Line, Cause}
-use Rattle.script_model.specs.Statements.{Request, Init, Boot, Direct, EndTrans, AbortTrans, AckEvent}
-use Rattle.records_model.specs.History.{same_id}
-use Rattle.records_model.specs.Records.{Change}
+use Rattle.run_said.specs.transcript_model.Lines as line
+use Rattle.run_said.specs.transcript_model.Lines.{Line, Cause}
+use Rattle.run_said.specs.script_model.Statements.{Request, Init, Boot, Direct, EndTrans, AbortTrans, AckEvent}
+use Rattle.unit_laws.specs.records_model.History.{same_id}
+use Rattle.unit_laws.specs.records_model.Records.{Change}
 use Rattle.unit_laws.specs.Journal.{RecoveryUnit, active_units, find_unit, units_in}
 use Rattle.commit_protocol.specs.Allowed.{is_prepared}
 use Rattle.commit_protocol.specs.Messages as message
@@ -18,19 +18,19 @@ use Rattle.commit_protocol.specs.Rows.{row, is_veto}
 use Rattle.commit_protocol.specs.Table as table
 use Rattle.commit_protocol.specs.Table.{Branch, Key as BranchKey, child, first, key_of}
 use Rattle.commit_protocol.specs.World.{In, undo_all}
-use Rattle.run_model.specs.World as world
-use Rattle.run_model.specs.World.{Shared, Node, MayTurnOut, Outturn, Settlement, Tables, acted, next_id, next_moment, powered, settlement, shared_after, tm_of}
-use Rattle.run_model.specs.Answers as answers
-use Rattle.run_model.specs.Answers.{Row, Serves, Task, Ticks, Takes, Hears, LosesLink, RunsDown, Restarts, boot_rows, branch_labelled, changes_at, directed, just, last_line, last_lines, left_active, powers, refused_before_reading, service, settled_line, table_rows, task_service, told_if, told_rows, unit_key}
-use Rattle.run_model.specs.Steps.{Choice, Cut, TaskAllowed, Unpowered, Whole, WithoutMemory, TaskEffect, begun, lines_of_rows, rows_if, task_effect, whole}
-use Rattle.run_model.proofs.TaskLemmas as tasks
-use Rattle.run_model.proofs.TaskLemmas.{Failing, First, Lacking, Late, Success, outcome}
-use Rattle.world_laws.specs.Nodes.{IsKeptDisk}
-use Rattle.world_laws.proofs.IdLemmas.{id_is, id_itself}
-use Rattle.world_laws.proofs.NodeLemmas.{powered_ready}
-use Rattle.world_laws.proofs.TableLemmas.{in_serials, one_branch}
-use Rattle.world_laws.proofs.UnitSets.{UnitsDiffer, units_differ}
-use Rattle.world_laws.proofs.UpLemmas.{branch_drawn, differ}
+use Rattle.run_said.specs.run_model.World as world
+use Rattle.run_said.specs.run_model.World.{Shared, Node, MayTurnOut, Outturn, Settlement, Tables, acted, next_id, next_moment, powered, settlement, shared_after, tm_of}
+use Rattle.run_said.specs.run_model.Answers as answers
+use Rattle.run_said.specs.run_model.Answers.{Row, Serves, Task, Ticks, Takes, Hears, LosesLink, RunsDown, Restarts, boot_rows, branch_labelled, changes_at, directed, just, last_line, last_lines, left_active, powers, refused_before_reading, service, settled_line, table_rows, task_service, told_if, told_rows, unit_key}
+use Rattle.run_said.specs.run_model.Steps.{Choice, Cut, TaskAllowed, Unpowered, Whole, WithoutMemory, TaskEffect, begun, lines_of_rows, rows_if, task_effect, whole}
+use Rattle.run_said.proofs.run_model.TaskLemmas as tasks
+use Rattle.run_said.proofs.run_model.TaskLemmas.{Failing, First, Lacking, Late, Success, outcome}
+use Rattle.recovery_laws.specs.world_laws.Nodes.{IsKeptDisk}
+use Rattle.recovery_laws.proofs.world_laws.IdLemmas.{id_is, id_itself}
+use Rattle.recovery_laws.proofs.world_laws.NodeLemmas.{powered_ready}
+use Rattle.recovery_laws.proofs.world_laws.TableLemmas.{in_serials, one_branch}
+use Rattle.recovery_laws.proofs.world_laws.UnitSets.{UnitsDiffer, units_differ}
+use Rattle.recovery_laws.proofs.world_laws.UpLemmas.{branch_drawn, differ}
 use Rattle.run_laws.specs.Promises.{prepared_by, prepared_here, shown_in}
 use Rattle.run_laws.proofs.EachRow.{ArePlain, closing_plain}
 use Rattle.run_laws.proofs.Keeping.{Kept, powered_kept}
@@ -259,7 +259,7 @@ module _ (serial : Id) where
   undo_none zero us s n f l x i e same = i
   undo_none (suc j) [] s n f l x i e same = i
   undo_none (suc j) (u ∷ us) s n f l x i e same = elim i [
-    | inl here ↦ (let is : x ≡ settlement (unit_key u) Abort SegFail (next_moment n) = Rattle.run_model.proofs.NodeLists.some_is x _ (sym e ∙ ap shown_in here) in f u (inl refl) (ap (λ (y : Settlement). y.serial) (sym is) ∙ same))
+    | inl here ↦ (let is : x ≡ settlement (unit_key u) Abort SegFail (next_moment n) = Rattle.run_said.proofs.run_model.NodeLists.some_is x _ (sym e ∙ ap shown_in here) in f u (inl refl) (ap (λ (y : Settlement). y.serial) (sym is) ∙ same))
     | inr k ↦ undo_none j us (shared_after (Tables (table.Undoes (unit_key u)) (next_moment n)) s) (acted (Tables (table.Undoes (unit_key u)) (next_moment n)) n) (λ v m. f v (inr m)) l x k e same
   ]
 
@@ -399,7 +399,7 @@ module _ (serial : Id) where
         quiet k o reason moment is off up cause = by (settler s n t k o reason cause)
           where
             it_is : p.it ≡ settlement k o reason moment
-            it_is = Rattle.run_model.proofs.NodeLists.some_is p.it (settlement k o reason moment) (sym p.shows ∙ ap shown_in is ∙ shown_settles k o reason moment)
+            it_is = Rattle.run_said.proofs.run_model.NodeLists.some_is p.it (settlement k o reason moment) (sym p.shows ∙ ap shown_in is ∙ shown_settles k o reason moment)
 
             serial_is : k.serial ≡ serial
             serial_is = ap (λ (y : Settlement). y.serial) (sym it_is) ∙ p.same

@@ -4,33 +4,33 @@ use Rattle.std.specs.Str.{bytes_eq}
 use Rattle.std.specs.Option.{option_and_then, option_map}
 use Rattle.std.proofs.lemmas.Slice.Eq.{bytes_eq-Decides}
 use Rattle.vms_model.specs.Ids.{Id}
-use Rattle.transcript_model.specs.Lines as line
-use Rattle.transcript_model.specs.Lines.{Line, Cause}
-use Rattle.script_model.specs.Statements.{At, Operation, Reading, Records, Request, Says, StartBranch, StartTrans, Statement}
-use Rattle.script_model.specs.Grammar.{reading}
-use Rattle.records_model.specs.History.{same_id}
+use Rattle.run_said.specs.transcript_model.Lines as line
+use Rattle.run_said.specs.transcript_model.Lines.{Line, Cause}
+use Rattle.run_said.specs.script_model.Statements.{At, Operation, Reading, Records, Request, Says, StartBranch, StartTrans, Statement}
+use Rattle.run_said.specs.script_model.Grammar.{reading}
+use Rattle.unit_laws.specs.records_model.History.{same_id}
 use Rattle.commit_protocol.specs.Agreement.{Distinct}
 use Rattle.commit_protocol.specs.Allowed.{is_prepared}
 use Rattle.commit_protocol.specs.Rows as rows
 use Rattle.commit_protocol.specs.Table.{Branch, Key as BranchKey, branch_serials, child}
 use Rattle.commit_protocol.specs.World.{In}
 use Rattle.commit_protocol.proofs.Lists.{in_right}
-use Rattle.run_model.specs.World as world
-use Rattle.run_model.specs.World.{World, Shared, Node, Changes, DiskCounts, File, Label, acted, find_file, find_node, labelled, next_id, opened, serial_labelled, with_changed}
-use Rattle.run_model.specs.Operations.{changes_of, data_refused, form_refused, is_change}
-use Rattle.run_model.specs.Answers as answers
-use Rattle.run_model.specs.Answers.{Row, Serves, begins, branch_labelled, changes_at, found_refused, in_state, keys_at, made_label, of_file, operated, operation_act, refused_before_reading, service, silent, there_is_file, told_if, unsettled_label}
-use Rattle.run_model.specs.Steps.{TaskEffect, node_after_rows, ready_node, succeeded, task_effect}
-use Rattle.run_model.specs.Statements.{Step, RoseAt, put_into, stops_at}
-use Rattle.run_model.specs.Transcript.{AreOpening, Entry, Legal, Turn}
-use Rattle.run_model.specs.StepLaws.{is_refusal, task_of}
-use Rattle.run_model.proofs.CauseLemmas.{refuses_first, refuses_then}
-use Rattle.run_model.proofs.NodeLists.{clash, found_name, put_node, some_is}
-use Rattle.run_model.proofs.Refusing.{not_ready, same_last}
-use Rattle.run_model.proofs.TaskLemmas.{Failing, First, Lacking, Late, Outcome, Success, acted_name, effect_name, outcome}
-use Rattle.world_laws.proofs.IdLemmas.{id_is, id_itself}
-use Rattle.world_laws.proofs.TableLemmas.{in_serials}
-use Rattle.world_laws.proofs.UpLemmas.{differ}
+use Rattle.run_said.specs.run_model.World as world
+use Rattle.run_said.specs.run_model.World.{World, Shared, Node, Changes, DiskCounts, File, Label, acted, find_file, find_node, labelled, next_id, opened, serial_labelled, with_changed}
+use Rattle.run_said.specs.run_model.Operations.{changes_of, data_refused, form_refused, is_change}
+use Rattle.run_said.specs.run_model.Answers as answers
+use Rattle.run_said.specs.run_model.Answers.{Row, Serves, begins, branch_labelled, changes_at, found_refused, in_state, keys_at, made_label, of_file, operated, operation_act, refused_before_reading, service, silent, there_is_file, told_if, unsettled_label}
+use Rattle.run_said.specs.run_model.Steps.{TaskEffect, node_after_rows, ready_node, succeeded, task_effect}
+use Rattle.run_said.specs.run_model.Statements.{Step, RoseAt, put_into, stops_at}
+use Rattle.run_said.specs.run_model.Transcript.{AreOpening, Entry, Legal, Turn}
+use Rattle.run_said.specs.run_model.StepLaws.{is_refusal, task_of}
+use Rattle.run_said.proofs.run_model.CauseLemmas.{refuses_first, refuses_then}
+use Rattle.run_said.proofs.run_model.NodeLists.{clash, found_name, put_node, some_is}
+use Rattle.run_said.proofs.run_model.Refusing.{not_ready, same_last}
+use Rattle.run_said.proofs.run_model.TaskLemmas.{Failing, First, Lacking, Late, Outcome, Success, acted_name, effect_name, outcome}
+use Rattle.recovery_laws.proofs.world_laws.IdLemmas.{id_is, id_itself}
+use Rattle.recovery_laws.proofs.world_laws.TableLemmas.{in_serials}
+use Rattle.recovery_laws.proofs.world_laws.UpLemmas.{differ}
 use Rattle.run_laws.specs.Laws.{ReadOnlyHold}
 use Rattle.run_laws.specs.Naming.{IsNamed, ToldLabel, find_told, ids_here, ids_told}
 use Rattle.run_laws.specs.Promises.{IsDoneAnswer}
@@ -296,8 +296,8 @@ here_in (x ∷ front) this behind = inr (here_in front this behind)
 -- the node of a branch that leaves is there
 voter_found : (w v : World) (r : Reading) (lines : List Line) → IsSound w → Turn w r lines v → (tid serial : Id) → In (line.ReadOnly tid serial) lines → (n : Node) × (find_node serial.node v.nodes ≡ Some n)
 voter_found w v (Says s) lines sound t tid serial i = step_voter w v s lines sound t (line.ReadOnly tid serial) serial i refl
-voter_found w v (Rattle.script_model.specs.Statements.Blank) lines sound t tid serial i = absurd (subst (In (line.ReadOnly tid serial)) t.0 i)
-voter_found w v (Rattle.script_model.specs.Statements.Bad column) lines sound t tid serial i = absurd t
+voter_found w v (Rattle.run_said.specs.script_model.Statements.Blank) lines sound t tid serial i = absurd (subst (In (line.ReadOnly tid serial)) t.0 i)
+voter_found w v (Rattle.run_said.specs.script_model.Statements.Bad column) lines sound t tid serial i = absurd t
 
 pub read_only_hold : ReadOnlyHold
 read_only_hold nodes disks es closing opening legal before said front behind tid serial there earlier at label file op events answer done is fine named =

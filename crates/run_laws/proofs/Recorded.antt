@@ -3,22 +3,22 @@ use Rattle.std.proofs.Common.{◌≡◌, ℕ, ◌⊎◌, List, [], ◌∷◌, in
 use Rattle.std.proofs.lemmas.Bool.{both_ways}
 use Rattle.vms_model.specs.Ids.{Id}
 use Rattle.vms_model.specs.Transactions.{Outcome, Commit, Abort, Reason, SegFail}
-use Rattle.transcript_model.specs.Lines as line
-use Rattle.transcript_model.specs.Lines.{Line}
-use Rattle.records_model.specs.History.{same_id}
+use Rattle.run_said.specs.transcript_model.Lines as line
+use Rattle.run_said.specs.transcript_model.Lines.{Line}
+use Rattle.unit_laws.specs.records_model.History.{same_id}
 use Rattle.commit_protocol.specs.Messages.{LogRecord}
 use Rattle.commit_protocol.specs.Table as table
 use Rattle.commit_protocol.specs.Table.{Branch, Key as BranchKey, child, cut, prepared_record, put, table_after}
 use Rattle.commit_protocol.specs.World.{In}
-use Rattle.log_laws.specs.Slots.{prepared_of, records_in}
-use Rattle.log_laws.proofs.Reading.{is_prepared_one}
-use Rattle.run_model.specs.World as world
-use Rattle.run_model.specs.World.{Node, Act, Boots, ComesUp, Durable, Settlement, Tables, acted, aborted_prepared, booted, next_moment, prepared_left, prepared_serials, settlement, with_half}
-use Rattle.run_model.specs.Answers.{Row, Serves, last_line, last_lines, prepared_line, settled_line, unit_key}
-use Rattle.run_model.specs.Steps.{lines_of_rows, node_after, node_after_rows}
-use Rattle.world_laws.specs.Nodes.{IsUp}
-use Rattle.world_laws.proofs.IdLemmas.{id_is, id_itself}
-use Rattle.world_laws.proofs.LogLemmas.{branch_of, record_there}
+use Rattle.run_said.specs.log_laws.Slots.{prepared_of, records_in}
+use Rattle.run_said.proofs.log_laws.Reading.{is_prepared_one}
+use Rattle.run_said.specs.run_model.World as world
+use Rattle.run_said.specs.run_model.World.{Node, Act, Boots, ComesUp, Durable, Settlement, Tables, acted, aborted_prepared, booted, next_moment, prepared_left, prepared_serials, settlement, with_half}
+use Rattle.run_said.specs.run_model.Answers.{Row, Serves, last_line, last_lines, prepared_line, settled_line, unit_key}
+use Rattle.run_said.specs.run_model.Steps.{lines_of_rows, node_after, node_after_rows}
+use Rattle.recovery_laws.specs.world_laws.Nodes.{IsUp}
+use Rattle.recovery_laws.proofs.world_laws.IdLemmas.{id_is, id_itself}
+use Rattle.recovery_laws.proofs.world_laws.LogLemmas.{branch_of, record_there}
 use Rattle.run_laws.specs.Promises.{prepared_by}
 use Rattle.run_laws.proofs.EachRow.{ArePlain, AreVoteless, VotesSo}
 use Rattle.run_laws.proofs.BootsPrepared.{in_ordered}

@@ -6,34 +6,34 @@ use Rattle.std.specs.Str.{bytes_eq}
 use Rattle.std.proofs.lemmas.Bool.{and_parts, both_ways, cases_Bool}
 use Rattle.std.proofs.lemmas.Slice.Eq.{bytes_eq-Decides}
 use Rattle.vms_model.specs.Ids.{Id}
-use Rattle.transcript_model.specs.Lines as line
-use Rattle.transcript_model.specs.Lines.{Line, Cause}
-use Rattle.script_model.specs.Statements.{Statement, At, AckEvent, Clock, Deliver, EndBranch, Init, LinkDown, Settle, Request, Reading, Blank, Says, Bad, Named as SaidName}
-use Rattle.script_model.specs.Grammar.{reading}
-use Rattle.records_model.specs.History.{same_id}
+use Rattle.run_said.specs.transcript_model.Lines as line
+use Rattle.run_said.specs.transcript_model.Lines.{Line, Cause}
+use Rattle.run_said.specs.script_model.Statements.{Statement, At, AckEvent, Clock, Deliver, EndBranch, Init, LinkDown, Settle, Request, Reading, Blank, Says, Bad, Named as SaidName}
+use Rattle.run_said.specs.script_model.Grammar.{reading}
+use Rattle.unit_laws.specs.records_model.History.{same_id}
 use Rattle.commit_protocol.specs.Messages.{LogRecord, Message, Name, Reply}
 use Rattle.commit_protocol.specs.Table.{Branch, Key as BranchKey, child, key_of}
 use Rattle.commit_protocol.specs.Rows as rows
 use Rattle.commit_protocol.specs.Rows.{is_veto}
 use Rattle.commit_protocol.specs.Allowed.{is_prepared}
 use Rattle.commit_protocol.specs.World.{In}
-use Rattle.log_laws.specs.Slots.{prepared_of, records_in}
-use Rattle.run_model.specs.World.{World, Node, Act, DiskCounts, IsOpening, Outturn, Settlement, find_node, opened, powered, prepared_left, prepared_serials, with_node}
-use Rattle.run_model.specs.Answers.{Serves, Takes, refused_before_reading, service}
-use Rattle.run_model.specs.Steps.{Choice, Cut, TaskAllowed, TaskEffect, Unpowered, Whole, WithoutMemory, ready_node, task_effect, whole, with_unknown_volume}
-use Rattle.run_model.specs.Statements.{Step, RoseAt, message_at, named_node, stops_at}
-use Rattle.run_model.specs.StepLaws.{TaskAt, is_refusal}
-use Rattle.run_model.specs.Transcript.{Entry, Legal, AreOpening, Turn}
-use Rattle.run_model.proofs.CauseLemmas.{refuses_first}
-use Rattle.run_model.proofs.NodeLists.{put_node, some_is}
-use Rattle.run_model.proofs.Refusing.{refusals, same_last}
-use Rattle.run_model.proofs.TaskLemmas.{effect_name}
-use Rattle.world_laws.specs.Nodes.{IsUp}
-use Rattle.world_laws.proofs.EffectLemmas.{none_in}
-use Rattle.world_laws.proofs.IdLemmas.{id_itself}
-use Rattle.world_laws.proofs.TableLemmas.{one_branch}
-use Rattle.world_laws.proofs.UpLemmas.{differ}
-use Rattle.world_laws.proofs.WorldLemmas.{each_opening}
+use Rattle.run_said.specs.log_laws.Slots.{prepared_of, records_in}
+use Rattle.run_said.specs.run_model.World.{World, Node, Act, DiskCounts, IsOpening, Outturn, Settlement, find_node, opened, powered, prepared_left, prepared_serials, with_node}
+use Rattle.run_said.specs.run_model.Answers.{Serves, Takes, refused_before_reading, service}
+use Rattle.run_said.specs.run_model.Steps.{Choice, Cut, TaskAllowed, TaskEffect, Unpowered, Whole, WithoutMemory, ready_node, task_effect, whole, with_unknown_volume}
+use Rattle.run_said.specs.run_model.Statements.{Step, RoseAt, message_at, named_node, stops_at}
+use Rattle.run_said.specs.run_model.StepLaws.{TaskAt, is_refusal}
+use Rattle.run_said.specs.run_model.Transcript.{Entry, Legal, AreOpening, Turn}
+use Rattle.run_said.proofs.run_model.CauseLemmas.{refuses_first}
+use Rattle.run_said.proofs.run_model.NodeLists.{put_node, some_is}
+use Rattle.run_said.proofs.run_model.Refusing.{refusals, same_last}
+use Rattle.run_said.proofs.run_model.TaskLemmas.{effect_name}
+use Rattle.recovery_laws.specs.world_laws.Nodes.{IsUp}
+use Rattle.recovery_laws.proofs.world_laws.EffectLemmas.{none_in}
+use Rattle.recovery_laws.proofs.world_laws.IdLemmas.{id_itself}
+use Rattle.recovery_laws.proofs.world_laws.TableLemmas.{one_branch}
+use Rattle.recovery_laws.proofs.world_laws.UpLemmas.{differ}
+use Rattle.recovery_laws.proofs.world_laws.WorldLemmas.{each_opening}
 use Rattle.run_laws.specs.Accounts.{made_anew}
 use Rattle.run_laws.specs.Laws.{BootedHold}
 use Rattle.run_laws.specs.Naming.{IsNamed}

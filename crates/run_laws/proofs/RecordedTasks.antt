@@ -2,20 +2,20 @@
 use Rattle.std.proofs.Common.{◌≡◌, ℕ, List, [], ◌∷◌, ◌++◌, Bool, true, false, Option, Some, None, refl, sym, ◌∙◌, ap, subst}
 use Rattle.std.proofs.lemmas.Bool.{both_ways}
 use Rattle.vms_model.specs.Ids.{Id}
-use Rattle.transcript_model.specs.Lines as line
-use Rattle.transcript_model.specs.Lines.{Line, Cause}
-use Rattle.script_model.specs.Statements.{Statement, At, Clock, Deliver, LinkDown, Settle}
+use Rattle.run_said.specs.transcript_model.Lines as line
+use Rattle.run_said.specs.transcript_model.Lines.{Line, Cause}
+use Rattle.run_said.specs.script_model.Statements.{Statement, At, Clock, Deliver, LinkDown, Settle}
 use Rattle.commit_protocol.specs.Table.{Branch, Prepares, child}
-use Rattle.run_model.specs.World.{World, Shared, Node, Act, DiskCounts, Outturn, Settlement, Tables, find_node, with_node}
-use Rattle.run_model.specs.Answers.{Row, Task, Serves, Ticks, Hears, LosesLink, RunsDown, Restarts, powers, task_service}
-use Rattle.run_model.specs.Steps.{Choice, Cut, TaskAllowed, TaskEffect, Unpowered, Whole, WithoutMemory, task_effect}
-use Rattle.run_model.specs.Statements.{Part, Does, Asks, PartEffect, Question, Heard, Unanswered, Doubtful, Allowed, Begins, Phases, RoseAt, Step, begun_with, part_effect, phases_of, question, refused_at_once, stops_at}
-use Rattle.run_model.specs.StepLaws.{TaskAt, asked_by, task_of, task_of_part}
-use Rattle.run_model.proofs.NodeLists.{found_name, some_is}
-use Rattle.run_model.proofs.PartLemmas.{EachPhase, phases_fold}
-use Rattle.run_model.proofs.PartTasks.{View, Doing, Fixed, all_asked, each_restart, each_run_down, each_up, view}
-use Rattle.run_model.proofs.Refusing.{same_last}
-use Rattle.run_model.proofs.TaskLemmas.{effect_name}
+use Rattle.run_said.specs.run_model.World.{World, Shared, Node, Act, DiskCounts, Outturn, Settlement, Tables, find_node, with_node}
+use Rattle.run_said.specs.run_model.Answers.{Row, Task, Serves, Ticks, Hears, LosesLink, RunsDown, Restarts, powers, task_service}
+use Rattle.run_said.specs.run_model.Steps.{Choice, Cut, TaskAllowed, TaskEffect, Unpowered, Whole, WithoutMemory, task_effect}
+use Rattle.run_said.specs.run_model.Statements.{Part, Does, Asks, PartEffect, Question, Heard, Unanswered, Doubtful, Allowed, Begins, Phases, RoseAt, Step, begun_with, part_effect, phases_of, question, refused_at_once, stops_at}
+use Rattle.run_said.specs.run_model.StepLaws.{TaskAt, asked_by, task_of, task_of_part}
+use Rattle.run_said.proofs.run_model.NodeLists.{found_name, some_is}
+use Rattle.run_said.proofs.run_model.PartLemmas.{EachPhase, phases_fold}
+use Rattle.run_said.proofs.run_model.PartTasks.{View, Doing, Fixed, all_asked, each_restart, each_run_down, each_up, view}
+use Rattle.run_said.proofs.run_model.Refusing.{same_last}
+use Rattle.run_said.proofs.run_model.TaskLemmas.{effect_name}
 use Rattle.run_laws.specs.Promises.{prepared_by}
 use Rattle.run_laws.proofs.Casting.{AllCast, CastsIn, TaskCasts, task_casts, thin_casts}
 use Rattle.run_laws.proofs.Keeping.{AllTake, Kept, down_effect, else_effect, is_init, whole_effect}

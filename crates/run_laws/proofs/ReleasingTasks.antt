@@ -4,21 +4,21 @@ use Rattle.std.specs.Option.{option_map, option_and_then}
 use Rattle.vms_model.specs.Ids.{Id}
 use Rattle.vms_model.specs.Keys.{Key}
 use Rattle.vms_model.specs.Transactions.{Aborted}
-use Rattle.transcript_model.specs.Lines.{Line}
-use Rattle.script_model.specs.Statements.{Operation, Request, Init, Boot, Create, SetFile, StartTrans, AddBranch, StartBranch, Records, Direct, EndBranch, EndTrans, AbortTrans, Inquire, DeclareRm, JoinRm, AckEvent, ForgetRm, GetDti, LmcpShow, LmcpDump, Dump, DumpJournal, DumpImages, Backup, Recover, Fuse, Crash, Clock, Named}
-use Rattle.records_model.specs.Records.{Change}
+use Rattle.run_said.specs.transcript_model.Lines.{Line}
+use Rattle.run_said.specs.script_model.Statements.{Operation, Request, Init, Boot, Create, SetFile, StartTrans, AddBranch, StartBranch, Records, Direct, EndBranch, EndTrans, AbortTrans, Inquire, DeclareRm, JoinRm, AckEvent, ForgetRm, GetDti, LmcpShow, LmcpDump, Dump, DumpJournal, DumpImages, Backup, Recover, Fuse, Crash, Clock, Named}
+use Rattle.unit_laws.specs.records_model.Records.{Change}
 use Rattle.commit_protocol.specs.Messages.{Name, Reply}
 use Rattle.commit_protocol.specs.Table as table
 use Rattle.commit_protocol.specs.Table.{Branch, Releases}
 use Rattle.commit_protocol.specs.Rows as rows
 use Rattle.commit_protocol.specs.Rows.{Event, is_forget, row}
-use Rattle.log_laws.specs.Slots.{slot_records}
-use Rattle.run_model.specs.World as world
-use Rattle.run_model.specs.World.{Shared, Node, Label, Act, Tables, acted, next_id, next_moment, shared_after, tm_of}
-use Rattle.run_model.specs.Answers as answers
-use Rattle.run_model.specs.Answers.{Row, Task, Serves, Ticks, Takes, Hears, LosesLink, RunsDown, Restarts, begins, branch_labelled, branch_named, just, service, silent, table_rows, task_service, told_if, told_rows}
+use Rattle.run_said.specs.log_laws.Slots.{slot_records}
+use Rattle.run_said.specs.run_model.World as world
+use Rattle.run_said.specs.run_model.World.{Shared, Node, Label, Act, Tables, acted, next_id, next_moment, shared_after, tm_of}
+use Rattle.run_said.specs.run_model.Answers as answers
+use Rattle.run_said.specs.run_model.Answers.{Row, Task, Serves, Ticks, Takes, Hears, LosesLink, RunsDown, Restarts, begins, branch_labelled, branch_named, just, service, silent, table_rows, task_service, told_if, told_rows}
 use Rattle.run_laws.proofs.Releasing.{AllRelease, ReleasedBy, ReleasesIn, row_releases}
-use Rattle.world_laws.proofs.FileRows.{images_by, recovers_by, saves_by, sets_by}
+use Rattle.recovery_laws.proofs.world_laws.FileRows.{images_by, recovers_by, saves_by, sets_by}
 
 -- what a row takes out is so
 abbrev pub TakesOut : (Id → Name → Type 0) → Option Act → Type 0

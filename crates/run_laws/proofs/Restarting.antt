@@ -3,22 +3,22 @@ use Rattle.std.proofs.Common.{◌≡◌, ℕ, zero, suc, ◌+◌, List, [], ◌�
 use Rattle.std.specs.Prelude.{nat_lt, length}
 use Rattle.vms_model.specs.Transactions.{Outcome, Commit, Abort, Reason, SegFail}
 use Rattle.vms_model.specs.Limits.{message_limit}
-use Rattle.transcript_model.specs.Lines as line
-use Rattle.transcript_model.specs.Lines.{Line, Cause}
-use Rattle.script_model.specs.Statements.{Boot}
+use Rattle.run_said.specs.transcript_model.Lines as line
+use Rattle.run_said.specs.transcript_model.Lines.{Line, Cause}
+use Rattle.run_said.specs.script_model.Statements.{Boot}
 use Rattle.commit_protocol.specs.Messages.{Message}
 use Rattle.commit_protocol.specs.Table as table
 use Rattle.commit_protocol.specs.Table.{Branch, Key as BranchKey, Notes, Accepts, Prepares, Settles, Leaves, Acknowledges, Releases, Undoes, Sends, Prints}
 use Rattle.commit_protocol.specs.Rows as rows
 use Rattle.commit_protocol.specs.Rows.{row}
 use Rattle.commit_protocol.specs.World.{In, undo_all}
-use Rattle.run_model.specs.World as world
-use Rattle.run_model.specs.World.{Shared, Node, Settlement, Outturn, MayTurnOut, Tables, acted, next_moment, powered, shared_after, tm_of, unpowered}
-use Rattle.run_model.specs.Answers as answers
-use Rattle.run_model.specs.Answers.{Row, Service, Task, Serves, Hears, RunsDown, Restarts, boot_rows, left_active, last_line, last_lines, refused_before_reading, settled_line, shown_by, shown_line, spoils, table_rows, task_service, unit_key}
-use Rattle.run_model.specs.Steps.{Choice, Cut, TaskAllowed, TaskEffect, Unpowered, Whole, WithoutMemory, begun, lines_of_rows, node_after, node_after_rows, occupied, ready_node, shared_after_rows, shared_then, rows_if, rows_to_cut, task_effect, whole}
+use Rattle.run_said.specs.run_model.World as world
+use Rattle.run_said.specs.run_model.World.{Shared, Node, Settlement, Outturn, MayTurnOut, Tables, acted, next_moment, powered, shared_after, tm_of, unpowered}
+use Rattle.run_said.specs.run_model.Answers as answers
+use Rattle.run_said.specs.run_model.Answers.{Row, Service, Task, Serves, Hears, RunsDown, Restarts, boot_rows, left_active, last_line, last_lines, refused_before_reading, settled_line, shown_by, shown_line, spoils, table_rows, task_service, unit_key}
+use Rattle.run_said.specs.run_model.Steps.{Choice, Cut, TaskAllowed, TaskEffect, Unpowered, Whole, WithoutMemory, begun, lines_of_rows, node_after, node_after_rows, occupied, ready_node, shared_after_rows, shared_then, rows_if, rows_to_cut, task_effect, whole}
 use Rattle.run_laws.specs.Promises.{last_in}
-use Rattle.world_laws.specs.Nodes.{IsKeptNode}
+use Rattle.recovery_laws.specs.world_laws.Nodes.{IsKeptNode}
 use Rattle.run_laws.proofs.Keeping.{behind_down, node_down}
 use Rattle.run_laws.proofs.LastBoots.{NoLast, append_last, boots, else_last, none_last, settled_last}
 use Rattle.run_said.proofs.Passing.{AllPass, acknowledged_passes, append_passes, prepared_passes, printed_passes, released_passes}

@@ -5,16 +5,16 @@ use Rattle.std.proofs.lemmas.Bool.{cases_Bool}
 use Rattle.std.proofs.lemmas.List.{append_assoc}
 use Rattle.vms_model.specs.Ids.{Id}
 use Rattle.vms_model.specs.Transactions.{Commit, Abort}
-use Rattle.transcript_model.specs.Lines as line
-use Rattle.transcript_model.specs.Lines.{Line}
-use Rattle.script_model.specs.Statements.{Statement, At, Boot, StartTrans}
-use Rattle.script_model.specs.Grammar.{reading}
-use Rattle.records_model.specs.History.{same_id}
+use Rattle.run_said.specs.transcript_model.Lines as line
+use Rattle.run_said.specs.transcript_model.Lines.{Line}
+use Rattle.run_said.specs.script_model.Statements.{Statement, At, Boot, StartTrans}
+use Rattle.run_said.specs.script_model.Grammar.{reading}
+use Rattle.unit_laws.specs.records_model.History.{same_id}
 use Rattle.commit_protocol.specs.World.{In}
-use Rattle.run_model.specs.World.{World, Node, DiskCounts, Settlement, opened}
-use Rattle.run_model.specs.Statements.{Step}
-use Rattle.run_model.specs.Transcript.{Entry, Legal, AreOpening, Turn}
-use Rattle.world_laws.proofs.IdLemmas.{id_is, id_itself}
+use Rattle.run_said.specs.run_model.World.{World, Node, DiskCounts, Settlement, opened}
+use Rattle.run_said.specs.run_model.Statements.{Step}
+use Rattle.run_said.specs.run_model.Transcript.{Entry, Legal, AreOpening, Turn}
+use Rattle.recovery_laws.proofs.world_laws.IdLemmas.{id_is, id_itself}
 use Rattle.run_laws.specs.Laws.{RestartsHold}
 use Rattle.run_laws.specs.Promises.{Boots, IsNeverCommitted, IsSettledSo, commitment, is_commitment_of, is_shown_committed, settlement_in, settlements_of}
 use Rattle.run_laws.specs.SaidLaws.{SaidThere}

@@ -3,23 +3,23 @@ use Rattle.std.proofs.Common.{◌≡◌, ℕ, List, [], ◌∷◌, ◌++◌, map
 use Rattle.std.proofs.lemmas.Bool.{both_ways}
 use Rattle.std.specs.List.{list_any}
 use Rattle.vms_model.specs.Ids.{Id}
-use Rattle.transcript_model.specs.Lines as line
-use Rattle.transcript_model.specs.Lines.{Line}
-use Rattle.script_model.specs.Statements.{At, DeclareRm, Says}
-use Rattle.script_model.specs.Grammar.{reading}
+use Rattle.run_said.specs.transcript_model.Lines as line
+use Rattle.run_said.specs.transcript_model.Lines.{Line}
+use Rattle.run_said.specs.script_model.Statements.{At, DeclareRm, Says}
+use Rattle.run_said.specs.script_model.Grammar.{reading}
 use Rattle.commit_protocol.specs.Messages.{CommitEvent, LogRecord, Name, same_name}
 use Rattle.commit_protocol.specs.World.{In}
 use Rattle.commit_protocol.proofs.Lists.{in_left, in_parts, in_right, same_name-refl, same_name-true}
 use Rattle.commit_protocol.proofs.Serials.{in_serial}
 use Rattle.commit_protocol.specs.Table.{branch_serials, record_serials}
-use Rattle.log_laws.specs.Slots.{committed_of, records_in, waiting_for}
-use Rattle.run_model.specs.World.{Node, World, find_node, opened}
-use Rattle.run_model.specs.Answers.{declares, owed_line}
-use Rattle.run_model.specs.Statements.{Step}
-use Rattle.run_model.specs.Steps.{lines_of_rows}
-use Rattle.run_model.specs.Transcript.{Legal, Turn}
-use Rattle.run_model.proofs.NodeLists.{found_name, some_is}
-use Rattle.world_laws.specs.Nodes.{IsUp}
+use Rattle.run_said.specs.log_laws.Slots.{committed_of, records_in, waiting_for}
+use Rattle.run_said.specs.run_model.World.{Node, World, find_node, opened}
+use Rattle.run_said.specs.run_model.Answers.{declares, owed_line}
+use Rattle.run_said.specs.run_model.Statements.{Step}
+use Rattle.run_said.specs.run_model.Steps.{lines_of_rows}
+use Rattle.run_said.specs.run_model.Transcript.{Legal, Turn}
+use Rattle.run_said.proofs.run_model.NodeLists.{found_name, some_is}
+use Rattle.recovery_laws.specs.world_laws.Nodes.{IsUp}
 use Rattle.run_laws.specs.Owing.{IsOwed, MayForget, NoneForget, OwedStay, RetellsHold, Waits}
 use Rattle.run_laws.proofs.Deciding.{in_any, split_legal}
 use Rattle.run_laws.proofs.Ending.{Done, done}

@@ -2,24 +2,24 @@
 use Rattle.std.proofs.Common.{◌≡◌, ℕ, ◌⊎◌, List, [], ◌∷◌, ◌++◌, inl, inr, Bool, true, false, Option, Some, None, refl, sym, ◌∙◌, ap, subst}
 use Rattle.vms_model.specs.Ids.{Id}
 use Rattle.vms_model.specs.Transactions.{Outcome, Commit, Abort, Reason}
-use Rattle.transcript_model.specs.Lines as line
-use Rattle.transcript_model.specs.Lines.{Line}
+use Rattle.run_said.specs.transcript_model.Lines as line
+use Rattle.run_said.specs.transcript_model.Lines.{Line}
 use Rattle.unit_laws.specs.Units.{Map}
 use Rattle.unit_laws.specs.Journal.{RecoveryUnit}
 use Rattle.commit_protocol.specs.Table.{Prepares}
 use Rattle.commit_protocol.specs.World.{In}
-use Rattle.run_model.specs.World as world
-use Rattle.run_model.specs.World.{Node, Act, Settlement, Tables, aborted_prepared, acted, with_half}
-use Rattle.run_model.specs.Answers.{Row, last_line, last_lines}
-use Rattle.run_model.specs.Steps.{node_after}
+use Rattle.run_said.specs.run_model.World as world
+use Rattle.run_said.specs.run_model.World.{Node, Act, Settlement, Tables, aborted_prepared, acted, with_half}
+use Rattle.run_said.specs.run_model.Answers.{Row, last_line, last_lines}
+use Rattle.run_said.specs.run_model.Steps.{node_after}
 use Rattle.run_laws.specs.Promises.{commitment}
 use Rattle.run_laws.proofs.EachRow.{ArePlain, is_plain}
 use Rattle.run_laws.proofs.Keeping.{Keeps, Kept, Scheme, closes_plain}
 use Rattle.run_laws.proofs.OneBranch as branch
 use Rattle.run_laws.proofs.OneBranch.{one, one_keeps}
 use Rattle.run_laws.proofs.RowFits.{RowFits}
-use Rattle.world_laws.specs.Nodes.{IsUp}
-use Rattle.world_laws.proofs.RestartLemmas.{undone_unit}
+use Rattle.recovery_laws.specs.world_laws.Nodes.{IsUp}
+use Rattle.recovery_laws.proofs.world_laws.RestartLemmas.{undone_unit}
 
 -- Lines that show a commitment as the last settlement of a disk.
 
@@ -130,7 +130,7 @@ module _ (x : Id) where
       let g = (one_keeps x (λ t. ⊥) (λ t. ⊥) (λ s. In s n.settled) (λ t p. p) (λ s e h. absurd h)).row free r n tt (takes_so (λ s. In s n.settled) r.act) f up (exact free n h) in
       told s (g.commits s i e c) e c
 
-  under_told : (free : Bool) (r : Row) (n : Node) (a : List Settlement) (act : Act) → RowFits free r n → r.act ≡ Some act → Rattle.run_model.specs.World.is_durable act ≡ true → IsUp (acted act n) → branch.IsOn x (λ t. ⊥) (λ t. ⊥) (λ s. Unit {0}) free n → AllTold a n.settled → AllTold a (acted act n).settled
+  under_told : (free : Bool) (r : Row) (n : Node) (a : List Settlement) (act : Act) → RowFits free r n → r.act ≡ Some act → Rattle.run_said.specs.run_model.World.is_durable act ≡ true → IsUp (acted act n) → branch.IsOn x (λ t. ⊥) (λ t. ⊥) (λ s. Unit {0}) free n → AllTold a n.settled → AllTold a (acted act n).settled
   under_told free r n a act f is d up h told s i e c =
       let g = (one_keeps x (λ t. ⊥) (λ t. ⊥) (λ s. In s n.settled) (λ t p. p) (λ s e h. absurd h)).under free r n tt act (takes_so (λ s. In s n.settled) r.act) f is d up (exact free n h) in
       told s (g.commits s i e c) e c

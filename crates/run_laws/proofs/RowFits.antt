@@ -1,14 +1,14 @@
 -- What each row of a task finds at a node that is up, act by act: its branch stands in the table, or is new and has the latest id.
-use Rattle.log_laws.specs.Slots.{slot_records}
+use Rattle.run_said.specs.log_laws.Slots.{slot_records}
 use Rattle.commit_protocol.specs.Messages.{Name, Reply}
 use Rattle.std.proofs.Common.{◌≡◌, ℕ, ◌⊎◌, List, [], ◌∷◌, inl, inr, map, Bool, true, false, Option, Some, None, refl}
 use Rattle.std.specs.Option.{option_map, option_and_then}
 use Rattle.vms_model.specs.Ids.{Id}
 use Rattle.vms_model.specs.Transactions.{Outcome, Commit, Abort, Reason, Aborted, SegFail}
-use Rattle.transcript_model.specs.Lines as line
-use Rattle.transcript_model.specs.Lines.{Line}
-use Rattle.script_model.specs.Statements.{Operation, Request, Init, Boot, Create, SetFile, StartTrans, AddBranch, StartBranch, Records, Direct, EndBranch, EndTrans, AbortTrans, Inquire, DeclareRm, JoinRm, AckEvent, ForgetRm, GetDti, LmcpShow, LmcpDump, Dump, DumpJournal, DumpImages, Backup, Recover, Fuse, Crash, Clock}
-use Rattle.records_model.specs.Records.{Change}
+use Rattle.run_said.specs.transcript_model.Lines as line
+use Rattle.run_said.specs.transcript_model.Lines.{Line}
+use Rattle.run_said.specs.script_model.Statements.{Operation, Request, Init, Boot, Create, SetFile, StartTrans, AddBranch, StartBranch, Records, Direct, EndBranch, EndTrans, AbortTrans, Inquire, DeclareRm, JoinRm, AckEvent, ForgetRm, GetDti, LmcpShow, LmcpDump, Dump, DumpJournal, DumpImages, Backup, Recover, Fuse, Crash, Clock}
+use Rattle.unit_laws.specs.records_model.Records.{Change}
 use Rattle.commit_protocol.specs.Table as table
 use Rattle.commit_protocol.specs.Table.{Branch, Settles, Undoes, Notes}
 use Rattle.commit_protocol.specs.Rows as rows
@@ -16,19 +16,19 @@ use Rattle.commit_protocol.specs.Rows.{Event, row}
 use Rattle.commit_protocol.specs.Standing.{AllStand, BeginsNothing, Stands}
 use Rattle.commit_protocol.proofs.Serials.{unique_of}
 use Rattle.commit_protocol.proofs.StandingRows.{rows_stand}
-use Rattle.run_model.specs.World as world
-use Rattle.run_model.specs.World.{Shared, Node, Settlement, File, Label, Act, Boots, Changes, Creates, Directs, Draws, Labels, Numbers, Tables, acted, shared_after, next_id, next_moment, labelled, free_place, lowest_free, tm_of}
-use Rattle.run_model.specs.Answers as answers
-use Rattle.run_model.specs.Answers.{Row, Task, powers, Serves, Ticks, Takes, Hears, LosesLink, RunsDown, Restarts, task_service, service, refused_before_reading, told_if, told_rows, table_rows, begins, just, branch_labelled, branch_named, creates, operated, directed, changes_at, keys_at, records_of, shown_record, entry_line, entry_lines, shown_line, silent, settled_line, last_line, last_lines}
-use Rattle.run_model.specs.Steps.{node_after}
+use Rattle.run_said.specs.run_model.World as world
+use Rattle.run_said.specs.run_model.World.{Shared, Node, Settlement, File, Label, Act, Boots, Changes, Creates, Directs, Draws, Labels, Numbers, Tables, acted, shared_after, next_id, next_moment, labelled, free_place, lowest_free, tm_of}
+use Rattle.run_said.specs.run_model.Answers as answers
+use Rattle.run_said.specs.run_model.Answers.{Row, Task, powers, Serves, Ticks, Takes, Hears, LosesLink, RunsDown, Restarts, task_service, service, refused_before_reading, told_if, told_rows, table_rows, begins, just, branch_labelled, branch_named, creates, operated, directed, changes_at, keys_at, records_of, shown_record, entry_line, entry_lines, shown_line, silent, settled_line, last_line, last_lines}
+use Rattle.run_said.specs.run_model.Steps.{node_after}
 use Rattle.recovery_laws.specs.Entering.{AllFind, FindsImages}
-use Rattle.world_laws.specs.Nodes.{AreUp, IsKeptNode, IsUp}
+use Rattle.recovery_laws.specs.world_laws.Nodes.{AreUp, IsKeptNode, IsUp}
 use Rattle.recovery_laws.proofs.EnteringLemmas.{task_find}
-use Rattle.world_laws.proofs.RowActs.{AreRowActs, IsRowAct, rows_are_row_acts}
-use Rattle.world_laws.proofs.TaskLemmas.{task_rows}
-use Rattle.world_laws.proofs.UpLemmas.{differ}
+use Rattle.recovery_laws.proofs.world_laws.RowActs.{AreRowActs, IsRowAct, rows_are_row_acts}
+use Rattle.recovery_laws.proofs.world_laws.TaskLemmas.{task_rows}
+use Rattle.recovery_laws.proofs.world_laws.UpLemmas.{differ}
 use Rattle.run_laws.proofs.EachRow.{ArePlain, AreVoteless, EachRow, VotesSo, is_quiet, task_each}
-use Rattle.world_laws.proofs.FileRows.{images_by, recovers_by, saves_by, sets_by}
+use Rattle.recovery_laws.proofs.world_laws.FileRows.{images_by, recovers_by, saves_by, sets_by}
 
 -- Acts.
 

@@ -1,5 +1,5 @@
 -- The lines of a task's rows tell what they do to what nodes share and to whether the node is up.
-use Rattle.log_laws.specs.Slots.{slot_records, records_in, committed_of, waiting_for}
+use Rattle.run_said.specs.log_laws.Slots.{slot_records, records_in, committed_of, waiting_for}
 use Rattle.commit_protocol.specs.Messages.{Name, Reply, LogRecord}
 use Rattle.std.proofs.Common.{◌≡◌, ℕ, ◌+◌, List, [], ◌∷◌, ◌++◌, map, Bool, true, false, Option, Some, None, if◌then◌else◌, refl, sym, ap, subst}
 use Rattle.std.specs.Prelude.{nat_lt, length, ◌==◌}
@@ -11,23 +11,23 @@ use Rattle.vms_model.specs.Ids.{Id}
 use Rattle.vms_model.specs.Keys.{Key}
 use Rattle.vms_model.specs.Transactions.{Outcome, Commit, Abort, Reason}
 use Rattle.vms_model.specs.Limits.{message_limit}
-use Rattle.transcript_model.specs.Lines as line
-use Rattle.transcript_model.specs.Lines.{Line}
-use Rattle.script_model.specs.Statements.{Request, Init, Boot, Create, SetFile, StartTrans, AddBranch, StartBranch, Records, Direct, EndBranch, EndTrans, AbortTrans, Inquire, DeclareRm, JoinRm, AckEvent, ForgetRm, GetDti, LmcpShow, LmcpDump, Dump, DumpJournal, DumpImages, Backup, Recover, Fuse, Crash, Clock, Operation}
-use Rattle.records_model.specs.Records.{Change}
+use Rattle.run_said.specs.transcript_model.Lines as line
+use Rattle.run_said.specs.transcript_model.Lines.{Line}
+use Rattle.run_said.specs.script_model.Statements.{Request, Init, Boot, Create, SetFile, StartTrans, AddBranch, StartBranch, Records, Direct, EndBranch, EndTrans, AbortTrans, Inquire, DeclareRm, JoinRm, AckEvent, ForgetRm, GetDti, LmcpShow, LmcpDump, Dump, DumpJournal, DumpImages, Backup, Recover, Fuse, Crash, Clock, Operation}
+use Rattle.unit_laws.specs.records_model.Records.{Change}
 use Rattle.unit_laws.specs.Journal as journal
 use Rattle.unit_laws.specs.Journal.{JournalEntry, entry_size}
 use Rattle.commit_protocol.specs.Table as table
 use Rattle.commit_protocol.specs.Table.{Branch, Key as BranchKey, Notes, Accepts, Prepares, Settles, Leaves, Acknowledges, Releases, Undoes, Sends, Prints, nothing_left, waits_for, holds, acknowledged}
 use Rattle.commit_protocol.specs.Rows as rows
 use Rattle.commit_protocol.specs.Rows.{row}
-use Rattle.run_model.specs.World.{Shared, Node, File, Label, Settlement, Boots, Creates, Draws, Numbers, Tables, acted, shared_after, with_serial, next_id, next_moment, tm_of, labelled, free_place, lowest_free}
-use Rattle.run_model.specs.Answers as answers
-use Rattle.run_model.specs.Answers.{Row, Task, Serves, Ticks, Takes, Hears, LosesLink, RunsDown, Restarts, task_service, service, told_rows, told_if, table_rows, just, begins, boot_rows, shown_by, sent_line, settled_line, forgot_lines, acknowledged_lines, released_lines, table_lines, last_line, last_lines, to_branch, branch_labelled, branch_named, creates, operated, directed, changes_at, keys_at, records_of, shown_record, entry_line, entry_lines, shown_line, prepared_line, prepared_lines, left_active, unit_key}
+use Rattle.run_said.specs.run_model.World.{Shared, Node, File, Label, Settlement, Boots, Creates, Draws, Numbers, Tables, acted, shared_after, with_serial, next_id, next_moment, tm_of, labelled, free_place, lowest_free}
+use Rattle.run_said.specs.run_model.Answers as answers
+use Rattle.run_said.specs.run_model.Answers.{Row, Task, Serves, Ticks, Takes, Hears, LosesLink, RunsDown, Restarts, task_service, service, told_rows, told_if, table_rows, just, begins, boot_rows, shown_by, sent_line, settled_line, forgot_lines, acknowledged_lines, released_lines, table_lines, last_line, last_lines, to_branch, branch_labelled, branch_named, creates, operated, directed, changes_at, keys_at, records_of, shown_record, entry_line, entry_lines, shown_line, prepared_line, prepared_lines, left_active, unit_key}
 use Rattle.run_said.proofs.Passing.{acknowledged_passes, prepared_passes, printed_passes, released_passes, owed_passes}
 use Rattle.run_said.proofs.Views.{node_told, shared_told, label_told, View, Tells, AllTell, up_view, is_neutral, AreNeutral, neutral_lines}
 use Rattle.run_said.specs.Said.{SaidNode, lines_said}
-use Rattle.world_laws.proofs.FileRows.{images_by, recovers_by, saves_by, sets_by, IsEntryLine}
+use Rattle.recovery_laws.proofs.world_laws.FileRows.{images_by, recovers_by, saves_by, sets_by, IsEntryLine}
 
 -- Lines that tell nothing of these.
 

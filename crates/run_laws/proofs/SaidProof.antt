@@ -5,22 +5,22 @@ use Rattle.std.specs.Option.{option_map}
 use Rattle.std.specs.Str.{bytes_eq}
 use Rattle.std.proofs.lemmas.List.{length-map}
 use Rattle.vms_model.specs.Limits.{label_limit}
-use Rattle.transcript_model.specs.Lines as line
-use Rattle.transcript_model.specs.Lines.{Line}
-use Rattle.script_model.specs.Statements.{Statement, At, Deliver, LinkDown, Settle, Request, Init, Boot, StartTrans, AddBranch, StartBranch, Records, EndBranch, EndTrans, AbortTrans, Inquire, JoinRm, AckEvent, GetDti, Fuse, Clock, Named, ByLabel, BySerial}
+use Rattle.run_said.specs.transcript_model.Lines as line
+use Rattle.run_said.specs.transcript_model.Lines.{Line}
+use Rattle.run_said.specs.script_model.Statements.{Statement, At, Deliver, LinkDown, Settle, Request, Init, Boot, StartTrans, AddBranch, StartBranch, Records, EndBranch, EndTrans, AbortTrans, Inquire, JoinRm, AckEvent, GetDti, Fuse, Clock, Named, ByLabel, BySerial}
 use Rattle.commit_protocol.specs.Messages.{Message}
-use Rattle.run_model.specs.World.{World, Shared, Node, Label, find_node, find_label, opened}
-use Rattle.run_model.specs.Operations.{first_of, refused_if}
-use Rattle.run_model.specs.Answers.{Task, Serves, Takes, service, task_service, made_label, new_label, made_name}
-use Rattle.run_model.specs.Statements.{Step, named_node, other_node, message_at, refused_at_once}
-use Rattle.run_model.specs.Transcript.{Entry, Legal, Turn as LineTurn}
-use Rattle.run_model.specs.StepLaws.{TaskAt, is_refusal, is_sweep, task_of, refused_first}
-use Rattle.run_model.proofs.NodeLists.{clash, some_is}
-use Rattle.run_model.proofs.CauseLemmas as cause
-use Rattle.run_model.proofs.CauseLemmas.{by_lines, by_more, parted, more_refuses, then_by_more, is_by_more, first_again}
-use Rattle.run_model.proofs.PartTasks.{task_there}
-use Rattle.run_model.proofs.Refusing.{refusals, same_last, none_some}
-use Rattle.run_model.proofs.Failing.{successes}
+use Rattle.run_said.specs.run_model.World.{World, Shared, Node, Label, find_node, find_label, opened}
+use Rattle.run_said.specs.run_model.Operations.{first_of, refused_if}
+use Rattle.run_said.specs.run_model.Answers.{Task, Serves, Takes, service, task_service, made_label, new_label, made_name}
+use Rattle.run_said.specs.run_model.Statements.{Step, named_node, other_node, message_at, refused_at_once}
+use Rattle.run_said.specs.run_model.Transcript.{Entry, Legal, Turn as LineTurn}
+use Rattle.run_said.specs.run_model.StepLaws.{TaskAt, is_refusal, is_sweep, task_of, refused_first}
+use Rattle.run_said.proofs.run_model.NodeLists.{clash, some_is}
+use Rattle.run_said.proofs.run_model.CauseLemmas as cause
+use Rattle.run_said.proofs.run_model.CauseLemmas.{by_lines, by_more, parted, more_refuses, then_by_more, is_by_more, first_again}
+use Rattle.run_said.proofs.run_model.PartTasks.{task_there}
+use Rattle.run_said.proofs.run_model.Refusing.{refusals, same_last, none_some}
+use Rattle.run_said.proofs.run_model.Failing.{successes}
 use Rattle.run_said.specs.Said.{Said, SaidNode, SaidLabel, SaidShared, at_said, down_said, find_said, is_by_lines, is_of_lines, is_settling, made_said, named_said, new_said, node_in, other_said, refused_by_lines, refused_by_said, there_said}
 use Rattle.run_laws.specs.SaidLaws.{SaidIsSo}
 use Rattle.run_said.proofs.Views.{node_told, label_told, shared_told, told_in}

@@ -3,17 +3,17 @@ use Rattle.std.proofs.Common.{◌≡◌, ℕ, ◌-◌, List, [], ◌∷◌, map,
 use Rattle.std.specs.Str.{bytes_eq}
 use Rattle.vms_model.specs.Ids.{Id}
 use Rattle.vms_model.specs.Keys.{Key}
-use Rattle.transcript_model.specs.Lines as line
-use Rattle.transcript_model.specs.Lines.{Line}
-use Rattle.script_model.specs.Statements.{At, Records, Direct, Operation, Put, Update, Delete, Truncate, Get, Next, Reading, Says}
-use Rattle.records_model.specs.Records.{Records as TheRecords, applied, set_key}
-use Rattle.records_model.specs.History.{same_id}
-use Rattle.run_model.specs.World.{World, File, Organization, Sequential, Relative, Indexed}
-use Rattle.run_model.specs.Operations.{changes_of, count_of, form_refused, in_order, key_put, operation_answer, place_refused, put_answer, removed}
-use Rattle.run_model.specs.Transcript.{Entry}
-use Rattle.run_model.specs.StepLaws.{is_refusal}
+use Rattle.run_said.specs.transcript_model.Lines as line
+use Rattle.run_said.specs.transcript_model.Lines.{Line}
+use Rattle.run_said.specs.script_model.Statements.{At, Records, Direct, Operation, Put, Update, Delete, Truncate, Get, Next, Reading, Says}
+use Rattle.unit_laws.specs.records_model.Records.{Records as TheRecords, applied, set_key}
+use Rattle.unit_laws.specs.records_model.History.{same_id}
+use Rattle.run_said.specs.run_model.World.{World, File, Organization, Sequential, Relative, Indexed}
+use Rattle.run_said.specs.run_model.Operations.{changes_of, count_of, form_refused, in_order, key_put, operation_answer, place_refused, put_answer, removed}
+use Rattle.run_said.specs.run_model.Transcript.{Entry}
+use Rattle.run_said.specs.run_model.StepLaws.{is_refusal}
 use Rattle.run_laws.specs.Accounts.{Set, Told, broken_sets, direct_told, file_of, one_told, put_sets, serial_told, sets_here, sets_of, told_by, with_sets}
-use Rattle.world_laws.proofs.AnswerLemmas.{neither}
+use Rattle.recovery_laws.proofs.world_laws.AnswerLemmas.{neither}
 use Rattle.run_laws.proofs.AccountLemmas.{TellSame, sets_apply}
 
 -- Refusals.

@@ -1,19 +1,19 @@
 -- The parts of a settling; one with which it goes on leaves its node up.
 use Rattle.std.proofs.Common.{◌≡◌, ℕ, ◌⊎◌, List, [], ◌∷◌, inl, inr, true, false, Option, Some, None, refl, sym, ◌∙◌, ap, subst}
-use Rattle.transcript_model.specs.Lines.{Line}
-use Rattle.script_model.specs.Statements.{Settle}
+use Rattle.run_said.specs.transcript_model.Lines.{Line}
+use Rattle.run_said.specs.script_model.Statements.{Settle}
 use Rattle.commit_protocol.specs.Messages.{Message}
 use Rattle.commit_protocol.specs.Table as table
 use Rattle.commit_protocol.specs.Rows as rows
 use Rattle.commit_protocol.specs.Rows.{row}
-use Rattle.run_model.specs.World.{World, Shared, Node, Tables, acted, next_moment, shared_after, tm_of}
-use Rattle.run_model.specs.Answers.{Task, Hears, Restarts, RunsDown, refused_before_reading, table_rows, task_service}
-use Rattle.run_model.specs.Steps.{Choice, Whole, begun, node_after_rows, ready_node, task_effect, whole}
-use Rattle.run_model.specs.Statements.{Part, Does, Asks, Question, Heard, Unanswered, Doubtful, phases_of, question}
-use Rattle.run_model.specs.StepLaws.{TaskAt, asked_by, task_of_part}
-use Rattle.run_model.proofs.NodeLists.{some_is}
-use Rattle.run_model.proofs.PartLemmas.{EachPhase}
-use Rattle.run_model.proofs.PartTasks.{all_asked, each_restart, each_run_down}
+use Rattle.run_said.specs.run_model.World.{World, Shared, Node, Tables, acted, next_moment, shared_after, tm_of}
+use Rattle.run_said.specs.run_model.Answers.{Task, Hears, Restarts, RunsDown, refused_before_reading, table_rows, task_service}
+use Rattle.run_said.specs.run_model.Steps.{Choice, Whole, begun, node_after_rows, ready_node, task_effect, whole}
+use Rattle.run_said.specs.run_model.Statements.{Part, Does, Asks, Question, Heard, Unanswered, Doubtful, phases_of, question}
+use Rattle.run_said.specs.run_model.StepLaws.{TaskAt, asked_by, task_of_part}
+use Rattle.run_said.proofs.run_model.NodeLists.{some_is}
+use Rattle.run_said.proofs.run_model.PartLemmas.{EachPhase}
+use Rattle.run_said.proofs.run_model.PartTasks.{all_asked, each_restart, each_run_down}
 use Rattle.run_laws.proofs.Labelling.{served_up}
 use Rattle.run_laws.proofs.ToldParts.{IsThinPart}
 

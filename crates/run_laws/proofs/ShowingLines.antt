@@ -6,9 +6,9 @@ use Rattle.std.proofs.Math.Seq.{take-length}
 use Rattle.vms_model.specs.Ids.{Id}
 use Rattle.vms_model.specs.Transactions.{Outcome, Commit, Abort, Reason, Aborted, SyncFail}
 use Rattle.vms_model.specs.Limits.{message_limit}
-use Rattle.transcript_model.specs.Lines as line
-use Rattle.transcript_model.specs.Lines.{Line, Cause}
-use Rattle.script_model.specs.Statements.{At, Request, Direct, EndTrans, AbortTrans}
+use Rattle.run_said.specs.transcript_model.Lines as line
+use Rattle.run_said.specs.transcript_model.Lines.{Line, Cause}
+use Rattle.run_said.specs.script_model.Statements.{At, Request, Direct, EndTrans, AbortTrans}
 use Rattle.commit_protocol.specs.Messages as message
 use Rattle.commit_protocol.specs.Messages.{Kind, LogRecord, Message, Name, RmEvent}
 use Rattle.commit_protocol.specs.Table as table
@@ -18,14 +18,14 @@ use Rattle.commit_protocol.specs.Rows.{all_replied, all_taken, all_voted, begins
 use Rattle.commit_protocol.specs.Allowed.{is_prepared}
 use Rattle.commit_protocol.specs.World.{In}
 use Rattle.commit_protocol.proofs.Lists.{same_key-refl, same_key-true}
-use Rattle.run_model.specs.World.{World, Shared, Node, Tables, acted, next_id, find_node, next_moment, shared_after, tm_of}
-use Rattle.run_model.specs.Answers.{Serves, Service, service, refused_before_reading, branch_labelled, changes_at, directed, is_declared, is_first_active, is_open, just, made_label, powers, shown_by, table_rows, told_rows, unsettled_label}
-use Rattle.run_model.specs.Steps.{Choice, Whole, WithoutMemory, Unpowered, Cut, TaskAllowed, task_effect, rows_if, rows_to_cut, whole, begun, lines_of_rows}
-use Rattle.run_model.specs.Statements.{Step, stops_at, RoseAt}
-use Rattle.run_model.specs.Transcript.{Entry}
-use Rattle.run_model.specs.StepLaws.{task_of}
-use Rattle.run_model.proofs.NodeLists.{clash, found_name}
-use Rattle.run_model.proofs.Refusing.{not_ready, same_last}
+use Rattle.run_said.specs.run_model.World.{World, Shared, Node, Tables, acted, next_id, find_node, next_moment, shared_after, tm_of}
+use Rattle.run_said.specs.run_model.Answers.{Serves, Service, service, refused_before_reading, branch_labelled, changes_at, directed, is_declared, is_first_active, is_open, just, made_label, powers, shown_by, table_rows, told_rows, unsettled_label}
+use Rattle.run_said.specs.run_model.Steps.{Choice, Whole, WithoutMemory, Unpowered, Cut, TaskAllowed, task_effect, rows_if, rows_to_cut, whole, begun, lines_of_rows}
+use Rattle.run_said.specs.run_model.Statements.{Step, stops_at, RoseAt}
+use Rattle.run_said.specs.run_model.Transcript.{Entry}
+use Rattle.run_said.specs.run_model.StepLaws.{task_of}
+use Rattle.run_said.proofs.run_model.NodeLists.{clash, found_name}
+use Rattle.run_said.proofs.run_model.Refusing.{not_ready, same_last}
 use Rattle.run_laws.specs.Naming.{IsNamed}
 use Rattle.run_laws.specs.Causes.{HasJoined, WasBegun}
 use Rattle.run_laws.specs.Showing.{HeadedBy, IsBehindAbort, IsItsAbort, IsItsEnd, IsManagerEvent, IsOfEnding, IsOneCommitment, IsSending, IsToItsBranch, OnceAmong, ShowsThese}

@@ -2,29 +2,29 @@
 use Rattle.std.proofs.Common.{◌≡◌, ℕ, ◌⊎◌, List, [], ◌∷◌, ◌++◌, inl, inr, take, Bool, true, false, Option, Some, None, refl, sym, ◌∙◌, ap, subst}
 use Rattle.vms_model.specs.Transactions.{Outcome, Commit, Abort, Reason, SegFail}
 use Rattle.vms_model.specs.Limits.{message_limit}
-use Rattle.transcript_model.specs.Lines as line
-use Rattle.transcript_model.specs.Lines.{Line, Cause}
-use Rattle.script_model.specs.Statements.{Statement, Reading, Blank, Says, Bad}
-use Rattle.script_model.specs.Grammar.{reading}
-use Rattle.records_model.specs.Records.{Change}
+use Rattle.run_said.specs.transcript_model.Lines as line
+use Rattle.run_said.specs.transcript_model.Lines.{Line, Cause}
+use Rattle.run_said.specs.script_model.Statements.{Statement, Reading, Blank, Says, Bad}
+use Rattle.run_said.specs.script_model.Grammar.{reading}
+use Rattle.unit_laws.specs.records_model.Records.{Change}
 use Rattle.commit_protocol.specs.Table.{Key as BranchKey}
 use Rattle.commit_protocol.specs.World.{In}
-use Rattle.run_model.specs.World as world
-use Rattle.run_model.specs.World.{World, Shared, Node, File, Label, Settlement, Act, Boots, Creates, Tables, DiskCounts, acted, shared_after, next_moment, labelled, free_place, lowest_free, find_node, opened}
-use Rattle.run_model.specs.Answers as answers
-use Rattle.run_model.specs.Answers.{Row, Service, Task, Serves, Ticks, Takes, Hears, LosesLink, RunsDown, Restarts, task_service, service, refused_before_reading, told_if, told_rows, table_rows, begins, just, boot_rows, shown_by, settled_line, forgot_lines, acknowledged_lines, released_lines, table_lines, last_line, last_lines, branch_labelled, branch_named, creates, operated, directed, changes_at, keys_at, records_of, shown_record, entry_line, entry_lines, shown_line, prepared_line, prepared_lines, silent}
-use Rattle.run_model.specs.Steps.{Choice, Whole, WithoutMemory, Unpowered, Cut, TaskEffect, task_effect, ready_node, node_after, node_after_rows, lines_of_rows, rows_to_cut, whole, begun}
-use Rattle.run_model.specs.Statements.{Part, PartEffect, Begins, Phases, Step, Allowed, part_effect, put_into, stops_at, RoseAt, phases_of, refused_at_once, begun_with}
-use Rattle.run_model.specs.Transcript.{Legal, Turn as LineTurn}
-use Rattle.run_model.specs.StepLaws.{is_refusal}
-use Rattle.run_model.proofs.NodeLists.{put_node, some_is}
-use Rattle.run_model.proofs.CauseLemmas.{is_success, refuses_first, refuses_then, task_succeeds}
-use Rattle.run_model.proofs.Failing.{once_refuses}
-use Rattle.run_model.proofs.TaskLemmas as task
-use Rattle.run_model.proofs.TaskLemmas.{First, Late, Success, Lacking, Failing, outcome, effect_name}
-use Rattle.run_model.proofs.PartLemmas.{phases_fold}
-use Rattle.run_model.proofs.PartTasks.{View, Doing, Fixed, view}
-use Rattle.run_model.proofs.Refusing.{each_phase}
+use Rattle.run_said.specs.run_model.World as world
+use Rattle.run_said.specs.run_model.World.{World, Shared, Node, File, Label, Settlement, Act, Boots, Creates, Tables, DiskCounts, acted, shared_after, next_moment, labelled, free_place, lowest_free, find_node, opened}
+use Rattle.run_said.specs.run_model.Answers as answers
+use Rattle.run_said.specs.run_model.Answers.{Row, Service, Task, Serves, Ticks, Takes, Hears, LosesLink, RunsDown, Restarts, task_service, service, refused_before_reading, told_if, told_rows, table_rows, begins, just, boot_rows, shown_by, settled_line, forgot_lines, acknowledged_lines, released_lines, table_lines, last_line, last_lines, branch_labelled, branch_named, creates, operated, directed, changes_at, keys_at, records_of, shown_record, entry_line, entry_lines, shown_line, prepared_line, prepared_lines, silent}
+use Rattle.run_said.specs.run_model.Steps.{Choice, Whole, WithoutMemory, Unpowered, Cut, TaskEffect, task_effect, ready_node, node_after, node_after_rows, lines_of_rows, rows_to_cut, whole, begun}
+use Rattle.run_said.specs.run_model.Statements.{Part, PartEffect, Begins, Phases, Step, Allowed, part_effect, put_into, stops_at, RoseAt, phases_of, refused_at_once, begun_with}
+use Rattle.run_said.specs.run_model.Transcript.{Legal, Turn as LineTurn}
+use Rattle.run_said.specs.run_model.StepLaws.{is_refusal}
+use Rattle.run_said.proofs.run_model.NodeLists.{put_node, some_is}
+use Rattle.run_said.proofs.run_model.CauseLemmas.{is_success, refuses_first, refuses_then, task_succeeds}
+use Rattle.run_said.proofs.run_model.Failing.{once_refuses}
+use Rattle.run_said.proofs.run_model.TaskLemmas as task
+use Rattle.run_said.proofs.run_model.TaskLemmas.{First, Late, Success, Lacking, Failing, outcome, effect_name}
+use Rattle.run_said.proofs.run_model.PartLemmas.{phases_fold}
+use Rattle.run_said.proofs.run_model.PartTasks.{View, Doing, Fixed, view}
+use Rattle.run_said.proofs.run_model.Refusing.{each_phase}
 use Rattle.run_laws.specs.Promises.{settlements_of, shown_in}
 use Rattle.run_laws.specs.Laws.{ShownAreSettled}
 use Rattle.run_laws.proofs.EachRow.{ArePlain, EachRow, closing_plain, cut_each, is_plain, is_voteless, take_each, task_each}

@@ -3,27 +3,27 @@ use Rattle.std.proofs.Common.{◌≡◌, ℕ, ◌⊎◌, List, [], ◌∷◌, �
 use Rattle.std.specs.Str.{bytes_eq}
 use Rattle.std.proofs.lemmas.Bool.{both_ways}
 use Rattle.std.proofs.lemmas.Slice.Eq.{bytes_eq-Decides}
-use Rattle.transcript_model.specs.Lines as line
-use Rattle.transcript_model.specs.Lines.{Line, Cause}
-use Rattle.script_model.specs.Statements.{Statement, At, Deliver, LinkDown, Settle, Request, Init, Boot, Clock, Reading, Blank, Says, Bad}
-use Rattle.script_model.specs.Grammar.{reading}
+use Rattle.run_said.specs.transcript_model.Lines as line
+use Rattle.run_said.specs.transcript_model.Lines.{Line, Cause}
+use Rattle.run_said.specs.script_model.Statements.{Statement, At, Deliver, LinkDown, Settle, Request, Init, Boot, Clock, Reading, Blank, Says, Bad}
+use Rattle.run_said.specs.script_model.Grammar.{reading}
 use Rattle.commit_protocol.specs.Messages.{Message}
 use Rattle.commit_protocol.specs.World.{In}
-use Rattle.run_model.specs.World.{World, Shared, Node, DiskCounts, Act, Formats, IsOpening, LastIsReached, acted, find_node, opened, with_node}
-use Rattle.run_model.specs.Answers.{Service, Task, Hears, LosesLink, Serves, Takes, Ticks, powers, refused_before_reading, service, task_service}
-use Rattle.run_model.specs.Steps.{Choice, Cut, TaskAllowed, Unpowered, Whole, WithoutMemory, begun, node_after_rows, ready_node, task_effect, whole}
-use Rattle.run_model.specs.Statements.{Part, Asks, Does, Doubtful, Heard, PartEffect, Phase, Begins, Phases, Question, Step, Unanswered, Allowed, RoseAt, begun_with, message_at, part_effect, phases_of, question, refused_at_once, stops_at}
-use Rattle.run_model.specs.StepLaws.{TaskAt, asked_by, task_of_part}
-use Rattle.run_model.specs.Transcript.{Entry, Legal, AreOpening, Turn}
-use Rattle.run_model.proofs.NodeLists.{found_name, put_node, some_is}
-use Rattle.run_model.proofs.TaskLemmas.{effect_name}
-use Rattle.run_model.proofs.PartLemmas.{EachPart, EachPhase, phases_fold}
-use Rattle.run_model.proofs.PartTasks.{View, Doing, Fixed, all_asked, each_restart, each_run_down, each_up, view}
-use Rattle.run_model.proofs.Refusing.{each_phase}
-use Rattle.world_laws.specs.Nodes.{IsKeptNode}
-use Rattle.world_laws.proofs.Induction as kept
-use Rattle.world_laws.proofs.Induction.{AreKeptNodes, beside_node}
-use Rattle.world_laws.proofs.WorldLemmas as world_laws
+use Rattle.run_said.specs.run_model.World.{World, Shared, Node, DiskCounts, Act, Formats, IsOpening, LastIsReached, acted, find_node, opened, with_node}
+use Rattle.run_said.specs.run_model.Answers.{Service, Task, Hears, LosesLink, Serves, Takes, Ticks, powers, refused_before_reading, service, task_service}
+use Rattle.run_said.specs.run_model.Steps.{Choice, Cut, TaskAllowed, Unpowered, Whole, WithoutMemory, begun, node_after_rows, ready_node, task_effect, whole}
+use Rattle.run_said.specs.run_model.Statements.{Part, Asks, Does, Doubtful, Heard, PartEffect, Phase, Begins, Phases, Question, Step, Unanswered, Allowed, RoseAt, begun_with, message_at, part_effect, phases_of, question, refused_at_once, stops_at}
+use Rattle.run_said.specs.run_model.StepLaws.{TaskAt, asked_by, task_of_part}
+use Rattle.run_said.specs.run_model.Transcript.{Entry, Legal, AreOpening, Turn}
+use Rattle.run_said.proofs.run_model.NodeLists.{found_name, put_node, some_is}
+use Rattle.run_said.proofs.run_model.TaskLemmas.{effect_name}
+use Rattle.run_said.proofs.run_model.PartLemmas.{EachPart, EachPhase, phases_fold}
+use Rattle.run_said.proofs.run_model.PartTasks.{View, Doing, Fixed, all_asked, each_restart, each_run_down, each_up, view}
+use Rattle.run_said.proofs.run_model.Refusing.{each_phase}
+use Rattle.recovery_laws.specs.world_laws.Nodes.{IsKeptNode}
+use Rattle.recovery_laws.proofs.world_laws.Induction as kept
+use Rattle.recovery_laws.proofs.world_laws.Induction.{AreKeptNodes, beside_node}
+use Rattle.recovery_laws.proofs.world_laws.WorldLemmas as world_laws
 use Rattle.run_laws.specs.Promises.{Descends, SettledOnce}
 use Rattle.run_laws.specs.Laws.{SettlesOnce}
 use Rattle.run_laws.proofs.Moments as moments

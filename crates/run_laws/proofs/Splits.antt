@@ -2,8 +2,8 @@
 use Rattle.std.proofs.Common.{◌≡◌, ℕ, ◌+◌, ◌⊎◌, List, [], ◌∷◌, ◌++◌, take, zero, suc, inl, inr, Bool, true, false, Option, Some, None, if◌then◌else◌, refl, sym, ◌∙◌, ap, subst}
 use Rattle.std.specs.Prelude.{length, nat_lt}
 use Rattle.vms_model.specs.Limits.{message_limit}
-use Rattle.transcript_model.specs.Lines as line
-use Rattle.transcript_model.specs.Lines.{Line, Cause}
+use Rattle.run_said.specs.transcript_model.Lines as line
+use Rattle.run_said.specs.transcript_model.Lines.{Line, Cause}
 use Rattle.commit_protocol.specs.Messages as message
 use Rattle.commit_protocol.specs.Messages.{Message}
 use Rattle.commit_protocol.specs.Table as table
@@ -11,9 +11,9 @@ use Rattle.commit_protocol.specs.Table.{Branch, State, Prepared, Ending, Notes, 
 use Rattle.commit_protocol.specs.Rows as rows
 use Rattle.commit_protocol.specs.Rows.{got, row, Got}
 use Rattle.commit_protocol.specs.World.{In}
-use Rattle.run_model.specs.World.{Shared, Node, Settlement, Tables, acted, next_moment, shared_after, tm_of}
-use Rattle.run_model.specs.Answers.{Row, Hears, Takes, outcome_told, refused_before_reading, shown_by, table_rows, task_service}
-use Rattle.run_model.specs.Steps.{Choice, Whole, WithoutMemory, Unpowered, Cut, lines_of_rows, ready_node, task_effect, whole}
+use Rattle.run_said.specs.run_model.World.{Shared, Node, Settlement, Tables, acted, next_moment, shared_after, tm_of}
+use Rattle.run_said.specs.run_model.Answers.{Row, Hears, Takes, outcome_told, refused_before_reading, shown_by, table_rows, task_service}
+use Rattle.run_said.specs.run_model.Steps.{Choice, Whole, WithoutMemory, Unpowered, Cut, lines_of_rows, ready_node, task_effect, whole}
 use Rattle.run_laws.specs.Promises.{shown_in}
 use Rattle.run_laws.proofs.EachRow.{ArePlain, is_plain}
 use Rattle.run_said.proofs.Passing.{acknowledged_passes, append_passes, printed_passes, released_passes}

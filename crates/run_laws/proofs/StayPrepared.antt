@@ -4,9 +4,9 @@ use Rattle.std.proofs.Common.{◌≡◌, ℕ, ◌⊎◌, List, [], ◌∷◌, �
 use Rattle.std.proofs.lemmas.Bool.{and_parts, both_ways}
 use Rattle.vms_model.specs.Ids.{Id}
 use Rattle.vms_model.specs.Transactions.{Outcome, Commit, Abort, Reason}
-use Rattle.transcript_model.specs.Lines as line
-use Rattle.transcript_model.specs.Lines.{Line, Cause}
-use Rattle.records_model.specs.History.{same_id}
+use Rattle.run_said.specs.transcript_model.Lines as line
+use Rattle.run_said.specs.transcript_model.Lines.{Line, Cause}
+use Rattle.unit_laws.specs.records_model.History.{same_id}
 use Rattle.commit_protocol.specs.Allowed.{is_prepared}
 use Rattle.commit_protocol.specs.Messages as messages
 use Rattle.commit_protocol.specs.Messages.{LogRecord}
@@ -14,16 +14,16 @@ use Rattle.commit_protocol.specs.Table as table
 use Rattle.commit_protocol.specs.Table.{Branch, Prepared, State, Key as BranchKey, branch_serials, cut, find, prepared_record, prepared_records, put, same_key, table_after}
 use Rattle.commit_protocol.specs.World.{In}
 use Rattle.commit_protocol.proofs.Lists.{find-key, same_key-true}
-use Rattle.log_laws.specs.Slots.{prepared_of, records_in}
-use Rattle.log_laws.proofs.Reading.{is_prepared_one, prepared_is}
-use Rattle.run_model.specs.World as world
-use Rattle.run_model.specs.World.{Shared, Node, Act, Boots, ComesUp, Durable, Settlement, Tables, acted, aborted_prepared, booted, settlement, with_changed, with_half}
-use Rattle.run_model.specs.Answers.{Row, Task, Serves, last_line, last_lines, prepared_line, settled_line, task_service}
-use Rattle.run_model.specs.Steps.{node_after, task_effect}
-use Rattle.world_laws.specs.Nodes.{IsUp}
-use Rattle.world_laws.proofs.IdLemmas.{id_is, id_itself}
-use Rattle.world_laws.proofs.TableLemmas.{found_in, in_serials, one_branch}
-use Rattle.world_laws.proofs.UpLemmas.{branch_drawn, differ}
+use Rattle.run_said.specs.log_laws.Slots.{prepared_of, records_in}
+use Rattle.run_said.proofs.log_laws.Reading.{is_prepared_one, prepared_is}
+use Rattle.run_said.specs.run_model.World as world
+use Rattle.run_said.specs.run_model.World.{Shared, Node, Act, Boots, ComesUp, Durable, Settlement, Tables, acted, aborted_prepared, booted, settlement, with_changed, with_half}
+use Rattle.run_said.specs.run_model.Answers.{Row, Task, Serves, last_line, last_lines, prepared_line, settled_line, task_service}
+use Rattle.run_said.specs.run_model.Steps.{node_after, task_effect}
+use Rattle.recovery_laws.specs.world_laws.Nodes.{IsUp}
+use Rattle.recovery_laws.proofs.world_laws.IdLemmas.{id_is, id_itself}
+use Rattle.recovery_laws.proofs.world_laws.TableLemmas.{found_in, in_serials, one_branch}
+use Rattle.recovery_laws.proofs.world_laws.UpLemmas.{branch_drawn, differ}
 use Rattle.run_laws.specs.Promises.{abort, commitment, prepared_by, prepared_here, settlement_in}
 use Rattle.run_laws.proofs.AllShown.{IsFormed, formed_settlement}
 use Rattle.run_laws.proofs.EachRow.{ArePlain, AreVoteless, VotesSo, is_plain, is_voteless}

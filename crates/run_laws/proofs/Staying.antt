@@ -1,20 +1,20 @@
 -- What is settled stays so.
 use Rattle.std.proofs.Common.{◌≡◌, ℕ, ◌⊎◌, List, [], ◌∷◌, ◌++◌, inl, inr, take, Bool, true, false, Option, Some, None, if◌then◌else◌, refl, sym, ◌∙◌, ap, subst}
 use Rattle.std.specs.Str.{bytes_eq}
-use Rattle.transcript_model.specs.Lines as line
-use Rattle.transcript_model.specs.Lines.{Line, Cause}
-use Rattle.script_model.specs.Statements.{Statement, At, Deliver, LinkDown, Settle, Reading, Blank, Says, Bad}
-use Rattle.script_model.specs.Grammar.{reading}
+use Rattle.run_said.specs.transcript_model.Lines as line
+use Rattle.run_said.specs.transcript_model.Lines.{Line, Cause}
+use Rattle.run_said.specs.script_model.Statements.{Statement, At, Deliver, LinkDown, Settle, Reading, Blank, Says, Bad}
+use Rattle.run_said.specs.script_model.Grammar.{reading}
 use Rattle.commit_protocol.specs.World.{In}
-use Rattle.run_model.specs.World.{World, Shared, Node, Settlement, Act, Tables, Directs, Outturn, Lost, Taken, Half, opened, find_node, with_node, acted, powered, unpowered, settled_more, settlement_of}
-use Rattle.run_model.specs.Answers.{Row, Service, Task, task_service, refused_before_reading, powers, spoils}
-use Rattle.run_model.specs.Steps.{Choice, Whole, WithoutMemory, Unpowered, Cut, task_effect, ready_node, node_after, node_after_rows, rows_to_cut, with_unknown_volume, whole, begun}
-use Rattle.run_model.specs.Statements.{Part, PartEffect, Begins, Phases, Step, part_effect, stops_at, phases_of, refused_at_once, begun_with}
-use Rattle.run_model.specs.Transcript.{Entry, Legal, Turn as LineTurn}
-use Rattle.run_model.proofs.TaskLemmas.{effect_name}
-use Rattle.run_model.proofs.PartLemmas.{phases_fold}
-use Rattle.run_model.proofs.PartTasks.{View, Doing, Fixed, view}
-use Rattle.run_model.proofs.Refusing.{each_phase}
+use Rattle.run_said.specs.run_model.World.{World, Shared, Node, Settlement, Act, Tables, Directs, Outturn, Lost, Taken, Half, opened, find_node, with_node, acted, powered, unpowered, settled_more, settlement_of}
+use Rattle.run_said.specs.run_model.Answers.{Row, Service, Task, task_service, refused_before_reading, powers, spoils}
+use Rattle.run_said.specs.run_model.Steps.{Choice, Whole, WithoutMemory, Unpowered, Cut, task_effect, ready_node, node_after, node_after_rows, rows_to_cut, with_unknown_volume, whole, begun}
+use Rattle.run_said.specs.run_model.Statements.{Part, PartEffect, Begins, Phases, Step, part_effect, stops_at, phases_of, refused_at_once, begun_with}
+use Rattle.run_said.specs.run_model.Transcript.{Entry, Legal, Turn as LineTurn}
+use Rattle.run_said.proofs.run_model.TaskLemmas.{effect_name}
+use Rattle.run_said.proofs.run_model.PartLemmas.{phases_fold}
+use Rattle.run_said.proofs.run_model.PartTasks.{View, Doing, Fixed, view}
+use Rattle.run_said.proofs.run_model.Refusing.{each_phase}
 use Rattle.run_laws.specs.Promises.{settlements_of}
 use Rattle.run_laws.specs.Laws.{SettlementsStay}
 

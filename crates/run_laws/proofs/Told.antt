@@ -1,9 +1,9 @@
 -- What lines tell of the unprepared branches of each world: with how much time they began, which branches joined them, and that END_TRANS was called of one that ends.
 use Rattle.std.proofs.Common.{◌≡◌, ℕ, ◌+◌, ◌*◌, ◌⊎◌, List, [], ◌∷◌, ◌++◌, inl, inr, true, false, Some, refl, sym, ◌∙◌, ap, subst}
 use Rattle.vms_model.specs.Ids.{Id}
-use Rattle.transcript_model.specs.Lines as line
-use Rattle.transcript_model.specs.Lines.{Line}
-use Rattle.script_model.specs.Statements.{At, StartTrans}
+use Rattle.run_said.specs.transcript_model.Lines as line
+use Rattle.run_said.specs.transcript_model.Lines.{Line}
+use Rattle.run_said.specs.script_model.Statements.{At, StartTrans}
 use Rattle.commit_protocol.specs.Messages.{Message}
 use Rattle.commit_protocol.specs.Table.{Branch, Child, Ending, Key as BranchKey, is_first, same_key, first}
 use Rattle.commit_protocol.specs.Allowed.{is_prepared}
@@ -11,9 +11,9 @@ use Rattle.commit_protocol.specs.Rows as rows
 use Rattle.commit_protocol.specs.Rows.{Event, has_bid}
 use Rattle.commit_protocol.specs.World.{In}
 use Rattle.commit_protocol.proofs.Lists.{in_parts}
-use Rattle.run_model.specs.World.{World, Shared, Node, find_node}
-use Rattle.run_model.specs.Answers.{Task}
-use Rattle.run_model.specs.Transcript.{Entry}
+use Rattle.run_said.specs.run_model.World.{World, Shared, Node, find_node}
+use Rattle.run_said.specs.run_model.Answers.{Task}
+use Rattle.run_said.specs.run_model.Transcript.{Entry}
 use Rattle.run_laws.specs.Causes.{HasJoined, WasEnded, clock_told}
 use Rattle.run_laws.specs.SaidLaws.{SaidThere}
 use Rattle.run_laws.proofs.Contents.{From, IsTold, TaskAccepts, TaskNotes, bare}

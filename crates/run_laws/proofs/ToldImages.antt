@@ -9,9 +9,9 @@ use Rattle.commit_protocol.proofs.Gathered.{is_shown}
 use Rattle.commit_protocol.proofs.Lists.{same_name-eq, same_name-ne}
 use Rattle.commit_protocol.proofs.Opened.{good_opened}
 use Rattle.commit_protocol.proofs.Running.{goes_run}
-use Rattle.run_model.specs.World.{Node, World, find_node}
-use Rattle.run_model.specs.Transcript.{Entry}
-use Rattle.run_model.proofs.NodeLists.{some_is}
+use Rattle.run_said.specs.run_model.World.{Node, World, find_node}
+use Rattle.run_said.specs.run_model.Transcript.{Entry}
+use Rattle.run_said.proofs.run_model.NodeLists.{some_is}
 use Rattle.run_agreement.specs.Following.{opening_of}
 use Rattle.run_agreement.specs.Laws.{IsReachedBy, IsRun, NamesApart, image_told, images_told, opening_told, volume_image, with_image}
 use Rattle.run_agreement.specs.Seen.{Face, IsFace, Resolution, has_volume}

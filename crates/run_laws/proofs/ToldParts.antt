@@ -1,8 +1,8 @@
 -- What a settling, a failed link and a clock leave of unprepared branches, and of clocks.
 use Rattle.std.proofs.Common.{◌≡◌, ℕ, ◌⊎◌, List, inl, inr, Bool, true, false, Option, Some, None, refl, sym, ◌∙◌, ap, subst}
 use Rattle.vms_model.specs.Ids.{Id}
-use Rattle.transcript_model.specs.Lines.{Line}
-use Rattle.script_model.specs.Statements.{LinkDown, Settle}
+use Rattle.run_said.specs.transcript_model.Lines.{Line}
+use Rattle.run_said.specs.script_model.Statements.{LinkDown, Settle}
 use Rattle.commit_protocol.specs.Messages as message
 use Rattle.commit_protocol.specs.Messages.{Message}
 use Rattle.commit_protocol.specs.Table.{Branch}
@@ -10,14 +10,14 @@ use Rattle.commit_protocol.specs.Allowed.{is_prepared}
 use Rattle.commit_protocol.specs.Rows as rows
 use Rattle.commit_protocol.specs.Rows.{Event}
 use Rattle.commit_protocol.specs.World.{In}
-use Rattle.run_model.specs.World.{World, Shared, Node, DiskCounts, find_node, with_node}
-use Rattle.run_model.specs.Answers.{Task, Serves, Ticks, Takes, Hears, LosesLink, RunsDown, Restarts, task_service}
-use Rattle.run_model.specs.Steps.{Choice, task_effect}
-use Rattle.run_model.specs.Statements.{Part, Does, Asks, PartEffect, Question, Heard, Unanswered, Doubtful, Phase, Phases, done_at, no_node, part_effect, put_into, question, question_effect, stops_at, phases_of}
-use Rattle.run_model.proofs.NodeLists.{some_is}
-use Rattle.run_model.proofs.TaskLemmas.{effect_name}
-use Rattle.run_model.proofs.PartLemmas.{EachPhase, done_here, phases_fold}
-use Rattle.run_model.proofs.PartTasks.{all_asked, each_restart, each_run_down, each_up}
+use Rattle.run_said.specs.run_model.World.{World, Shared, Node, DiskCounts, find_node, with_node}
+use Rattle.run_said.specs.run_model.Answers.{Task, Serves, Ticks, Takes, Hears, LosesLink, RunsDown, Restarts, task_service}
+use Rattle.run_said.specs.run_model.Steps.{Choice, task_effect}
+use Rattle.run_said.specs.run_model.Statements.{Part, Does, Asks, PartEffect, Question, Heard, Unanswered, Doubtful, Phase, Phases, done_at, no_node, part_effect, put_into, question, question_effect, stops_at, phases_of}
+use Rattle.run_said.proofs.run_model.NodeLists.{some_is}
+use Rattle.run_said.proofs.run_model.TaskLemmas.{effect_name}
+use Rattle.run_said.proofs.run_model.PartLemmas.{EachPhase, done_here, phases_fold}
+use Rattle.run_said.proofs.run_model.PartTasks.{all_asked, each_restart, each_run_down, each_up}
 use Rattle.run_laws.proofs.Contents.{From, IsTold, TaskAccepts, TaskNotes, begins_none}
 use Rattle.run_laws.proofs.Coming.{effect_came}
 use Rattle.run_laws.proofs.EffectsTell.{effect_step}

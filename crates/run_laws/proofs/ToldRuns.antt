@@ -6,10 +6,10 @@ use Rattle.std.specs.Str.{bytes_eq}
 use Rattle.std.proofs.lemmas.Slice.Eq.{bytes_eq-Decides}
 use Rattle.vms_model.specs.Ids.{Id}
 use Rattle.vms_model.specs.Transactions.{Reason, Aborted, SyncFail}
-use Rattle.transcript_model.specs.Lines as line
-use Rattle.transcript_model.specs.Lines.{Line, Cause}
-use Rattle.script_model.specs.Statements.{Statement, At, Deliver, LinkDown, Settle, Request, StartTrans, AddBranch, StartBranch, EndBranch, EndTrans, AbortTrans, Inquire, JoinRm, AckEvent, Clock, Reading, Blank, Says, Bad}
-use Rattle.script_model.specs.Grammar.{reading}
+use Rattle.run_said.specs.transcript_model.Lines as line
+use Rattle.run_said.specs.transcript_model.Lines.{Line, Cause}
+use Rattle.run_said.specs.script_model.Statements.{Statement, At, Deliver, LinkDown, Settle, Request, StartTrans, AddBranch, StartBranch, EndBranch, EndTrans, AbortTrans, Inquire, JoinRm, AckEvent, Clock, Reading, Blank, Says, Bad}
+use Rattle.run_said.specs.script_model.Grammar.{reading}
 use Rattle.commit_protocol.specs.Messages as message
 use Rattle.commit_protocol.specs.Messages.{Message, Name, RmEvent}
 use Rattle.commit_protocol.specs.Table as table
@@ -19,23 +19,23 @@ use Rattle.commit_protocol.specs.Rows as rows
 use Rattle.commit_protocol.specs.Rows.{Event, all_replied, all_taken, all_voted, begins_ending, blank, commits_if_all, ending, row, sends_all, serials, tells, to_each, which_event, joined, told_abort, interested, yes_of}
 use Rattle.commit_protocol.specs.World.{In}
 use Rattle.commit_protocol.proofs.Lists.{in_left, same_key-refl}
-use Rattle.run_model.specs.World as world
-use Rattle.run_model.specs.World.{World, Shared, Node, Label, DiskCounts, Tables, acted, find_node, labelled, next_id, next_moment, opened, shared_after, tm_of, with_node}
-use Rattle.run_model.specs.Answers as answers
-use Rattle.run_model.specs.Answers.{Row, Service, Task, Serves, Ticks, Takes, Hears, LosesLink, RunsDown, Restarts, powers, touches, service, task_service, end_answer, begins, branch_labelled, is_first_active, just, made_label, refused_before_reading, silent, table_rows, told_if, told_rows, unsettled_label}
-use Rattle.run_model.specs.Steps.{Choice, Whole, WithoutMemory, Unpowered, Cut, TaskAllowed, TaskEffect, refused, succeeded, task_effect, lines_of_rows, node_after_rows, ready_node, begun, whole}
-use Rattle.run_model.specs.Operations.{first_of}
-use Rattle.run_model.specs.Statements.{Part, Does, PartEffect, Parts, Then, Allowed, AllowedAt, done_at, named_node, no_node, part_effect, Begins, Phases, Step, put_into, stops_at, RoseAt, phases_of, refused_at_once, begun_with, message_at, where_up}
-use Rattle.run_model.specs.Transcript.{Entry, Legal, Turn as LineTurn, AreOpening}
-use Rattle.run_model.specs.StepLaws.{TaskAt, is_refusal, task_of}
-use Rattle.run_model.proofs.NodeLists.{clash, found_name, put_node, put_same, some_is}
-use Rattle.run_model.proofs.TaskLemmas as tasks
-use Rattle.run_model.proofs.TaskLemmas.{First, Late, Success, Lacking, Failing, effect_name, outcome, rows_name}
-use Rattle.run_model.proofs.CauseLemmas.{refuses_first, refuses_then}
-use Rattle.run_model.proofs.PartLemmas.{allowed_here, done_here, phases_fold}
-use Rattle.run_model.proofs.PartTasks.{each_up, named_found}
-use Rattle.run_model.proofs.Failing.{once_refuses}
-use Rattle.run_model.proofs.Refusing.{not_ready, refusals}
+use Rattle.run_said.specs.run_model.World as world
+use Rattle.run_said.specs.run_model.World.{World, Shared, Node, Label, DiskCounts, Tables, acted, find_node, labelled, next_id, next_moment, opened, shared_after, tm_of, with_node}
+use Rattle.run_said.specs.run_model.Answers as answers
+use Rattle.run_said.specs.run_model.Answers.{Row, Service, Task, Serves, Ticks, Takes, Hears, LosesLink, RunsDown, Restarts, powers, touches, service, task_service, end_answer, begins, branch_labelled, is_first_active, just, made_label, refused_before_reading, silent, table_rows, told_if, told_rows, unsettled_label}
+use Rattle.run_said.specs.run_model.Steps.{Choice, Whole, WithoutMemory, Unpowered, Cut, TaskAllowed, TaskEffect, refused, succeeded, task_effect, lines_of_rows, node_after_rows, ready_node, begun, whole}
+use Rattle.run_said.specs.run_model.Operations.{first_of}
+use Rattle.run_said.specs.run_model.Statements.{Part, Does, PartEffect, Parts, Then, Allowed, AllowedAt, done_at, named_node, no_node, part_effect, Begins, Phases, Step, put_into, stops_at, RoseAt, phases_of, refused_at_once, begun_with, message_at, where_up}
+use Rattle.run_said.specs.run_model.Transcript.{Entry, Legal, Turn as LineTurn, AreOpening}
+use Rattle.run_said.specs.run_model.StepLaws.{TaskAt, is_refusal, task_of}
+use Rattle.run_said.proofs.run_model.NodeLists.{clash, found_name, put_node, put_same, some_is}
+use Rattle.run_said.proofs.run_model.TaskLemmas as tasks
+use Rattle.run_said.proofs.run_model.TaskLemmas.{First, Late, Success, Lacking, Failing, effect_name, outcome, rows_name}
+use Rattle.run_said.proofs.run_model.CauseLemmas.{refuses_first, refuses_then}
+use Rattle.run_said.proofs.run_model.PartLemmas.{allowed_here, done_here, phases_fold}
+use Rattle.run_said.proofs.run_model.PartTasks.{each_up, named_found}
+use Rattle.run_said.proofs.run_model.Failing.{once_refuses}
+use Rattle.run_said.proofs.run_model.Refusing.{not_ready, refusals}
 use Rattle.run_laws.specs.Causes.{HasJoined, WasBegun, WasEnded, clock_here, clock_told}
 use Rattle.run_laws.proofs.Contents.{ArePutting, Comes, IsTold, bare, begins_none, rows_come}
 use Rattle.run_laws.proofs.Coming.{Came, Never, effect_came}

@@ -3,20 +3,20 @@ use Rattle.std.proofs.Common.{◌≡◌, ◌≤◌, ℕ, suc, ◌⊎◌, List, [
 use Rattle.std.proofs.lemmas.Bool.{both_ways, cases_Bool}
 use Rattle.std.proofs.lemmas.List.{append_assoc}
 use Rattle.vms_model.specs.Transactions.{Outcome, Commit, Abort, Reason, Timeout, CommFail, SegFail}
-use Rattle.transcript_model.specs.Lines as line
-use Rattle.transcript_model.specs.Lines.{Line, Cause}
+use Rattle.run_said.specs.transcript_model.Lines as line
+use Rattle.run_said.specs.transcript_model.Lines.{Line, Cause}
 use Rattle.commit_protocol.specs.Table.{Key as BranchKey, Settles, Undoes}
 use Rattle.commit_protocol.specs.World.{In}
-use Rattle.run_model.specs.World as world
-use Rattle.run_model.specs.World.{World, Shared, Node, Act, Directs, DiskCounts, Outturn, Settlement, Tables, find_node}
-use Rattle.run_model.specs.Answers.{Row, Task, Ticks, Takes, Hears, LosesLink, RunsDown, Restarts, Serves, task_service}
-use Rattle.run_model.specs.Steps.{Choice, Cut, TaskAllowed, act_begun, lines_of_rows, ready_node, rows_to_cut, task_effect}
-use Rattle.run_model.specs.Statements.{Part, Does, Asks, Parts, PartEffect, Phase, Phases, Onward, Question, Heard, Unanswered, Doubtful, Then, Allowed, AllowedOf, RoseAt, part_effect, put_into, question, stops_at}
-use Rattle.run_model.specs.StepLaws.{TaskAt, asked_by, task_of_part}
-use Rattle.run_model.proofs.NodeLists.{found_name, put_node, some_is}
-use Rattle.run_model.proofs.PartLemmas.{here_allowed}
-use Rattle.run_model.proofs.PartTasks.{View, Doing, Fixed, view}
-use Rattle.run_model.proofs.TaskLemmas.{effect_name, ready_name}
+use Rattle.run_said.specs.run_model.World as world
+use Rattle.run_said.specs.run_model.World.{World, Shared, Node, Act, Directs, DiskCounts, Outturn, Settlement, Tables, find_node}
+use Rattle.run_said.specs.run_model.Answers.{Row, Task, Ticks, Takes, Hears, LosesLink, RunsDown, Restarts, Serves, task_service}
+use Rattle.run_said.specs.run_model.Steps.{Choice, Cut, TaskAllowed, act_begun, lines_of_rows, ready_node, rows_to_cut, task_effect}
+use Rattle.run_said.specs.run_model.Statements.{Part, Does, Asks, Parts, PartEffect, Phase, Phases, Onward, Question, Heard, Unanswered, Doubtful, Then, Allowed, AllowedOf, RoseAt, part_effect, put_into, question, stops_at}
+use Rattle.run_said.specs.run_model.StepLaws.{TaskAt, asked_by, task_of_part}
+use Rattle.run_said.proofs.run_model.NodeLists.{found_name, put_node, some_is}
+use Rattle.run_said.proofs.run_model.PartLemmas.{here_allowed}
+use Rattle.run_said.proofs.run_model.PartTasks.{View, Doing, Fixed, view}
+use Rattle.run_said.proofs.run_model.TaskLemmas.{effect_name, ready_name}
 use Rattle.run_laws.specs.Promises.{settlements_of}
 use Rattle.run_laws.proofs.Falling.{cut_cause}
 use Rattle.run_laws.proofs.SoundWorlds.{Changed, Here, Beside, changed}
@@ -201,9 +201,9 @@ module _ (y : List ℕ) (s : Settlement) (it : Line) (is_line : IsLineOf s it) w
         aborts P f (Directs file cs x) h q = let clash : Commit ≡ Abort = (f _ Commit _ h).0 in let no : ⊥ = cc in no
         aborts P f _ h q = let no : ⊥ = cc in no
 
-        of_request : (r : Rattle.script_model.specs.Statements.Request) → (Rattle.run_model.specs.Answers.service r).goes_on ≡ true → ⊥
-        of_request (Rattle.script_model.specs.Statements.Init slots journal) q = let no : ⊥ = cc in no
-        of_request Rattle.script_model.specs.Statements.Boot q = let no : ⊥ = cc in no
+        of_request : (r : Rattle.run_said.specs.script_model.Statements.Request) → (Rattle.run_said.specs.run_model.Answers.service r).goes_on ≡ true → ⊥
+        of_request (Rattle.run_said.specs.script_model.Statements.Init slots journal) q = let no : ⊥ = cc in no
+        of_request Rattle.run_said.specs.script_model.Statements.Boot q = let no : ⊥ = cc in no
         of_request _ q = let no : ⊥ = cc in no
 
         of_task : (t : Task) → (task_service t).goes_on ≡ true → act_begun true (drop j (rows_to_cut sh (ready_node o stops (task_service t) n) (task_service t))) ≡ Some act → ⊥

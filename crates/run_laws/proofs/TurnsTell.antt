@@ -3,23 +3,23 @@ use Rattle.std.proofs.Common.{◌≡◌, ℕ, ◌⊎◌, List, [], ◌∷◌, �
 use Rattle.std.specs.List.{last_or}
 use Rattle.std.specs.Option.{option_map}
 use Rattle.std.specs.Str.{bytes_eq}
-use Rattle.transcript_model.specs.Lines as line
-use Rattle.transcript_model.specs.Lines.{Line, Cause}
-use Rattle.script_model.specs.Statements.{Statement, At, Deliver, LinkDown, Settle, Request, Init, Boot, StartTrans, AddBranch, Clock, Reading, Blank, Says, Bad}
-use Rattle.script_model.specs.Grammar.{reading}
+use Rattle.run_said.specs.transcript_model.Lines as line
+use Rattle.run_said.specs.transcript_model.Lines.{Line, Cause}
+use Rattle.run_said.specs.script_model.Statements.{Statement, At, Deliver, LinkDown, Settle, Request, Init, Boot, StartTrans, AddBranch, Clock, Reading, Blank, Says, Bad}
+use Rattle.run_said.specs.script_model.Grammar.{reading}
 use Rattle.commit_protocol.specs.Messages.{Message}
-use Rattle.run_model.specs.World.{World, Shared, Node, DiskCounts, find_node, with_node, opened}
-use Rattle.run_model.specs.Answers.{Task, Serves, Ticks, Takes, Hears, LosesLink, RunsDown, Restarts, task_service, service}
-use Rattle.run_model.specs.Steps.{Choice, TaskEffect, TaskAllowed, ServiceAllowed, service_effect, task_effect}
-use Rattle.run_model.specs.Statements.{Part, PartEffect, Begins, Phases, Step, Allowed, part_effect, put_into, stops_at, RoseAt, message_at, phases_of, refused_at_once, begun_with}
-use Rattle.run_model.specs.Transcript.{Entry, Legal, Turn as LineTurn, AreOpening}
-use Rattle.run_model.specs.StepLaws.{IsTask, TaskAt, is_refusal, task_of}
-use Rattle.run_model.proofs.NodeLists.{found_name, some_is}
-use Rattle.run_model.proofs.CauseLemmas.{is_success, refuses_first, refuses_then, task_succeeds}
-use Rattle.run_model.proofs.TaskLemmas.{Outcome, First, Late, Success, Lacking, Failing, outcome}
-use Rattle.run_model.proofs.PartLemmas.{turn, phases_fold}
-use Rattle.run_model.proofs.PartTasks.{View, Doing, Fixed, view, IsOk, sweep_ok, task_there}
-use Rattle.run_model.proofs.Failing.{once_refuses}
+use Rattle.run_said.specs.run_model.World.{World, Shared, Node, DiskCounts, find_node, with_node, opened}
+use Rattle.run_said.specs.run_model.Answers.{Task, Serves, Ticks, Takes, Hears, LosesLink, RunsDown, Restarts, task_service, service}
+use Rattle.run_said.specs.run_model.Steps.{Choice, TaskEffect, TaskAllowed, ServiceAllowed, service_effect, task_effect}
+use Rattle.run_said.specs.run_model.Statements.{Part, PartEffect, Begins, Phases, Step, Allowed, part_effect, put_into, stops_at, RoseAt, message_at, phases_of, refused_at_once, begun_with}
+use Rattle.run_said.specs.run_model.Transcript.{Entry, Legal, Turn as LineTurn, AreOpening}
+use Rattle.run_said.specs.run_model.StepLaws.{IsTask, TaskAt, is_refusal, task_of}
+use Rattle.run_said.proofs.run_model.NodeLists.{found_name, some_is}
+use Rattle.run_said.proofs.run_model.CauseLemmas.{is_success, refuses_first, refuses_then, task_succeeds}
+use Rattle.run_said.proofs.run_model.TaskLemmas.{Outcome, First, Late, Success, Lacking, Failing, outcome}
+use Rattle.run_said.proofs.run_model.PartLemmas.{turn, phases_fold}
+use Rattle.run_said.proofs.run_model.PartTasks.{View, Doing, Fixed, view, IsOk, sweep_ok, task_there}
+use Rattle.run_said.proofs.run_model.Failing.{once_refuses}
 use Rattle.run_said.specs.Said.{Said, SaidNode, with_said, lines_said, line_said, request_said, answer_said, said_here, said_of, with_use}
 use Rattle.run_said.proofs.Views.{node_told, shared_told, told_in, told_put, told_same, is_neutral, neutral_line, said_append, used_then}
 use Rattle.run_laws.proofs.RowsTell.{request_tells, task_tells}

@@ -6,10 +6,10 @@ use Rattle.vms_model.specs.Transactions.{Outcome, Commit, Abort, Reason}
 use Rattle.commit_protocol.specs.Messages.{LogRecord}
 use Rattle.commit_protocol.specs.Table.{Key as BranchKey}
 use Rattle.commit_protocol.specs.World.{In}
-use Rattle.log_laws.specs.Slots.{prepared_of, records_in}
-use Rattle.run_model.specs.World.{World, Node, Act, Settlement, acted, find_node, settlement}
-use Rattle.run_model.specs.Transcript.{Entry, Legal}
-use Rattle.run_model.proofs.NodeLists.{found_name, some_is}
+use Rattle.run_said.specs.log_laws.Slots.{prepared_of, records_in}
+use Rattle.run_said.specs.run_model.World.{World, Node, Act, Settlement, acted, find_node, settlement}
+use Rattle.run_said.specs.run_model.Transcript.{Entry, Legal}
+use Rattle.run_said.proofs.run_model.NodeLists.{found_name, some_is}
 use Rattle.run_laws.specs.Promises.{IsNeverCommitted, settlements_of}
 use Rattle.run_laws.proofs.Falling.{NoRecord, RecordsOf, aborting}
 use Rattle.run_laws.proofs.Keeping.{Kept}
@@ -28,8 +28,8 @@ module _ (x : Id) (K : Id → Type 0) (C : Settlement → Type 0) (settles : (s 
   known_on w v es legal h = path_on (one x K K C) (one_keeps x K K C (λ t p. p) settles) x.node tt (λ ls. refl) (λ n. tt) all w v es legal h
     where
       all : (o : Option Act) → (one x K K C).Takes o
-      all (Some (Rattle.run_model.specs.World.Tables (Rattle.commit_protocol.specs.Table.Prepares b) moment)) = λ e h. h
-      all (Some (Rattle.run_model.specs.World.Tables _ moment)) = tt
+      all (Some (Rattle.run_said.specs.run_model.World.Tables (Rattle.commit_protocol.specs.Table.Prepares b) moment)) = λ e h. h
+      all (Some (Rattle.run_said.specs.run_model.World.Tables _ moment)) = tt
       all (Some _) = tt
       all None = tt
 

@@ -1,23 +1,23 @@
 -- A settling is refused for the volume of a node only where the last INIT of that node was said to have failed.
 use Rattle.std.proofs.Common.{◌≡◌, ℕ, ◌⊎◌, List, [], ◌∷◌, ◌++◌, map, inl, inr, Bool, true, false, not, ◌||◌, Option, Some, None, if◌then◌else◌, refl, sym, ◌∙◌, ap, subst}
 use Rattle.std.specs.Str.{bytes_eq}
-use Rattle.transcript_model.specs.Lines as line
-use Rattle.transcript_model.specs.Lines.{Line, Cause}
-use Rattle.script_model.specs.Statements.{Settle}
-use Rattle.run_model.specs.World.{World, Shared, Node, DiskCounts, find_node}
-use Rattle.run_model.specs.Operations.{first_of, refused_if}
-use Rattle.run_model.specs.Answers.{Task, Serves, Ticks, Takes, Hears, LosesLink, RunsDown, Restarts, refused_before_reading, service, task_service}
-use Rattle.run_model.specs.Steps.{Choice, TaskEffect, ready_node, refused, task_effect}
+use Rattle.run_said.specs.transcript_model.Lines as line
+use Rattle.run_said.specs.transcript_model.Lines.{Line, Cause}
+use Rattle.run_said.specs.script_model.Statements.{Settle}
+use Rattle.run_said.specs.run_model.World.{World, Shared, Node, DiskCounts, find_node}
+use Rattle.run_said.specs.run_model.Operations.{first_of, refused_if}
+use Rattle.run_said.specs.run_model.Answers.{Task, Serves, Ticks, Takes, Hears, LosesLink, RunsDown, Restarts, refused_before_reading, service, task_service}
+use Rattle.run_said.specs.run_model.Steps.{Choice, TaskEffect, ready_node, refused, task_effect}
 use Rattle.commit_protocol.specs.Table.{coordinator_of}
-use Rattle.run_model.specs.Statements.{Part, Does, Asks, PartEffect, Phase, Question, Heard, Unanswered, Doubtful, Allowed, AllowedAt, AllowedOf, Step, done_at, no_node, question, question_effect, part_effect, stops_at, RoseAt, phases_of, begun_with}
-use Rattle.run_model.proofs.CauseLemmas as cause
-use Rattle.run_model.proofs.CauseLemmas.{is_success, task_succeeds}
-use Rattle.run_model.proofs.NodeLists.{found_name}
-use Rattle.run_model.proofs.PartLemmas.{EachPart, EachPhase, Way, Done, Missing, Idle, Doubted, allowed_here, done_here, phases_fold, way}
-use Rattle.run_model.proofs.PartTasks.{IsOk, sweep_ok}
-use Rattle.run_model.proofs.Refusing.{same_last}
-use Rattle.run_model.proofs.TaskLemmas as tasks
-use Rattle.run_model.proofs.TaskLemmas.{First, Late, Success, Lacking, Failing, outcome}
+use Rattle.run_said.specs.run_model.Statements.{Part, Does, Asks, PartEffect, Phase, Question, Heard, Unanswered, Doubtful, Allowed, AllowedAt, AllowedOf, Step, done_at, no_node, question, question_effect, part_effect, stops_at, RoseAt, phases_of, begun_with}
+use Rattle.run_said.proofs.run_model.CauseLemmas as cause
+use Rattle.run_said.proofs.run_model.CauseLemmas.{is_success, task_succeeds}
+use Rattle.run_said.proofs.run_model.NodeLists.{found_name}
+use Rattle.run_said.proofs.run_model.PartLemmas.{EachPart, EachPhase, Way, Done, Missing, Idle, Doubted, allowed_here, done_here, phases_fold, way}
+use Rattle.run_said.proofs.run_model.PartTasks.{IsOk, sweep_ok}
+use Rattle.run_said.proofs.run_model.Refusing.{same_last}
+use Rattle.run_said.proofs.run_model.TaskLemmas as tasks
+use Rattle.run_said.proofs.run_model.TaskLemmas.{First, Late, Success, Lacking, Failing, outcome}
 use Rattle.run_said.specs.Said.{Said, SaidNode, line_said, lines_said, node_in, with_said}
 use Rattle.run_laws.specs.Laws.{UnmadeAreSaid}
 use Rattle.run_laws.proofs.Ending.{standing}

@@ -3,21 +3,21 @@ use Rattle.std.proofs.Common.{◌≡◌, ◌≤◌, ℕ, zero, suc, ◌⊎◌, L
 use Rattle.std.proofs.lemmas.List.{append_assoc}
 use Rattle.vms_model.specs.Ids.{Id}
 use Rattle.vms_model.specs.Transactions.{Outcome, Commit, Abort, Reason, Aborted, SegFail}
-use Rattle.transcript_model.specs.Lines as line
-use Rattle.transcript_model.specs.Lines.{Line, Cause}
-use Rattle.script_model.specs.Statements.{Init, Boot}
+use Rattle.run_said.specs.transcript_model.Lines as line
+use Rattle.run_said.specs.transcript_model.Lines.{Line, Cause}
+use Rattle.run_said.specs.script_model.Statements.{Init, Boot}
 use Rattle.commit_protocol.specs.Table.{Key as BranchKey, Settles, Undoes, child}
 use Rattle.commit_protocol.specs.World.{In}
 use Rattle.commit_protocol.proofs.Lists.{in_left, in_right}
-use Rattle.run_model.specs.World as world
-use Rattle.run_model.specs.World.{Shared, Node, Act, Directs, Settlement, Tables, Outturn, Lost, Taken, Half, acted, fallen, next_id, next_moment, powered, unpowered}
-use Rattle.run_model.specs.Answers.{Row, Service, Task, Serves, Restarts, powers, refused_before_reading, settled_line, spoils, task_service}
-use Rattle.run_model.specs.Steps.{Choice, Cut, Unpowered, Whole, WithoutMemory, act_begun, begun, lines_of_rows, node_after, node_after_rows, ready_node, rows_to_cut, task_effect, whole, with_unknown_volume}
+use Rattle.run_said.specs.run_model.World as world
+use Rattle.run_said.specs.run_model.World.{Shared, Node, Act, Directs, Settlement, Tables, Outturn, Lost, Taken, Half, acted, fallen, next_id, next_moment, powered, unpowered}
+use Rattle.run_said.specs.run_model.Answers.{Row, Service, Task, Serves, Restarts, powers, refused_before_reading, settled_line, spoils, task_service}
+use Rattle.run_said.specs.run_model.Steps.{Choice, Cut, Unpowered, Whole, WithoutMemory, act_begun, begun, lines_of_rows, node_after, node_after_rows, ready_node, rows_to_cut, task_effect, whole, with_unknown_volume}
 use Rattle.run_laws.specs.Promises.{abort, commitment, shown_in}
 use Rattle.run_laws.proofs.EachRow.{EachRow, cut_each, is_quiet, take_each, task_each}
 use Rattle.run_laws.proofs.EffectsTell.{after_under, rows_under}
 use Rattle.run_laws.proofs.Keeping.{acted_settled, begun_act, settled_by}
-use Rattle.world_laws.proofs.FindLemmas.{some_is}
+use Rattle.recovery_laws.proofs.world_laws.FindLemmas.{some_is}
 
 -- the settlement that an act makes
 abbrev pub settles_so : Act → Option Settlement

@@ -6,11 +6,11 @@ use Rattle.std.specs.Option.{option_map}
 use Rattle.std.specs.Str.{bytes_eq}
 use Rattle.vms_model.specs.Ids.{Id}
 use Rattle.vms_model.specs.Transactions.{Abort, Vetoed}
-use Rattle.transcript_model.specs.Lines as line
-use Rattle.transcript_model.specs.Lines.{Line, Cause}
-use Rattle.script_model.specs.Statements.{At, AckEvent, Named as SaidName, Reading, Says}
-use Rattle.script_model.specs.Grammar.{reading}
-use Rattle.records_model.specs.History.{same_id}
+use Rattle.run_said.specs.transcript_model.Lines as line
+use Rattle.run_said.specs.transcript_model.Lines.{Line, Cause}
+use Rattle.run_said.specs.script_model.Statements.{At, AckEvent, Named as SaidName, Reading, Says}
+use Rattle.run_said.specs.script_model.Grammar.{reading}
+use Rattle.unit_laws.specs.records_model.History.{same_id}
 use Rattle.commit_protocol.specs.Messages.{LogRecord, Name, RmEvent, VetoReply, same_name}
 use Rattle.commit_protocol.specs.Table as table
 use Rattle.commit_protocol.specs.Table.{Branch, Manager, Settles, branches_of, is_first, managers_of, table_after}
@@ -19,13 +19,13 @@ use Rattle.commit_protocol.specs.Rows.{row, reply_row, reply_state}
 use Rattle.commit_protocol.specs.Allowed.{answers_waiting, is_prepared, may_reply}
 use Rattle.commit_protocol.specs.World.{In}
 use Rattle.commit_protocol.proofs.Lists.{find_serial-serial, in_left}
-use Rattle.run_model.specs.World as world
-use Rattle.run_model.specs.World.{Act, DiskCounts, IsOpening, Node, Shared, Tables, World, acted, find_branch, find_node, find_record, opened, prepared_left, tm_of, with_changed}
-use Rattle.run_model.specs.Answers as answers
-use Rattle.run_model.specs.Answers.{Known, Recorded, Row, Task, Unheard, Unsettled, just, known_branch, known_serial, powers, serial_named, table_rows, task_service, told_if}
-use Rattle.run_model.specs.Steps.{Choice, TaskAllowed, lines_of_rows, node_after, task_effect}
-use Rattle.run_model.specs.Transcript.{AreOpening, Entry, Legal}
-use Rattle.world_laws.proofs.WorldLemmas.{each_opening}
+use Rattle.run_said.specs.run_model.World as world
+use Rattle.run_said.specs.run_model.World.{Act, DiskCounts, IsOpening, Node, Shared, Tables, World, acted, find_branch, find_node, find_record, opened, prepared_left, tm_of, with_changed}
+use Rattle.run_said.specs.run_model.Answers as answers
+use Rattle.run_said.specs.run_model.Answers.{Known, Recorded, Row, Task, Unheard, Unsettled, just, known_branch, known_serial, powers, serial_named, table_rows, task_service, told_if}
+use Rattle.run_said.specs.run_model.Steps.{Choice, TaskAllowed, lines_of_rows, node_after, task_effect}
+use Rattle.run_said.specs.run_model.Transcript.{AreOpening, Entry, Legal}
+use Rattle.recovery_laws.proofs.world_laws.WorldLemmas.{each_opening}
 use Rattle.run_laws.specs.Causes.{Names}
 use Rattle.run_laws.specs.Promises.{abort, settlements_of}
 use Rattle.run_laws.specs.Vetoing.{VetoesEverywhere, VetoesHold}

@@ -1,26 +1,26 @@
 -- The votes that a task shows are of branches of its node.
 use Rattle.std.proofs.Common.{◌≡◌, ℕ, List, [], ◌∷◌, ◌++◌, inl, inr, map, Bool, true, false, Option, Some, None, refl, sym, ◌∙◌, ap, subst}
 use Rattle.vms_model.specs.Ids.{Id}
-use Rattle.transcript_model.specs.Lines as line
-use Rattle.script_model.specs.Statements.{Statement}
-use Rattle.transcript_model.specs.Lines.{Line, Cause}
+use Rattle.run_said.specs.transcript_model.Lines as line
+use Rattle.run_said.specs.script_model.Statements.{Statement}
+use Rattle.run_said.specs.transcript_model.Lines.{Line, Cause}
 use Rattle.commit_protocol.specs.Messages.{LogRecord}
 use Rattle.commit_protocol.specs.Table as table
 use Rattle.commit_protocol.specs.Table.{Branch, Key as BranchKey, record_serials, branch_serials, prepared_records}
 use Rattle.commit_protocol.specs.World.{In}
 use Rattle.commit_protocol.proofs.Lists.{find-key, in_left, in_parts, in_right}
 use Rattle.commit_protocol.proofs.Serials.{in_serial}
-use Rattle.log_laws.proofs.Reading.{prepared_is}
-use Rattle.log_laws.specs.Slots.{prepared_of, records_in}
-use Rattle.run_model.specs.World.{World, DiskCounts, find_node, Shared, Node, Act, ComesUp, Tables, acted, booted, prepared_left, prepared_serials}
-use Rattle.run_model.specs.Answers.{Row, Task, last_lines, prepared_line, prepared_lines, task_service}
-use Rattle.run_model.specs.Steps.{Choice, TaskAllowed, node_after, task_effect}
-use Rattle.run_model.proofs.TaskLemmas.{effect_name}
-use Rattle.world_laws.specs.Nodes.{IsUp}
-use Rattle.world_laws.proofs.BootLemmas.{branch_in}
-use Rattle.world_laws.proofs.NodeLemmas.{acted_name}
-use Rattle.world_laws.proofs.TableLemmas.{found_in, in_serials}
-use Rattle.world_laws.proofs.UpLemmas.{branch_drawn}
+use Rattle.run_said.proofs.log_laws.Reading.{prepared_is}
+use Rattle.run_said.specs.log_laws.Slots.{prepared_of, records_in}
+use Rattle.run_said.specs.run_model.World.{World, DiskCounts, find_node, Shared, Node, Act, ComesUp, Tables, acted, booted, prepared_left, prepared_serials}
+use Rattle.run_said.specs.run_model.Answers.{Row, Task, last_lines, prepared_line, prepared_lines, task_service}
+use Rattle.run_said.specs.run_model.Steps.{Choice, TaskAllowed, node_after, task_effect}
+use Rattle.run_said.proofs.run_model.TaskLemmas.{effect_name}
+use Rattle.recovery_laws.specs.world_laws.Nodes.{IsUp}
+use Rattle.recovery_laws.proofs.world_laws.BootLemmas.{branch_in}
+use Rattle.recovery_laws.proofs.world_laws.NodeLemmas.{acted_name}
+use Rattle.recovery_laws.proofs.world_laws.TableLemmas.{found_in, in_serials}
+use Rattle.recovery_laws.proofs.world_laws.UpLemmas.{branch_drawn}
 use Rattle.run_laws.proofs.EachRow.{AreVoteless, VotesSo, is_voteless}
 use Rattle.run_laws.proofs.Keeping.{Keeps, Kept, Scheme, all_take, any_effect}
 use Rattle.run_laws.proofs.OneBranch.{in_order}
@@ -28,11 +28,11 @@ use Rattle.run_laws.proofs.RowFits.{Fits, RowFits, lasts_voteless}
 use Rattle.run_laws.proofs.ShownSettled.{answer_voteless}
 use Rattle.run_laws.proofs.SoundWorlds.{IsSound, IsSoundNode, begins_sound, part_sound, sound_node, unused}
 use Rattle.run_laws.proofs.Staying.{find_put}
-use Rattle.run_model.specs.Statements.{Part, PartEffect, Begins, Phases, Step, Allowed, RoseAt, begun_with, part_effect, phases_of, refused_at_once, stops_at}
-use Rattle.run_model.proofs.NodeLists.{found_name}
-use Rattle.run_model.proofs.PartLemmas.{phases_fold}
-use Rattle.run_model.proofs.PartTasks.{View, Doing, Fixed, view}
-use Rattle.run_model.proofs.Refusing.{each_phase}
+use Rattle.run_said.specs.run_model.Statements.{Part, PartEffect, Begins, Phases, Step, Allowed, RoseAt, begun_with, part_effect, phases_of, refused_at_once, stops_at}
+use Rattle.run_said.proofs.run_model.NodeLists.{found_name}
+use Rattle.run_said.proofs.run_model.PartLemmas.{phases_fold}
+use Rattle.run_said.proofs.run_model.PartTasks.{View, Doing, Fixed, view}
+use Rattle.run_said.proofs.run_model.Refusing.{each_phase}
 
 -- the branch whose vote a line shows
 abbrev pub voter_in : Line → Option Id

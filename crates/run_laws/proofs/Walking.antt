@@ -1,12 +1,12 @@
 -- A statement as the parts that it goes through, up to the one with which it ends; and where among them a line is shown.
 use Rattle.std.proofs.Common.{◌≡◌, List, [], ◌∷◌, ◌++◌, inl, inr, refl, sym, ◌∙◌, ap, subst, append-nil}
 use Rattle.std.proofs.lemmas.List.{append_assoc}
-use Rattle.transcript_model.specs.Lines.{Line}
+use Rattle.run_said.specs.transcript_model.Lines.{Line}
 use Rattle.commit_protocol.specs.World.{In}
-use Rattle.run_model.specs.World.{World, DiskCounts}
-use Rattle.run_model.specs.Steps.{Choice}
-use Rattle.run_model.specs.Statements.{Part, Phase, Phases, Allowed, part_effect}
-use Rattle.run_model.proofs.PartLemmas.{EachPhase, phases_fold}
+use Rattle.run_said.specs.run_model.World.{World, DiskCounts}
+use Rattle.run_said.specs.run_model.Steps.{Choice}
+use Rattle.run_said.specs.run_model.Statements.{Part, Phase, Phases, Allowed, part_effect}
+use Rattle.run_said.proofs.run_model.PartLemmas.{EachPhase, phases_fold}
 use Rattle.run_laws.proofs.ShownSettled.{in_append}
 
 module _ (Ok : Part → Type 0) (disks : List DiskCounts) where

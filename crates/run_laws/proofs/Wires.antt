@@ -3,15 +3,15 @@ use Rattle.std.proofs.Common.{◌≡◌, ℕ, ◌+◌, zero, suc, ◌⊎◌, Lis
 use Rattle.std.specs.Prelude.{◌==◌, length, slice_get}
 use Rattle.std.specs.List.{last_or}
 use Rattle.std.proofs.lemmas.Bool.{eqb-true}
-use Rattle.transcript_model.specs.Lines as line
-use Rattle.transcript_model.specs.Lines.{Line}
-use Rattle.script_model.specs.Statements.{Statement, At, Deliver, LinkDown, Settle, Request, Init, Boot, StartTrans, AddBranch, Reading, Blank, Says, Bad}
-use Rattle.script_model.specs.Grammar.{reading}
+use Rattle.run_said.specs.transcript_model.Lines as line
+use Rattle.run_said.specs.transcript_model.Lines.{Line}
+use Rattle.run_said.specs.script_model.Statements.{Statement, At, Deliver, LinkDown, Settle, Request, Init, Boot, StartTrans, AddBranch, Reading, Blank, Says, Bad}
+use Rattle.run_said.specs.script_model.Grammar.{reading}
 use Rattle.commit_protocol.specs.Messages.{Message}
 use Rattle.commit_protocol.specs.World.{In}
-use Rattle.run_model.specs.World.{World, Node, DiskCounts, opened}
-use Rattle.run_model.specs.Statements.{message_at}
-use Rattle.run_model.specs.Transcript.{Entry, Legal, AreOpening}
+use Rattle.run_said.specs.run_model.World.{World, Node, DiskCounts, opened}
+use Rattle.run_said.specs.run_model.Statements.{message_at}
+use Rattle.run_said.specs.run_model.Transcript.{Entry, Legal, AreOpening}
 use Rattle.run_said.specs.Said.{Said, answer_said, line_said, lines_said, request_said, said_here, said_of, with_sent}
 use Rattle.run_laws.specs.Causes.{WasSent}
 use Rattle.run_laws.proofs.TurnsTell.{legal_told}

@@ -7,17 +7,17 @@ use Rattle.std.specs.Str.{bytes_eq}
 use Rattle.std.specs.FinMap.{empty}
 use Rattle.vms_model.specs.Ids.{Id}
 use Rattle.vms_model.specs.Keys.{Key, Number, Text}
-use Rattle.transcript_model.specs.Lines as line
-use Rattle.transcript_model.specs.Lines.{Line}
-use Rattle.script_model.specs.Statements.{At, Reading, Says, Init, Create, Records, Direct, Recover, Recovery, Operation, Put, Update, Delete, Truncate}
-use Rattle.script_model.specs.Grammar.{reading}
-use Rattle.records_model.specs.Records as base
-use Rattle.records_model.specs.Records.{set_key}
-use Rattle.records_model.specs.History.{LiveChanges, same_id, records}
-use Rattle.run_model.specs.World.{World, File, Organization, Indexed, find_node, find_file, next_id}
-use Rattle.run_model.specs.Operations.{in_order, key_within, changes_of}
-use Rattle.run_model.specs.Answers.{records_recovered}
-use Rattle.run_model.specs.Transcript.{Entry, Turn}
+use Rattle.run_said.specs.transcript_model.Lines as line
+use Rattle.run_said.specs.transcript_model.Lines.{Line}
+use Rattle.run_said.specs.script_model.Statements.{At, Reading, Says, Init, Create, Records, Direct, Recover, Recovery, Operation, Put, Update, Delete, Truncate}
+use Rattle.run_said.specs.script_model.Grammar.{reading}
+use Rattle.unit_laws.specs.records_model.Records as base
+use Rattle.unit_laws.specs.records_model.Records.{set_key}
+use Rattle.unit_laws.specs.records_model.History.{LiveChanges, same_id, records}
+use Rattle.run_said.specs.run_model.World.{World, File, Organization, Indexed, find_node, find_file, next_id}
+use Rattle.run_said.specs.run_model.Operations.{in_order, key_within, changes_of}
+use Rattle.run_said.specs.run_model.Answers.{records_recovered}
+use Rattle.run_said.specs.run_model.Transcript.{Entry, Turn}
 use Rattle.run_laws.specs.Naming.{find_told, labels_told}
 
 -- What a label names.

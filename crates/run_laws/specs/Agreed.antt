@@ -2,14 +2,14 @@
 use Rattle.std.specs.Prelude.{◌≡◌, ◌⊎◌, ℕ, List, [], ◌∷◌, ◌++◌, None}
 use Rattle.vms_model.specs.Ids.{Id}
 use Rattle.vms_model.specs.Transactions.{Commit as ToCommit, Abort as ToAbort}
-use Rattle.transcript_model.specs.Lines.{Line, Ended, Normal}
-use Rattle.script_model.specs.Statements.{At, EndTrans, Reading, Settle}
+use Rattle.run_said.specs.transcript_model.Lines.{Line, Ended, Normal}
+use Rattle.run_said.specs.script_model.Statements.{At, EndTrans, Reading, Settle}
 use Rattle.commit_protocol.specs.Table.{Key, first}
 use Rattle.commit_protocol.specs.World.{In}
 use Rattle.commit_protocol.specs.Opening.{IsAgreeing}
-use Rattle.run_model.specs.World.{World}
-use Rattle.run_model.specs.Statements.{Step}
-use Rattle.run_model.specs.Transcript.{Entry, Legal}
+use Rattle.run_said.specs.run_model.World.{World}
+use Rattle.run_said.specs.run_model.Statements.{Step}
+use Rattle.run_said.specs.run_model.Transcript.{Entry, Legal}
 use Rattle.run_agreement.specs.Seen.{Resolution}
 use Rattle.run_agreement.specs.Laws.{EndsFor, HasOutcome, IsAtRest, IsBranch, IsCommitted, IsRun, next_opening}
 use Rattle.run_laws.specs.Causes.{WasBegun, WasEnded}

@@ -1,11 +1,11 @@
 -- Volumes that are made before anything boots their nodes, whatever was on their disks.
 use Rattle.std.specs.Prelude.{◌≡◌, ◌⊎◌, ℕ, List, [], ◌∷◌, ◌++◌, Some, None}
 use Rattle.std.specs.List.{AllByRecursion, last_or}
-use Rattle.transcript_model.specs.Lines.{Normal}
-use Rattle.script_model.specs.Statements.{At, Boot, Init, Says, Settle, Statement}
-use Rattle.script_model.specs.Grammar.{reading}
-use Rattle.run_model.specs.World.{DiskCounts, Node, World, opened}
-use Rattle.run_model.specs.Transcript.{AreOpening, Entry, Legal}
+use Rattle.run_said.specs.transcript_model.Lines.{Normal}
+use Rattle.run_said.specs.script_model.Statements.{At, Boot, Init, Says, Settle, Statement}
+use Rattle.run_said.specs.script_model.Grammar.{reading}
+use Rattle.run_said.specs.run_model.World.{DiskCounts, Node, World, opened}
+use Rattle.run_said.specs.run_model.Transcript.{AreOpening, Entry, Legal}
 use Rattle.run_agreement.specs.Laws.{NamesApart, image_told, volume_image}
 use Rattle.run_agreement.specs.Seen.{IsKnown}
 use Rattle.run_laws.specs.Promises.{IsLastApart}

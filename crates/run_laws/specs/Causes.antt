@@ -4,15 +4,15 @@ use Rattle.std.specs.List.{last_or}
 use Rattle.std.specs.Str.{bytes_eq}
 use Rattle.vms_model.specs.Ids.{Id}
 use Rattle.vms_model.specs.Transactions.{Outcome, Commit, Abort, Reason, Aborted, Vetoed, SyncFail, Timeout, CommFail, SegFail}
-use Rattle.transcript_model.specs.Lines as line
-use Rattle.transcript_model.specs.Lines.{Line}
-use Rattle.script_model.specs.Statements.{Statement, At, Deliver, LinkDown, Settle, Reading, Says, AddBranch, Boot, Clock, StartTrans, StartBranch, Direct, EndTrans, AbortTrans, AckEvent, Named, ByLabel, BySerial, Operation}
-use Rattle.script_model.specs.Grammar.{reading}
+use Rattle.run_said.specs.transcript_model.Lines as line
+use Rattle.run_said.specs.transcript_model.Lines.{Line}
+use Rattle.run_said.specs.script_model.Statements.{Statement, At, Deliver, LinkDown, Settle, Reading, Says, AddBranch, Boot, Clock, StartTrans, StartBranch, Direct, EndTrans, AbortTrans, AckEvent, Named, ByLabel, BySerial, Operation}
+use Rattle.run_said.specs.script_model.Grammar.{reading}
 use Rattle.commit_protocol.specs.Messages as message
 use Rattle.commit_protocol.specs.Messages.{Message, Reply, VetoReply}
 use Rattle.commit_protocol.specs.Rows.{is_veto}
 use Rattle.commit_protocol.specs.World.{In}
-use Rattle.run_model.specs.Transcript.{Entry}
+use Rattle.run_said.specs.run_model.Transcript.{Entry}
 use Rattle.run_laws.specs.Naming.{ToldLabel, IsNamed, find_told, labels_told}
 use Rattle.run_laws.specs.SaidLaws.{SaidThere}
 

@@ -3,15 +3,15 @@ use Rattle.std.specs.Prelude.{◌≡◌, ℕ, ◌⊎◌, List, [], ◌∷◌, �
 use Rattle.std.specs.Option.{option_map}
 use Rattle.vms_model.specs.Ids.{Id}
 use Rattle.vms_model.specs.Transactions.{Reason}
-use Rattle.transcript_model.specs.Lines.{Line, Cause, Aborted, Down, NotInitializedAt}
-use Rattle.script_model.specs.Statements.{Statement, Settle, Reading}
+use Rattle.run_said.specs.transcript_model.Lines.{Line, Cause, Aborted, Down, NotInitializedAt}
+use Rattle.run_said.specs.script_model.Statements.{Statement, Settle, Reading}
 use Rattle.commit_protocol.specs.World.{In}
 use Rattle.unit_laws.specs.Journal.{RecoveryUnit, find_unit, units_in}
-use Rattle.log_laws.specs.Slots.{records_in}
-use Rattle.run_model.specs.World.{World, Node, DiskCounts, IsOpening, Settlement, find_node, opened}
-use Rattle.run_model.specs.Answers.{last_line}
-use Rattle.run_model.specs.Statements.{Step, RoseAt}
-use Rattle.run_model.specs.Transcript.{Entry, Legal, AreOpening, InAllRuns}
+use Rattle.run_said.specs.log_laws.Slots.{records_in}
+use Rattle.run_said.specs.run_model.World.{World, Node, DiskCounts, IsOpening, Settlement, find_node, opened}
+use Rattle.run_said.specs.run_model.Answers.{last_line}
+use Rattle.run_said.specs.run_model.Statements.{Step, RoseAt}
+use Rattle.run_said.specs.run_model.Transcript.{Entry, Legal, AreOpening, InAllRuns}
 use Rattle.commit_protocol.specs.Opening.{IsAgreeing}
 use Rattle.run_agreement.specs.Seen.{IsKnown}
 use Rattle.run_agreement.specs.Following.{opening_of}

@@ -9,3 +9,5 @@ pub mod Owing
 pub mod Vetoing
 pub mod Anew
 pub mod Laws
+pub use Rattle.run_agreement.specs as run_agreement
+pub use Rattle.run_said.specs as run_said

@@ -3,12 +3,12 @@ use Rattle.std.specs.Prelude.{◌≡◌, ℕ, List, [], ◌∷◌, ◌++◌, Opt
 use Rattle.std.specs.List.{last_or}
 use Rattle.std.specs.Str.{bytes_eq}
 use Rattle.vms_model.specs.Ids.{Id}
-use Rattle.transcript_model.specs.Lines as line
-use Rattle.transcript_model.specs.Lines.{Line}
-use Rattle.script_model.specs.Statements.{At, StartTrans, AddBranch, StartBranch, Direct, Reading, Says}
-use Rattle.script_model.specs.Grammar.{reading}
+use Rattle.run_said.specs.transcript_model.Lines as line
+use Rattle.run_said.specs.transcript_model.Lines.{Line}
+use Rattle.run_said.specs.script_model.Statements.{At, StartTrans, AddBranch, StartBranch, Direct, Reading, Says}
+use Rattle.run_said.specs.script_model.Grammar.{reading}
 use Rattle.commit_protocol.specs.World.{In}
-use Rattle.run_model.specs.Transcript.{Entry}
+use Rattle.run_said.specs.run_model.Transcript.{Entry}
 
 -- Labels.
 

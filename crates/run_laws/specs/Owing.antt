@@ -1,15 +1,15 @@
 -- What a resource manager is owed: a committed record of its branch stands in the log of its node until it forgets, and tells it of the commitment at each DECLARE_RM.
 use Rattle.std.specs.Prelude.{◌≡◌, ◌⊎◌, ℕ, List, [], ◌∷◌, Some}
 use Rattle.vms_model.specs.Ids.{Id}
-use Rattle.transcript_model.specs.Lines as line
-use Rattle.transcript_model.specs.Lines.{Line}
-use Rattle.script_model.specs.Statements.{At, Reading, Says, AckEvent, DeclareRm, Init, Named}
-use Rattle.script_model.specs.Grammar.{reading}
+use Rattle.run_said.specs.transcript_model.Lines as line
+use Rattle.run_said.specs.transcript_model.Lines.{Line}
+use Rattle.run_said.specs.script_model.Statements.{At, Reading, Says, AckEvent, DeclareRm, Init, Named}
+use Rattle.run_said.specs.script_model.Grammar.{reading}
 use Rattle.commit_protocol.specs.Messages.{LogRecord, Name, CommitEvent, ForgetReply}
 use Rattle.commit_protocol.specs.World.{In}
-use Rattle.log_laws.specs.Slots.{committed_of, records_in}
-use Rattle.run_model.specs.World.{Act, DiskCounts, Durable, Node, World, acted, find_node, opened}
-use Rattle.run_model.specs.Transcript.{AreOpening, Entry, InAllRuns, Legal}
+use Rattle.run_said.specs.log_laws.Slots.{committed_of, records_in}
+use Rattle.run_said.specs.run_model.World.{Act, DiskCounts, Durable, Node, World, acted, find_node, opened}
+use Rattle.run_said.specs.run_model.Transcript.{AreOpening, Entry, InAllRuns, Legal}
 use Rattle.run_laws.specs.SaidLaws.{SaidThere}
 
 -- a committed record of this branch stands in a log, and waits for this manager

@@ -6,12 +6,12 @@ use Rattle.std.specs.Str.{bytes_eq}
 use Rattle.std.specs.FinMap.{entries}
 use Rattle.vms_model.specs.Ids.{Id}
 use Rattle.vms_model.specs.Transactions.{Outcome, Commit, Abort, Reason, Aborted, Vetoed, SyncFail, Timeout, CommFail, SegFail}
-use Rattle.transcript_model.specs.Lines as line
-use Rattle.transcript_model.specs.Lines.{Line, Cause}
-use Rattle.script_model.specs.Statements.{Statement, At, Deliver, LinkDown, Settle, Reading, Says, Boot, Clock, Records, Direct, EndBranch, EndTrans, AbortTrans, AckEvent, Dump, Named, Operation}
-use Rattle.script_model.specs.Grammar.{reading}
-use Rattle.records_model.specs.Records as base
-use Rattle.records_model.specs.History.{same_id}
+use Rattle.run_said.specs.transcript_model.Lines as line
+use Rattle.run_said.specs.transcript_model.Lines.{Line, Cause}
+use Rattle.run_said.specs.script_model.Statements.{Statement, At, Deliver, LinkDown, Settle, Reading, Says, Boot, Clock, Records, Direct, EndBranch, EndTrans, AbortTrans, AckEvent, Dump, Named, Operation}
+use Rattle.run_said.specs.script_model.Grammar.{reading}
+use Rattle.unit_laws.specs.records_model.Records as base
+use Rattle.unit_laws.specs.records_model.History.{same_id}
 use Rattle.unit_laws.specs.Journal.{RecoveryUnit, find_unit, units_in}
 use Rattle.unit_laws.specs.JournalLaws.{is_unit}
 use Rattle.commit_protocol.specs.Messages as message
@@ -19,12 +19,12 @@ use Rattle.commit_protocol.specs.Messages.{LogRecord, Message, Reply, VetoReply}
 use Rattle.commit_protocol.specs.Rows.{is_veto}
 use Rattle.commit_protocol.specs.Table.{Key as BranchKey, Settles}
 use Rattle.commit_protocol.specs.World.{In}
-use Rattle.log_laws.specs.Slots.{prepared_of, records_in}
-use Rattle.run_model.specs.World.{World, Node, Settlement, Tables, find_node, prepared_left}
-use Rattle.run_model.specs.Operations.{is_change}
-use Rattle.run_model.specs.Answers.{last_lines}
-use Rattle.run_model.specs.Statements.{RoseAt, Step}
-use Rattle.run_model.specs.Transcript.{Entry, Legal, Turn}
+use Rattle.run_said.specs.log_laws.Slots.{prepared_of, records_in}
+use Rattle.run_said.specs.run_model.World.{World, Node, Settlement, Tables, find_node, prepared_left}
+use Rattle.run_said.specs.run_model.Operations.{is_change}
+use Rattle.run_said.specs.run_model.Answers.{last_lines}
+use Rattle.run_said.specs.run_model.Statements.{RoseAt, Step}
+use Rattle.run_said.specs.run_model.Transcript.{Entry, Legal, Turn}
 use Rattle.run_laws.specs.Accounts.{Account, HasAccount, MayHave, account_behind, broken_id, committed_in, is_up_in, made_anew}
 use Rattle.run_laws.specs.Naming.{IdsDiffer, IsNamed, ids_told}
 use Rattle.run_laws.specs.Causes.{AbortCause, CommitCause, DeliversTo, HasBegun, HasJoined, IsDirect, IsMissing, IsWhole, Replies, WasAsked, WasBegun, WasEnded, WasSent}

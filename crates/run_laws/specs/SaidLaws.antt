@@ -1,10 +1,10 @@
 -- What the lines of a run say of its refusals is so.
 use Rattle.std.specs.Prelude.{◌≡◌, List, [], ◌∷◌, ◌++◌, true, Some, map}
-use Rattle.transcript_model.specs.Lines.{Line}
-use Rattle.script_model.specs.Statements.{Statement, Says}
-use Rattle.script_model.specs.Grammar.{reading}
-use Rattle.run_model.specs.World.{World, Node, DiskCounts, opened}
-use Rattle.run_model.specs.Transcript.{Entry, Legal, AreOpening}
+use Rattle.run_said.specs.transcript_model.Lines.{Line}
+use Rattle.run_said.specs.script_model.Statements.{Statement, Says}
+use Rattle.run_said.specs.script_model.Grammar.{reading}
+use Rattle.run_said.specs.run_model.World.{World, Node, DiskCounts, opened}
+use Rattle.run_said.specs.run_model.Transcript.{Entry, Legal, AreOpening}
 use Rattle.run_said.specs.Said.{is_by_lines, refused_by_said, said_of}
 
 -- an entry of a transcript, between those after it and those before it, said this statement, and these lines were shown, the last of which is its answer

@@ -3,13 +3,13 @@ use Rattle.std.specs.Prelude.{◌≡◌, ◌⊎◌, ℕ, List, [], ◌∷◌, �
 use Rattle.std.specs.List.{AllByRecursion}
 use Rattle.vms_model.specs.Ids.{Id}
 use Rattle.vms_model.specs.Transactions.{Aborted, SyncFail}
-use Rattle.transcript_model.specs.Lines as line
-use Rattle.transcript_model.specs.Lines.{Line, Cause}
-use Rattle.script_model.specs.Statements.{At, Direct, EndTrans, AbortTrans, Operation}
+use Rattle.run_said.specs.transcript_model.Lines as line
+use Rattle.run_said.specs.transcript_model.Lines.{Line, Cause}
+use Rattle.run_said.specs.script_model.Statements.{At, Direct, EndTrans, AbortTrans, Operation}
 use Rattle.commit_protocol.specs.Messages as message
 use Rattle.commit_protocol.specs.Messages.{Message, RmEvent}
-use Rattle.run_model.specs.Operations.{is_change}
-use Rattle.run_model.specs.Transcript.{Entry}
+use Rattle.run_said.specs.run_model.Operations.{is_change}
+use Rattle.run_said.specs.run_model.Transcript.{Entry}
 use Rattle.run_laws.specs.Naming.{IsNamed}
 use Rattle.run_laws.specs.Causes.{HasJoined, WasBegun, WasEnded}
 use Rattle.run_laws.specs.SaidLaws.{SaidThere}

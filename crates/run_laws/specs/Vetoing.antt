@@ -2,14 +2,14 @@
 use Rattle.std.specs.Prelude.{◌≡◌, ℕ, List, Some}
 use Rattle.vms_model.specs.Ids.{Id}
 use Rattle.vms_model.specs.Transactions.{Abort, Commit as ToCommit, Vetoed}
-use Rattle.transcript_model.specs.Lines as line
-use Rattle.transcript_model.specs.Lines.{Line}
-use Rattle.script_model.specs.Statements.{At, AckEvent, Named}
+use Rattle.run_said.specs.transcript_model.Lines as line
+use Rattle.run_said.specs.transcript_model.Lines.{Line}
+use Rattle.run_said.specs.script_model.Statements.{At, AckEvent, Named}
 use Rattle.commit_protocol.specs.Messages.{Name, VetoReply}
 use Rattle.commit_protocol.specs.Table.{Key, child}
 use Rattle.commit_protocol.specs.World.{In}
-use Rattle.run_model.specs.World.{World}
-use Rattle.run_model.specs.Transcript.{Entry, InAllRuns}
+use Rattle.run_said.specs.run_model.World.{World}
+use Rattle.run_said.specs.run_model.Transcript.{Entry, InAllRuns}
 use Rattle.run_agreement.specs.Seen.{Resolution}
 use Rattle.run_agreement.specs.Laws.{HasOutcome, IsBranch, IsCommitted}
 use Rattle.run_laws.specs.Agreed.{AgreedRun}

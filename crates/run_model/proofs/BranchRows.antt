@@ -2,15 +2,15 @@
 use Rattle.std.proofs.Common.{false, ◌≡◌, refl, List, [], ◌∷◌, ◌++◌, Some, None, codes, ℕ, ap, ◌∙◌, true}
 use Rattle.std.specs.Prelude.{replicate}
 use Rattle.std.specs.FinMap.{empty, get-empty, get-insert}
-use Rattle.vms_model.specs.Ids.{Id}
-use Rattle.vms_model.specs.Keys.{Number}
-use Rattle.vms_model.specs.Transactions.{Commit}
-use Rattle.tree_model.specs.Layouts.{first_layout}
-use Rattle.records_model.proofs.KeyLemmas.{key_cmp_total}
-use Rattle.unit_laws.specs.Journal.{empty_journal}
-use Rattle.commit_protocol.specs.Messages.{same_name, same_id}
-use Rattle.commit_protocol.specs.Table.{Active, same_key}
-use Rattle.commit_protocol.specs.Rows.{blank}
+use Rattle.transcript_model.specs.vms_model.Ids.{Id}
+use Rattle.transcript_model.specs.vms_model.Keys.{Number}
+use Rattle.transcript_model.specs.vms_model.Transactions.{Commit}
+use Rattle.recovery_model.specs.tree_model.Layouts.{first_layout}
+use Rattle.recovery_model.proofs.records_model.KeyLemmas.{key_cmp_total}
+use Rattle.recovery_model.specs.unit_laws.Journal.{empty_journal}
+use Rattle.transcript_model.specs.commit_protocol.Messages.{same_name, same_id}
+use Rattle.transcript_model.specs.commit_protocol.Table.{Active, same_key}
+use Rattle.transcript_model.specs.commit_protocol.Rows.{blank}
 use Rattle.transcript_model.specs.Lines as line
 use Rattle.transcript_model.specs.Lines.{Line}
 use Rattle.script_model.specs.Statements.{StartTrans, Records, Direct, EndTrans, Put, Get, Next, Delete}

@@ -3,23 +3,23 @@ use Rattle.std.proofs.Common.{◌≡◌, ℕ, ◌==◌, List, [], ◌∷◌, Boo
 use Rattle.std.specs.Prelude.{nat_lt}
 use Rattle.std.specs.Option.{option_and_then}
 use Rattle.std.specs.List.{list_any}
-use Rattle.vms_model.specs.Ids.{Id}
-use Rattle.vms_model.specs.Keys.{Key, Number, Text}
-use Rattle.vms_model.specs.Transactions.{Commit, Abort}
-use Rattle.vms_model.specs.Limits.{boot_limit, moment_limit, position_limit}
+use Rattle.transcript_model.specs.vms_model.Ids.{Id}
+use Rattle.transcript_model.specs.vms_model.Keys.{Key, Number, Text}
+use Rattle.transcript_model.specs.vms_model.Transactions.{Commit, Abort}
+use Rattle.transcript_model.specs.vms_model.Limits.{boot_limit, moment_limit, position_limit}
 use Rattle.transcript_model.specs.Lines as line
 use Rattle.transcript_model.specs.Lines.{Line, Cause}
 use Rattle.script_model.specs.Statements.{Request, Init, Boot, Create, SetFile, StartTrans, AddBranch, StartBranch, Records, Direct, EndBranch, EndTrans, AbortTrans, Inquire, DeclareRm, JoinRm, AckEvent, ForgetRm, GetDti, Dump, DumpImages, Backup, Recover, Recovery, Side, Setting, RecoveryUnits, NoRecoveryUnits, Images, NoImages, Named, ByLabel, BySerial, Operation, Put, Update, Delete, Truncate, Get, Next}
-use Rattle.records_model.specs.Records.{Change, Records as TheRecords}
-use Rattle.records_model.specs.History.{first_to_change}
+use Rattle.recovery_model.specs.records_model.Records.{Change, Records as TheRecords}
+use Rattle.recovery_model.specs.records_model.History.{first_to_change}
 use Rattle.recovery_model.specs.Recovery.{Refusal, NoJournal, NoSave, InUse, TooEarly, PositionsMissing, MomentsMissing, refusal}
 use Rattle.recovery_model.specs.Room.{Full, AftersFull, BeforesFull, full_of}
-use Rattle.commit_protocol.specs.Messages.{Name, Reply}
-use Rattle.commit_protocol.specs.Table as table
-use Rattle.commit_protocol.specs.Table.{Branch, Notes, Settles}
-use Rattle.commit_protocol.specs.Rows.{row}
-use Rattle.commit_protocol.specs.Rows as rows
-use Rattle.commit_protocol.specs.Allowed.{is_working, may_end}
+use Rattle.transcript_model.specs.commit_protocol.Messages.{Name, Reply}
+use Rattle.transcript_model.specs.commit_protocol.Table as table
+use Rattle.transcript_model.specs.commit_protocol.Table.{Branch, Notes, Settles}
+use Rattle.transcript_model.specs.commit_protocol.Rows.{row}
+use Rattle.transcript_model.specs.commit_protocol.Rows as rows
+use Rattle.transcript_model.specs.commit_protocol.Allowed.{is_working, may_end}
 use Rattle.run_model.specs.World.{Shared, Node, File, Organization, Sequential, Relative, Indexed, Volume, Sound, Faulty, Barred, Unknown, NoRing, NoIndex, AllBoots, LateMoment, FarPosition, Label, find_file, find_label, labelled, next_id, serial_labelled, serials_of, state_of, tm_of}
 use Rattle.run_model.specs.Locks.{holder}
 use Rattle.run_model.specs.Operations.{first_of, refused_if, first_behind, in_order, record_in, current_records, count_of, key_refused, place_refused, delete_refused, truncate_refused, after_refused, form_refused, keys_asked, keys_found, put_refused, other_refused, update_refused, missing, at_end, data_refused, put_answer, found_answer, next_answer, operation_answer}

@@ -2,13 +2,13 @@
 use Rattle.std.proofs.Common.{false, ◌≡◌, refl, List, [], ◌∷◌, ◌++◌, Option, Some, None, codes, ℕ, ap, ◌∙◌, true, length}
 use Rattle.std.specs.Prelude.{replicate}
 use Rattle.std.specs.FinMap.{empty, get-empty}
-use Rattle.vms_model.specs.Keys.{Number}
-use Rattle.vms_model.specs.Transactions.{Commit}
-use Rattle.commit_protocol.specs.Messages.{same_name, same_id}
-use Rattle.commit_protocol.specs.Table.{same_key}
-use Rattle.records_model.specs.History.{SettledChanges}
-use Rattle.tree_model.specs.Layouts.{no_layout}
-use Rattle.unit_laws.specs.Journal.{empty_journal}
+use Rattle.transcript_model.specs.vms_model.Keys.{Number}
+use Rattle.transcript_model.specs.vms_model.Transactions.{Commit}
+use Rattle.transcript_model.specs.commit_protocol.Messages.{same_name, same_id}
+use Rattle.transcript_model.specs.commit_protocol.Table.{same_key}
+use Rattle.recovery_model.specs.records_model.History.{SettledChanges}
+use Rattle.recovery_model.specs.tree_model.Layouts.{no_layout}
+use Rattle.recovery_model.specs.unit_laws.Journal.{empty_journal}
 use Rattle.transcript_model.specs.Lines as line
 use Rattle.transcript_model.specs.Lines.{Line}
 use Rattle.script_model.specs.Statements as said

@@ -3,9 +3,9 @@ use Rattle.std.proofs.Common.{◌≡◌, refl, List, [], ◌∷◌, ℕ, ap, ari
 use Rattle.std.specs.FinMap.{empty, entries, insert, entries-insert, len-empty, len-entries}
 use Rattle.std.specs.FinMap.Entries.{put}
 use Rattle.std.specs.declared.cmp.Ordering.{Ordering}
-use Rattle.vms_model.specs.Keys.{Key}
-use Rattle.records_model.specs.Records.{key_cmp}
-use Rattle.records_model.proofs.KeyLemmas.{key_cmp_total}
+use Rattle.transcript_model.specs.vms_model.Keys.{Key}
+use Rattle.recovery_model.specs.records_model.Records.{key_cmp}
+use Rattle.recovery_model.proofs.records_model.KeyLemmas.{key_cmp_total}
 
 nothing : {A : Type 0} (xs : List A) → length xs ≡ 0 → xs ≡ []
 nothing [] e = refl

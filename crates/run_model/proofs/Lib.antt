@@ -14,3 +14,8 @@ pub mod DirectRow
 pub mod BranchRows
 pub mod PairRows
 pub mod ManagerRows
+pub mod commit_protocol
+pub mod log_laws
+pub mod records_model
+pub mod recovery_model
+pub mod unit_laws

@@ -2,10 +2,10 @@
 use Rattle.std.proofs.Common.{false, ◌≡◌, refl, List, [], ◌∷◌, ◌++◌, Some, None, codes, ap, ◌∙◌, true, Bool, if◌then◌else◌}
 use Rattle.std.specs.Prelude.{replicate}
 use Rattle.std.specs.FinMap.{get-empty}
-use Rattle.unit_laws.specs.Journal.{empty_journal}
-use Rattle.commit_protocol.specs.Messages.{same_name, same_id, PreparedReply, ForgetReply}
-use Rattle.commit_protocol.specs.Table.{Branch, Active, same_key}
-use Rattle.commit_protocol.specs.Rows.{blank}
+use Rattle.recovery_model.specs.unit_laws.Journal.{empty_journal}
+use Rattle.transcript_model.specs.commit_protocol.Messages.{same_name, same_id, PreparedReply, ForgetReply}
+use Rattle.transcript_model.specs.commit_protocol.Table.{Branch, Active, same_key}
+use Rattle.transcript_model.specs.commit_protocol.Rows.{blank}
 use Rattle.transcript_model.specs.Lines as line
 use Rattle.script_model.specs.Statements.{EndTrans, ForgetRm, GetDti, LmcpDump, ByLabel}
 use Rattle.run_model.specs.World.{World}

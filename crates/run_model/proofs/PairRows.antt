@@ -2,15 +2,15 @@
 use Rattle.std.proofs.Common.{false, ◌≡◌, refl, List, [], ◌∷◌, ◌++◌, Some, None, codes, ap, ◌∙◌, true, Bool, if◌then◌else◌}
 use Rattle.std.specs.Prelude.{replicate}
 use Rattle.std.specs.FinMap.{empty, get-empty, get-insert}
-use Rattle.vms_model.specs.Keys.{Number}
-use Rattle.records_model.proofs.KeyLemmas.{key_cmp_total}
-use Rattle.records_model.specs.History.{LiveChanges}
-use Rattle.unit_laws.specs.Journal.{empty_journal}
-use Rattle.commit_protocol.specs.Messages as message
-use Rattle.commit_protocol.specs.Messages.{Message, same_name, same_id}
-use Rattle.commit_protocol.specs.Table.{Branch, Child, Active, same_key}
-use Rattle.commit_protocol.specs.Rows.{blank}
-use Rattle.commit_protocol.specs.Table as table
+use Rattle.transcript_model.specs.vms_model.Keys.{Number}
+use Rattle.recovery_model.proofs.records_model.KeyLemmas.{key_cmp_total}
+use Rattle.recovery_model.specs.records_model.History.{LiveChanges}
+use Rattle.recovery_model.specs.unit_laws.Journal.{empty_journal}
+use Rattle.transcript_model.specs.commit_protocol.Messages as message
+use Rattle.transcript_model.specs.commit_protocol.Messages.{Message, same_name, same_id}
+use Rattle.transcript_model.specs.commit_protocol.Table.{Branch, Child, Active, same_key}
+use Rattle.transcript_model.specs.commit_protocol.Rows.{blank}
+use Rattle.transcript_model.specs.commit_protocol.Table as table
 use Rattle.transcript_model.specs.Lines as line
 use Rattle.transcript_model.specs.Lines.{Line}
 use Rattle.script_model.specs.Statements.{At, Deliver, LinkDown, Settle, Boot, Records, Inquire, ByLabel, Dump, Crash, Put}

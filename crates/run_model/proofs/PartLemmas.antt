@@ -4,9 +4,9 @@ use Rattle.std.specs.Option.{option_map}
 use Rattle.transcript_model.specs.Lines as line
 use Rattle.transcript_model.specs.Lines.{Line, Cause}
 use Rattle.script_model.specs.Statements.{Statement, At, Deliver, LinkDown, Settle, Request, Clock}
-use Rattle.commit_protocol.specs.Messages.{Message}
-use Rattle.commit_protocol.specs.Table.{Branch, Key as BranchKey, coordinator_of}
-use Rattle.vms_model.specs.Ids.{Id}
+use Rattle.transcript_model.specs.commit_protocol.Messages.{Message}
+use Rattle.transcript_model.specs.commit_protocol.Table.{Branch, Key as BranchKey, coordinator_of}
+use Rattle.transcript_model.specs.vms_model.Ids.{Id}
 use Rattle.run_model.specs.World.{World, Node, DiskCounts, find_node}
 use Rattle.run_model.specs.Answers.{Task, Takes, Hears}
 use Rattle.run_model.specs.Steps.{Choice, TaskAllowed, task_effect}

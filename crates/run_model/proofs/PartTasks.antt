@@ -1,14 +1,14 @@
 -- Parts as tasks, whatever is chosen.
 use Rattle.std.proofs.Common.{◌≡◌, ℕ, ◌⊎◌, List, [], ◌∷◌, ◌++◌, inl, inr, Bool, true, false, Option, Some, None, if◌then◌else◌, refl, sym, ◌∙◌, ap, subst}
 use Rattle.std.specs.Option.{option_map}
-use Rattle.vms_model.specs.Ids.{Id}
+use Rattle.transcript_model.specs.vms_model.Ids.{Id}
 use Rattle.transcript_model.specs.Lines as line
 use Rattle.transcript_model.specs.Lines.{Line, Cause}
 use Rattle.script_model.specs.Statements.{Statement, At, Deliver, LinkDown, Settle, Request, Clock}
-use Rattle.commit_protocol.specs.Messages.{Message}
-use Rattle.commit_protocol.specs.Table.{Branch, coordinator_of}
-use Rattle.commit_protocol.specs.Allowed.{is_prepared}
-use Rattle.commit_protocol.specs.World.{arranged}
+use Rattle.transcript_model.specs.commit_protocol.Messages.{Message}
+use Rattle.transcript_model.specs.commit_protocol.Table.{Branch, coordinator_of}
+use Rattle.transcript_model.specs.commit_protocol.Allowed.{is_prepared}
+use Rattle.transcript_model.specs.commit_protocol.World.{arranged}
 use Rattle.run_model.specs.World.{World, Node, DiskCounts, find_node}
 use Rattle.run_model.specs.Operations.{first_of}
 use Rattle.run_model.specs.Answers.{Task, Serves, Ticks, Takes, Hears, LosesLink, RunsDown, Restarts}

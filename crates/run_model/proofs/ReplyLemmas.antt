@@ -2,15 +2,15 @@
 use Rattle.std.proofs.Common.{◌≡◌, List, [], ◌∷◌, Bool, true, false, not, ◌&&◌, ◌||◌, Option, Some, None, if◌then◌else◌, refl, sym, ap, subst, inl, inr}
 use Rattle.std.specs.List.{list_any}
 use Rattle.std.proofs.lemmas.Bool.{and_from, both_ways}
-use Rattle.vms_model.specs.Ids.{Id}
+use Rattle.transcript_model.specs.vms_model.Ids.{Id}
 use Rattle.transcript_model.specs.Lines as line
-use Rattle.records_model.specs.History.{same_id}
-use Rattle.unit_laws.proofs.LiveLemmas.{id_is, id_itself}
-use Rattle.commit_protocol.specs.Messages.{Name, Reply, LogRecord, CommitEvent, same_name}
-use Rattle.commit_protocol.specs.Table.{Branch, find_serial, holds}
-use Rattle.commit_protocol.specs.Rows.{Replied}
-use Rattle.commit_protocol.specs.Allowed.{allowed, answers, may_reply, reply_allowed}
-use Rattle.commit_protocol.proofs.Lists.{told_id}
+use Rattle.recovery_model.specs.records_model.History.{same_id}
+use Rattle.recovery_model.proofs.unit_laws.LiveLemmas.{id_is, id_itself}
+use Rattle.transcript_model.specs.commit_protocol.Messages.{Name, Reply, LogRecord, CommitEvent, same_name}
+use Rattle.transcript_model.specs.commit_protocol.Table.{Branch, find_serial, holds}
+use Rattle.transcript_model.specs.commit_protocol.Rows.{Replied}
+use Rattle.transcript_model.specs.commit_protocol.Allowed.{allowed, answers, may_reply, reply_allowed}
+use Rattle.transcript_model.proofs.commit_protocol.Lists.{told_id}
 use Rattle.run_model.specs.World.{Node, find_branch, find_record, tm_of}
 use Rattle.run_model.specs.Answers.{Known, Unsettled, Recorded, Unheard, awaited_reply, known_branch, known_manager, known_serial}
 use Rattle.run_model.specs.Operations.{refused_if}

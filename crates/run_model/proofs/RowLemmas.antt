@@ -3,16 +3,16 @@ use Rattle.std.proofs.Common.{false, ◌≡◌, refl, List, [], ◌∷◌, ◌++
 use Rattle.std.specs.Prelude.{replicate}
 use Rattle.std.specs.Str.{bytes_eq}
 use Rattle.std.specs.FinMap.{empty, get-empty}
-use Rattle.vms_model.specs.Ids.{Id}
-use Rattle.vms_model.specs.Keys.{Key, Number}
-use Rattle.vms_model.specs.Transactions.{SegFail}
-use Rattle.records_model.specs.Records.{Change, key_cmp}
-use Rattle.records_model.specs.History.{LiveChanges}
-use Rattle.tree_model.specs.Layouts.{no_layout}
-use Rattle.unit_laws.specs.Journal.{Journal, ChangeEntry, empty_journal}
-use Rattle.commit_protocol.specs.Messages.{same_name, same_id}
-use Rattle.commit_protocol.specs.Table.{Branch, Active, same_key}
-use Rattle.commit_protocol.specs.Rows.{blank}
+use Rattle.transcript_model.specs.vms_model.Ids.{Id}
+use Rattle.transcript_model.specs.vms_model.Keys.{Key, Number}
+use Rattle.transcript_model.specs.vms_model.Transactions.{SegFail}
+use Rattle.recovery_model.specs.records_model.Records.{Change, key_cmp}
+use Rattle.recovery_model.specs.records_model.History.{LiveChanges}
+use Rattle.recovery_model.specs.tree_model.Layouts.{no_layout}
+use Rattle.recovery_model.specs.unit_laws.Journal.{Journal, ChangeEntry, empty_journal}
+use Rattle.transcript_model.specs.commit_protocol.Messages.{same_name, same_id}
+use Rattle.transcript_model.specs.commit_protocol.Table.{Branch, Active, same_key}
+use Rattle.transcript_model.specs.commit_protocol.Rows.{blank}
 use Rattle.transcript_model.specs.Lines as line
 use Rattle.transcript_model.specs.Lines.{Line, Stopped}
 use Rattle.script_model.specs.Statements.{At, Request, Boot, StartTrans, Records, Direct, EndTrans, Dump, DumpJournal, Fuse, Crash, Put, Get}

@@ -4,33 +4,33 @@ use Rattle.std.specs.Prelude.{ℕ, ◌+◌, ◌-◌, ◌*◌, ◌/◌, List, [],
 use Rattle.std.specs.Option.{option_and_then}
 use Rattle.std.specs.List.{list_any}
 use Rattle.std.specs.FinMap.{empty, entries}
-use Rattle.vms_model.specs.Keys.{Key}
-use Rattle.vms_model.specs.Ids.{Id}
-use Rattle.vms_model.specs.Transactions.{Outcome, Commit, Abort, Reason, Aborted, SegFail}
-use Rattle.vms_model.specs.Limits.{bid_limit, boot_limit, branch_limit, change_limit, declared_limit, file_limit, key_limit, label_limit, lock_limit, manager_limit, message_limit, moment_limit, position_limit, record_limit, second_limit, slot_limit}
-use Rattle.vms_model.specs.Blocks.{log_start}
+use Rattle.transcript_model.specs.vms_model.Keys.{Key}
+use Rattle.transcript_model.specs.vms_model.Ids.{Id}
+use Rattle.transcript_model.specs.vms_model.Transactions.{Outcome, Commit, Abort, Reason, Aborted, SegFail}
+use Rattle.transcript_model.specs.vms_model.Limits.{bid_limit, boot_limit, branch_limit, change_limit, declared_limit, file_limit, key_limit, label_limit, lock_limit, manager_limit, message_limit, moment_limit, position_limit, record_limit, second_limit, slot_limit}
+use Rattle.transcript_model.specs.vms_model.Blocks.{log_start}
 use Rattle.transcript_model.specs.Lines as line
 use Rattle.transcript_model.specs.Lines.{Line, Standing, ActiveBranch, EndingBranch, PreparedBranch, CommittedBranch, UnknownBranch}
 use Rattle.script_model.specs.Statements.{Request, Init, Boot, Create, SetFile, StartTrans, AddBranch, StartBranch, Records, Direct, EndBranch, EndTrans, AbortTrans, Inquire, DeclareRm, JoinRm, AckEvent, ForgetRm, GetDti, LmcpShow, LmcpDump, Dump, DumpJournal, DumpImages, Backup, Recover, Fuse, Crash, Clock, Named, ByLabel, BySerial, Form, Sequential, Relative, Indexed, Setting, Operation, RecoveryUnits, NoRecoveryUnits, Images, NoImages, Side, AfterImages, BeforeImages, Recovery}
 use Rattle.script_model.specs.Statements as says
-use Rattle.records_model.specs.Records.{Change, Records as RecordMap}
-use Rattle.tree_model.specs.Layouts.{Layout, no_layout, first_layout as one_leaf}
-use Rattle.records_model.specs.History.{first_to_change, same_id}
-use Rattle.unit_laws.specs.Journal as journal
-use Rattle.unit_laws.specs.Journal.{JournalEntry, RecoveryUnit, entry_size, entries_size, entries_for, end_of, owed, units_in, find_unit, active_units}
+use Rattle.recovery_model.specs.records_model.Records.{Change, Records as RecordMap}
+use Rattle.recovery_model.specs.tree_model.Layouts.{Layout, no_layout, first_layout as one_leaf}
+use Rattle.recovery_model.specs.records_model.History.{first_to_change, same_id}
+use Rattle.recovery_model.specs.unit_laws.Journal as journal
+use Rattle.recovery_model.specs.unit_laws.Journal.{JournalEntry, RecoveryUnit, entry_size, entries_size, entries_for, end_of, owed, units_in, find_unit, active_units}
 use Rattle.recovery_model.specs.Journal.{entry_in}
 use Rattle.recovery_model.specs.File.{ImageJournal, Placed}
 use Rattle.recovery_model.specs.Recovery.{Way, Forward, Backward, Refusal, NoJournal, NoSave, InUse, TooEarly, PositionsMissing, MomentsMissing, refusal, rolled}
 use Rattle.recovery_model.specs.Room.{Full, AftersFull, BeforesFull, full_of}
-use Rattle.commit_protocol.specs.Messages as message
-use Rattle.commit_protocol.specs.Messages.{Name, Message, Reply, LogRecord, CommitEvent, same_name}
-use Rattle.commit_protocol.specs.Table as table
-use Rattle.commit_protocol.specs.Table.{Branch, Child, Manager, State, Joining, Active, Ending, Voting, Prepared, Key as BranchKey, Notes, Accepts, Prepares, Settles, Leaves, Acknowledges, Undoes, Sends, Prints, Releases, child, is_first, waits_for, acknowledged, holds, nothing_left, without_rm}
-use Rattle.commit_protocol.specs.Table.{released as record_released}
-use Rattle.commit_protocol.specs.Rows as rows
-use Rattle.commit_protocol.specs.Rows.{Event, row, is_noted, is_replied}
-use Rattle.commit_protocol.specs.Allowed.{is_active, is_prepared, is_working, may_end, may_reply, answers}
-use Rattle.commit_protocol.specs.World.{undo_all}
+use Rattle.transcript_model.specs.commit_protocol.Messages as message
+use Rattle.transcript_model.specs.commit_protocol.Messages.{Name, Message, Reply, LogRecord, CommitEvent, same_name}
+use Rattle.transcript_model.specs.commit_protocol.Table as table
+use Rattle.transcript_model.specs.commit_protocol.Table.{Branch, Child, Manager, State, Joining, Active, Ending, Voting, Prepared, Key as BranchKey, Notes, Accepts, Prepares, Settles, Leaves, Acknowledges, Undoes, Sends, Prints, Releases, child, is_first, waits_for, acknowledged, holds, nothing_left, without_rm}
+use Rattle.transcript_model.specs.commit_protocol.Table.{released as record_released}
+use Rattle.transcript_model.specs.commit_protocol.Rows as rows
+use Rattle.transcript_model.specs.commit_protocol.Rows.{Event, row, is_noted, is_replied}
+use Rattle.transcript_model.specs.commit_protocol.Allowed.{is_active, is_prepared, is_working, may_end, may_reply, answers}
+use Rattle.transcript_model.specs.commit_protocol.World.{undo_all}
 use Rattle.log_laws.specs.Slots.{records_in, committed_of, prepared_of, waiting_for, slot_records, free_slots}
 use Rattle.run_model.specs.Locks.{holder, not_locked}
 use Rattle.run_model.specs.World as world

@@ -3,10 +3,10 @@ use Rattle.std.specs.Prelude.{ℕ, ◌&&◌, ◌++◌, List, [], ◌∷◌, Bool
 use Rattle.std.specs.List.{list_any}
 use Rattle.std.specs.Ordering.{eq_by_cmp}
 use Rattle.std.specs.Str.{bytes_eq}
-use Rattle.vms_model.specs.Ids.{Id}
-use Rattle.vms_model.specs.Keys.{Key}
-use Rattle.records_model.specs.Records.{key_cmp}
-use Rattle.records_model.specs.History.{same_id}
+use Rattle.transcript_model.specs.vms_model.Ids.{Id}
+use Rattle.transcript_model.specs.vms_model.Keys.{Key}
+use Rattle.recovery_model.specs.records_model.Records.{key_cmp}
+use Rattle.recovery_model.specs.records_model.History.{same_id}
 
 -- a key of a file, or a sequential file's end, which this unsettled branch holds
 pub record Lock : Type 0 where

@@ -1,12 +1,12 @@
 -- Worked scripts with resource managers, by their statements, and what they show.
 use Rattle.std.specs.Prelude.{◌≡◌, ℕ, List, [], ◌∷◌, ◌++◌, Some, None, codes}
-use Rattle.vms_model.specs.Ids.{Id}
-use Rattle.vms_model.specs.Transactions.{Vetoed, Aborted as ByRequest}
+use Rattle.transcript_model.specs.vms_model.Ids.{Id}
+use Rattle.transcript_model.specs.vms_model.Transactions.{Vetoed, Aborted as ByRequest}
 use Rattle.transcript_model.specs.Lines as line
 use Rattle.transcript_model.specs.Lines.{Line}
 use Rattle.script_model.specs.Statements.{At, Deliver, Request, Boot, StartTrans, StartBranch, Records, EndBranch, EndTrans, AbortTrans, DeclareRm, JoinRm, AckEvent, ForgetRm, GetDti, LmcpShow, LmcpDump, Crash, ByLabel, BySerial, Put}
-use Rattle.commit_protocol.specs.Messages as message
-use Rattle.commit_protocol.specs.Messages.{RmEvent, PrepareEvent, CommitEvent, AbortEvent, OnePhaseEvent, Reply, PreparedReply, ForgetReply, VetoReply, RememberReply, NormalReply, LogRecord, PreparedRecord, CommittedRecord}
+use Rattle.transcript_model.specs.commit_protocol.Messages as message
+use Rattle.transcript_model.specs.commit_protocol.Messages.{RmEvent, PrepareEvent, CommitEvent, AbortEvent, OnePhaseEvent, Reply, PreparedReply, ForgetReply, VetoReply, RememberReply, NormalReply, LogRecord, PreparedRecord, CommittedRecord}
 use Rattle.run_model.specs.Rows.{Move, Plays, Pairs, says, tells_b, does, id, id_b, to_a, to_b}
 
 -- the manager R replies so to an event of T, or another manager does

@@ -3,14 +3,14 @@
 use Rattle.std.specs.Prelude.{ℕ, ◌+◌, ◌-◌, List, [], ◌∷◌, Bool, true, false, not, ◌||◌, ◌==◌, Option, Some, None, if◌then◌else◌, max, nat_lt, nat_le, map, length, take, drop, reverse, ◌++◌}
 use Rattle.std.specs.FinMap.{entries, get, contains_key}
 use Rattle.std.specs.Ordering.{eq_by_cmp, is_lt}
-use Rattle.vms_model.specs.Keys.{Key, Number, Text, End}
+use Rattle.transcript_model.specs.vms_model.Keys.{Key, Number, Text, End}
 use Rattle.transcript_model.specs.Lines as line
 use Rattle.transcript_model.specs.Lines.{Line}
 use Rattle.script_model.specs.Statements.{Operation, Put, Update, Delete, Truncate, Get, Next}
-use Rattle.records_model.specs.Records.{Records, Change, key_cmp}
-use Rattle.tree_model.specs.Layouts.{used_of, need_of as need_of_layout}
-use Rattle.records_model.specs.History.{current}
-use Rattle.records_model.specs.Placing.{Filled, filled_by, first_bucket}
+use Rattle.recovery_model.specs.records_model.Records.{Records, Change, key_cmp}
+use Rattle.recovery_model.specs.tree_model.Layouts.{used_of, need_of as need_of_layout}
+use Rattle.recovery_model.specs.records_model.History.{current}
+use Rattle.recovery_model.specs.records_model.Placing.{Filled, filled_by, first_bucket}
 use Rattle.run_model.specs.World.{File, Organization, Sequential, Relative, Indexed, capacity}
 
 -- Single causes of refusals.

@@ -1,14 +1,14 @@
 -- Worked scripts, by their statements, and what they show. How each ends is said with it: whole, or with a failure of the disk.
 use Rattle.std.specs.Prelude.{◌≡◌, ℕ, List, [], ◌∷◌, ◌++◌, Bool, true, false, Option, Some, None, if◌then◌else◌, codes, drop, length}
-use Rattle.vms_model.specs.Ids.{Id}
-use Rattle.vms_model.specs.Keys.{Number}
-use Rattle.vms_model.specs.Transactions.{Commit as ToCommit, SegFail, SyncFail, Timeout, CommFail, Aborted as ByRequest}
+use Rattle.transcript_model.specs.vms_model.Ids.{Id}
+use Rattle.transcript_model.specs.vms_model.Keys.{Number}
+use Rattle.transcript_model.specs.vms_model.Transactions.{Commit as ToCommit, SegFail, SyncFail, Timeout, CommFail, Aborted as ByRequest}
 use Rattle.transcript_model.specs.Lines as line
 use Rattle.transcript_model.specs.Lines.{Line, Stopped}
 use Rattle.script_model.specs.Statements as said
 use Rattle.script_model.specs.Statements.{Statement, At, Deliver, LinkDown, Settle, Request, Init, Boot, Create, SetFile, StartTrans, AddBranch, StartBranch, Records, Direct, EndBranch, EndTrans, Inquire, Dump, DumpJournal, Fuse, Crash, Clock, ByLabel, RecoveryUnits, Put, Get, Next, Delete}
-use Rattle.commit_protocol.specs.Messages as message
-use Rattle.commit_protocol.specs.Messages.{Message}
+use Rattle.transcript_model.specs.commit_protocol.Messages as message
+use Rattle.transcript_model.specs.commit_protocol.Messages.{Message}
 use Rattle.run_model.specs.World.{World, Node, Faulty, Outturn, Lost, Taken, made_volume, nothing_volatile, opened}
 use Rattle.run_model.specs.Steps.{Choice, Whole, Cut}
 use Rattle.run_model.specs.Statements.{Part, Phase, part_effect, phases_of, refused_at_once, begun_with}

@@ -2,17 +2,17 @@
 use Rattle.std.specs.Prelude.{◌≡◌, ℕ, zero, suc, ◌≤◌, List, [], ◌∷◌, ◌++◌, Bool, true, false, Option, Some, None, if◌then◌else◌, slice_get}
 use Rattle.std.specs.Option.{option_and_then}
 use Rattle.std.specs.Str.{bytes_eq}
-use Rattle.vms_model.specs.Ids.{Id}
+use Rattle.transcript_model.specs.vms_model.Ids.{Id}
 use Rattle.transcript_model.specs.Outside.{Rose}
 use Rattle.transcript_model.specs.Lines as line
 use Rattle.transcript_model.specs.Lines.{Line, Cause}
 use Rattle.script_model.specs.Statements.{Statement, At, Deliver, LinkDown, Settle, Request, AddBranch, Clock}
-use Rattle.commit_protocol.specs.Messages.{Message, Inquire}
-use Rattle.commit_protocol.specs.Table as table
-use Rattle.commit_protocol.specs.Table.{Branch, Sends, Key as BranchKey, coordinator_of}
-use Rattle.commit_protocol.specs.Rows.{row, up, Got}
-use Rattle.commit_protocol.specs.Allowed.{is_prepared}
-use Rattle.commit_protocol.specs.World.{arranged}
+use Rattle.transcript_model.specs.commit_protocol.Messages.{Message, Inquire}
+use Rattle.transcript_model.specs.commit_protocol.Table as table
+use Rattle.transcript_model.specs.commit_protocol.Table.{Branch, Sends, Key as BranchKey, coordinator_of}
+use Rattle.transcript_model.specs.commit_protocol.Rows.{row, up, Got}
+use Rattle.transcript_model.specs.commit_protocol.Allowed.{is_prepared}
+use Rattle.transcript_model.specs.commit_protocol.World.{arranged}
 use Rattle.run_model.specs.World.{World, Node, DiskCounts, find_node, find_branch, with_node, disk_of, tm_of}
 use Rattle.run_model.specs.Operations.{first_of, refused_if}
 use Rattle.run_model.specs.Answers.{Task, Serves, Ticks, Takes, Hears, LosesLink, RunsDown, Restarts}

@@ -1,10 +1,10 @@
 -- What holds of each step of a node and of the world.
 use Rattle.std.specs.Prelude.{◌≡◌, ℕ, ◌+◌, ◌<◌, ◌^◌, ◌⊎◌, List, [], ◌∷◌, ◌++◌, Bool, true, false, Option, Some, None, map, length, option_map}
 use Rattle.std.specs.List.{last_or}
-use Rattle.vms_model.specs.Ids.{Id}
+use Rattle.transcript_model.specs.vms_model.Ids.{Id}
 use Rattle.transcript_model.specs.Lines.{Line, Cause, Down, NoSuchNode, NodeDown, NodeUp, VolumeInUse, NotInitialized, NotInitializedAt, NoSuchMessage, BadLabel, FileNotFound, FileExists, BadParameter, BadOperation, BadRecordNumber, BadRecordSize, NoSuchTransaction, NoSuchBranchId, NoSuchManager, WrongState, InDoubt, NotForUnits, NeedsUnit, RecordLocked, FileLocked, NoVolume, RecordExists, KeyExists, RecordNotFound, EndOfFile, KeyChanged, QuotaExceeded, VolumeFull, FileFull, JournalFull, NoJournal, NoSave, TooEarly, PositionsMissing, MomentsMissing, AftersFull, BeforesFull, NoMemory, Broken}
 use Rattle.script_model.specs.Statements.{Statement, At, Deliver, LinkDown, Settle, Clock}
-use Rattle.commit_protocol.specs.Table.{Branch, coordinator_of}
+use Rattle.transcript_model.specs.commit_protocol.Table.{Branch, coordinator_of}
 use Rattle.run_model.specs.World.{World, Shared, Node, DiskCounts, Outturn, MayTurnOut, opened, find_node, with_node, disk_of, with_counts}
 use Rattle.run_model.specs.Answers.{Task, Serves, Takes, Hears, task_service, refused_before_reading, powers}
 use Rattle.run_model.specs.Steps.{Choice, NodeStep, ready_node, succeeded}

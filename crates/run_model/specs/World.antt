@@ -5,37 +5,37 @@ use Rattle.std.specs.List.{AllByRecursion, list_any}
 use Rattle.std.specs.Option.{option_and_then, is_none}
 use Rattle.std.specs.FinMap.{empty, entries, get, insert}
 use Rattle.std.specs.Ordering.{eq_by_cmp}
-use Rattle.vms_model.specs.Ids.{Id}
-use Rattle.vms_model.specs.Keys.{Key, Number, Text, End}
-use Rattle.vms_model.specs.Transactions.{Outcome, Commit, Abort, Reason, SegFail}
-use Rattle.vms_model.specs.Limits.{branch_limit, file_limit, lock_limit, message_limit, slot_limit}
-use Rattle.vms_model.specs.Blocks.{log_start}
-use Rattle.records_model.specs.Records.{Change, Records, key_cmp}
-use Rattle.tree_model.specs.Layouts.{Layout, Sizes}
-use Rattle.tree_model.specs.Layouts.{no_layout, used_of}
-use Rattle.tree_model.specs.Loads.{loaded, slot_for}
-use Rattle.tree_model.specs.Setting.{layout_changed}
-use Rattle.records_model.specs.History.{History, LiveChanges, same_id, changes_by, changes_key, changed_it, changed_with, current, settled_at}
-use Rattle.records_model.specs.Placing.{filled_by, first_bucket}
-use Rattle.records_model.specs.Slots.{Slot}
-use Rattle.unit_laws.specs.Units.{OneMovesEnd}
-use Rattle.unit_laws.specs.Layouts.{layout_restored}
-use Rattle.unit_laws.specs.Units.{IsImage, Map, earliest_before, latest_after}
-use Rattle.unit_laws.specs.Journal.{Journal, JournalEntry, is_of_file, RecoveryUnit, empty_journal, entries_for, with_entries, with_settled, trimmed, units_in, find_unit, serial_in, is_settled_in, ChangeEntry, PreparedEntry, SettledEntry}
-use Rattle.unit_laws.specs.JournalLaws.{HasNotes, is_unit}
+use Rattle.transcript_model.specs.vms_model.Ids.{Id}
+use Rattle.transcript_model.specs.vms_model.Keys.{Key, Number, Text, End}
+use Rattle.transcript_model.specs.vms_model.Transactions.{Outcome, Commit, Abort, Reason, SegFail}
+use Rattle.transcript_model.specs.vms_model.Limits.{branch_limit, file_limit, lock_limit, message_limit, slot_limit}
+use Rattle.transcript_model.specs.vms_model.Blocks.{log_start}
+use Rattle.recovery_model.specs.records_model.Records.{Change, Records, key_cmp}
+use Rattle.recovery_model.specs.tree_model.Layouts.{Layout, Sizes}
+use Rattle.recovery_model.specs.tree_model.Layouts.{no_layout, used_of}
+use Rattle.recovery_model.specs.tree_model.Loads.{loaded, slot_for}
+use Rattle.recovery_model.specs.tree_model.Setting.{layout_changed}
+use Rattle.recovery_model.specs.records_model.History.{History, LiveChanges, same_id, changes_by, changes_key, changed_it, changed_with, current, settled_at}
+use Rattle.recovery_model.specs.records_model.Placing.{filled_by, first_bucket}
+use Rattle.recovery_model.specs.records_model.Slots.{Slot}
+use Rattle.recovery_model.specs.unit_laws.Units.{OneMovesEnd}
+use Rattle.recovery_model.specs.unit_laws.Layouts.{layout_restored}
+use Rattle.recovery_model.specs.unit_laws.Units.{IsImage, Map, earliest_before, latest_after}
+use Rattle.recovery_model.specs.unit_laws.Journal.{Journal, JournalEntry, is_of_file, RecoveryUnit, empty_journal, entries_for, with_entries, with_settled, trimmed, units_in, find_unit, serial_in, is_settled_in, ChangeEntry, PreparedEntry, SettledEntry}
+use Rattle.recovery_model.specs.unit_laws.JournalLaws.{HasNotes, is_unit}
 use Rattle.recovery_model.specs.Journal as image
 use Rattle.recovery_model.specs.File.{FileState, ImageJournal, IsInOrder, Save, all_of, append, ended, no_images, renewed, renewed_if_on}
 use Rattle.recovery_model.specs.Opening.{IsSaved, TellsBranches, TellsFound, TellsKeys}
 use Rattle.recovery_model.specs.Room.{HasRoom}
 use Rattle.script_model.specs.Statements.{Side, AfterImages, BeforeImages}
-use Rattle.commit_protocol.specs.Messages.{Name, Message, LogRecord}
-use Rattle.commit_protocol.specs.Table as table
-use Rattle.commit_protocol.specs.Table.{Branch, Tm, Key as BranchKey, Prepares, Settles, Leaves, Undoes, Accepts, Sends, child, table_after, records_after, record_key, record_serials, branches_of}
-use Rattle.commit_protocol.specs.Agreement.{Distinct}
-use Rattle.commit_protocol.specs.Standing.{writes}
+use Rattle.transcript_model.specs.commit_protocol.Messages.{Name, Message, LogRecord}
+use Rattle.transcript_model.specs.commit_protocol.Table as table
+use Rattle.transcript_model.specs.commit_protocol.Table.{Branch, Tm, Key as BranchKey, Prepares, Settles, Leaves, Undoes, Accepts, Sends, child, table_after, records_after, record_key, record_serials, branches_of}
+use Rattle.transcript_model.specs.commit_protocol.Agreement.{Distinct}
+use Rattle.transcript_model.specs.commit_protocol.Standing.{writes}
 use Rattle.log_laws.specs.Slots.{Slots, records_in, prepared_of, committed_of, slots_after}
-use Rattle.commit_protocol.specs.Limits.{PreparedWithin, RecordWithin}
-use Rattle.commit_protocol.specs.World.{In}
+use Rattle.transcript_model.specs.commit_protocol.Limits.{PreparedWithin, RecordWithin}
+use Rattle.transcript_model.specs.commit_protocol.World.{In}
 use Rattle.run_model.specs.Extents.{Extent, longest_run, lowest_run}
 use Rattle.run_model.specs.Locks.{Lock, is_locked, with_locks, released}
 

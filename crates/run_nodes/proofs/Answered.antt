@@ -1,12 +1,12 @@
 -- How each statement is answered.
 use Rattle.std.specs.Prelude.{◌||◌, ◌&&◌}
 use Rattle.std.proofs.Common.{◌≡◌, ℕ, List, [], ◌∷◌, ◌++◌, Bool, true, false, Option, Some, None, inl, inr, refl, sym, ◌∙◌, ap, subst}
-use Rattle.commit_protocol.specs.World.{In}
-use Rattle.transcript_model.specs.Lines as line
-use Rattle.transcript_model.specs.Lines.{Line}
-use Rattle.script_model.specs.Statements.{At, Boot, Clock, Crash, Fuse, Init, Recover, Request, Statement}
-use Rattle.run_said.specs.Said.{Said, is_of_lines, refused_by_said}
-use Rattle.run_model.specs.Answers.{service, touches}
+use Rattle.emitter_model.specs.commit_protocol.World.{In}
+use Rattle.emitter_model.specs.transcript_model.Lines as line
+use Rattle.emitter_model.specs.transcript_model.Lines.{Line}
+use Rattle.script_lang.specs.script_model.Statements.{At, Boot, Clock, Crash, Fuse, Init, Recover, Request, Statement}
+use Rattle.said_steps.specs.run_said.Said.{Said, is_of_lines, refused_by_said}
+use Rattle.said_steps.specs.run_model.Answers.{service, touches}
 use Rattle.said_steps.specs.Answers.{FallsTold, answers_so, ends_boot, ends_turns, goes_on, is_answer, is_broken, is_lacking, is_normal, is_served, is_turn, may_answer}
 use Rattle.said_steps.specs.Calls.{spoken_to}
 use Rattle.said_steps.proofs.Falls.{falls_none}

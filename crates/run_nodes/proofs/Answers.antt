@@ -5,21 +5,21 @@ use Rattle.std.specs.Str.{bytes_eq}
 use Rattle.std.proofs.lemmas.Slice.Eq.{bytes_eq-Decides}
 use Rattle.block_disk.specs.Disk.{CallLog, noted}
 use Rattle.block_disk.specs.declared.disk.DiskCall.TheVariants as disk_call
-use Rattle.commit_protocol.specs.Messages.{Message}
-use Rattle.commit_protocol.proofs.Lists.{in_parts}
-use Rattle.transcript_model.specs.Lines as line
-use Rattle.transcript_model.specs.Lines.{Cause, Line, Normal}
+use Rattle.emitter_model.specs.commit_protocol.Messages.{Message}
+use Rattle.emitter_model.proofs.commit_protocol.Lists.{in_parts}
+use Rattle.emitter_model.specs.transcript_model.Lines as line
+use Rattle.emitter_model.specs.transcript_model.Lines.{Cause, Line, Normal}
 use Rattle.emitter_model.specs.Emitting.{Emits, Shown}
 use Rattle.emitter_model.proofs.EmittingLemmas.{emits_nothing, emits_on}
-use Rattle.script_model.specs.Statements.{AddBranch, At, Boot, Clock, Crash, Deliver, Fuse, Init, LinkDown, Request, Says, StartTrans, Statement}
-use Rattle.run_said.specs.Said.{Said, SaidNode, answer_said, down_said, is_by_lines, line_said, lines_said, node_in, other_said, refused_by_lines, refused_by_said, request_said, said_here}
-use Rattle.run_model.specs.Answers.{LosesLink, Serves, Takes, Task, Ticks, service}
-use Rattle.run_model.specs.Statements.{message_at}
-use Rattle.run_model.proofs.NodeLists.{some_is}
-use Rattle.run_shared.specs.Sharing.{SharedState}
-use Rattle.node_standing.specs.Holding.{HoldsAs}
-use Rattle.node_standing.specs.Standing.{NodeState, disk_in, is_up}
-use Rattle.node_standing.specs.Telling.{TellsTask, armed_task, powered_task, said_node, said_shared, task_said}
+use Rattle.script_lang.specs.script_model.Statements.{AddBranch, At, Boot, Clock, Crash, Deliver, Fuse, Init, LinkDown, Request, Says, StartTrans, Statement}
+use Rattle.said_steps.specs.run_said.Said.{Said, SaidNode, answer_said, down_said, is_by_lines, line_said, lines_said, node_in, other_said, refused_by_lines, refused_by_said, request_said, said_here}
+use Rattle.said_steps.specs.run_model.Answers.{LosesLink, Serves, Takes, Task, Ticks, service}
+use Rattle.said_steps.specs.run_model.Statements.{message_at}
+use Rattle.said_steps.proofs.run_model.NodeLists.{some_is}
+use Rattle.dtm_node.specs.run_shared.Sharing.{SharedState}
+use Rattle.dtm_node.specs.node_standing.Holding.{HoldsAs}
+use Rattle.dtm_node.specs.node_standing.Standing.{NodeState, disk_in, is_up}
+use Rattle.dtm_node.specs.node_standing.Telling.{TellsTask, armed_task, powered_task, said_node, said_shared, task_said}
 use Rattle.dtm_node.proofs.Held.{holds_is}
 use Rattle.said_steps.specs.Answers.{IsSteady, is_answer}
 use Rattle.said_steps.specs.Calls.{armed_by, calls_after, has_powered, is_named, spoken_to, was_down}

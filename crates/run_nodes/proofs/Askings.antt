@@ -4,21 +4,21 @@ use Rattle.std.specs.Option.{option_and_then}
 use Rattle.std.proofs.Common.{◌≡◌, ℕ, zero, suc, ◌+◌, ◌≤◌, List, [], ◌∷◌, ◌++◌, length, Bool, true, false, if◌then◌else◌, Option, Some, None, refl, sym, ◌∙◌, ap, subst, add-one, append_assoc, arith}
 use Rattle.vms_model.specs.Ids.{Id}
 use Rattle.block_disk.specs.Disk.{CallLog}
-use Rattle.commit_protocol.specs.Agreement.{Distinct}
-use Rattle.commit_protocol.specs.Allowed.{is_prepared}
-use Rattle.commit_protocol.specs.Messages.{Inquire, Message}
-use Rattle.commit_protocol.specs.Rows.{Got, row, up}
-use Rattle.commit_protocol.specs.Table.{Branch, Tm, find_serial}
-use Rattle.transcript_model.specs.Lines.{InDoubt}
+use Rattle.emitter_model.specs.commit_protocol.Agreement.{Distinct}
+use Rattle.emitter_model.specs.commit_protocol.Allowed.{is_prepared}
+use Rattle.emitter_model.specs.commit_protocol.Messages.{Inquire, Message}
+use Rattle.emitter_model.specs.commit_protocol.Rows.{Got, row, up}
+use Rattle.emitter_model.specs.commit_protocol.Table.{Branch, Tm, find_serial}
+use Rattle.emitter_model.specs.transcript_model.Lines.{InDoubt}
 use Rattle.emitter_model.specs.Emitting.{Emits, Shown}
 use Rattle.emitter_model.proofs.EmittingLemmas.{emits_nothing, emits_on}
-use Rattle.run_model.specs.World.{Node, World, find_node, tm_of}
-use Rattle.run_model.specs.Answers.{Hears}
-use Rattle.run_model.proofs.NodeLists.{some_is}
-use Rattle.run_model.specs.Statements.{answer_in}
-use Rattle.run_shared.specs.Sharing.{SharedState}
+use Rattle.said_steps.specs.run_model.World.{Node, World, find_node, tm_of}
+use Rattle.said_steps.specs.run_model.Answers.{Hears}
+use Rattle.said_steps.proofs.run_model.NodeLists.{some_is}
+use Rattle.said_steps.specs.run_model.Statements.{answer_in}
+use Rattle.dtm_node.specs.run_shared.Sharing.{SharedState}
 use Rattle.dtm_node.specs.Asking as node
-use Rattle.node_standing.specs.Standing.{IsDown, IsRunning, NodeState, Place, PlaceRepresents, RepresentsNode, counts_of, disk_in}
+use Rattle.dtm_node.specs.node_standing.Standing.{IsDown, IsRunning, NodeState, Place, PlaceRepresents, RepresentsNode, counts_of, disk_in}
 use Rattle.statement_steps.specs.Doing.{IsWithin, moved}
 use Rattle.statement_steps.specs.Settling.{AreUp, Asking, Through, asks_of, doubts_of, question_in, question_of}
 use Rattle.statement_steps.proofs.Answering.{next_ended, next_hears, next_nobody, next_none, next_vain}

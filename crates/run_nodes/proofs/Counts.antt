@@ -1,8 +1,8 @@
 -- What holds of a node after so many statements holds after more, and where nodes share more.
 use Rattle.std.proofs.Common.{◌≡◌, ℕ, ◌+◌, true, arith}
 use Rattle.block_disk.specs.Disk.{DiskState}
-use Rattle.recovery_units.specs.State.{UnitsState}
-use Rattle.run_shared.specs.Sharing.{SharedState}
+use Rattle.dtm_node.specs.recovery_units.State.{UnitsState}
+use Rattle.dtm_node.specs.run_shared.Sharing.{SharedState}
 use Rattle.dtm_node.specs.Nodes.{IsNode, IsPlaceOf}
 use Rattle.dtm_node.specs.declared.node.Node.{Node}
 use Rattle.dtm_node.specs.declared.node.Place as code

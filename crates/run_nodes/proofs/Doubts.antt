@@ -3,20 +3,20 @@ use Rattle.std.specs.Prelude.{◌&&◌, ◌==◌, slice_get, IsTrue, ◌↔◌}
 use Rattle.std.proofs.Common.{◌≡◌, ℕ, zero, suc, List, [], ◌∷◌, Bool, true, false, Option, Some, None, is_some, if◌then◌else◌, inl, inr, refl, sym, ◌∙◌, ap, subst}
 use Rattle.std.specs.Str.{bytes_eq}
 use Rattle.vms_model.specs.Ids.{Id}
-use Rattle.commit_protocol.specs.Agreement.{Distinct}
-use Rattle.commit_protocol.specs.Allowed.{is_prepared}
-use Rattle.commit_protocol.specs.Table.{Branch, Key, cut, find}
-use Rattle.commit_protocol.specs.World.{In, arranged, arranged_by}
-use Rattle.commit_protocol.specs.Messages.{same_id}
-use Rattle.commit_protocol.proofs.Lists.{find-cut_other, find-key, told_id, told_key}
-use Rattle.run_model.specs.World.{Node}
-use Rattle.run_model.proofs.NodeLists.{some_is}
-use Rattle.recovery_units.specs.State.{UnitsState}
-use Rattle.run_shared.specs.Sharing.{SharedState}
-use Rattle.node_table.specs.Standing.{NamesPrepared, unsettled_serials}
+use Rattle.emitter_model.specs.commit_protocol.Agreement.{Distinct}
+use Rattle.emitter_model.specs.commit_protocol.Allowed.{is_prepared}
+use Rattle.emitter_model.specs.commit_protocol.Table.{Branch, Key, cut, find}
+use Rattle.emitter_model.specs.commit_protocol.World.{In, arranged, arranged_by}
+use Rattle.emitter_model.specs.commit_protocol.Messages.{same_id}
+use Rattle.emitter_model.proofs.commit_protocol.Lists.{find-cut_other, find-key, told_id, told_key}
+use Rattle.said_steps.specs.run_model.World.{Node}
+use Rattle.said_steps.proofs.run_model.NodeLists.{some_is}
+use Rattle.dtm_node.specs.recovery_units.State.{UnitsState}
+use Rattle.dtm_node.specs.run_shared.Sharing.{SharedState}
+use Rattle.dtm_node.specs.node_table.Standing.{NamesPrepared, unsettled_serials}
 use Rattle.dtm_node.specs.Asking.{in_doubt_in}
 use Rattle.dtm_node.specs.Nodes.{IsPlaceOf, kept_of, place_of}
-use Rattle.node_standing.specs.Standing.{IsDown, IsRunning, NodeState, Place, PlaceRepresents, RepresentsNode}
+use Rattle.dtm_node.specs.node_standing.Standing.{IsDown, IsRunning, NodeState, Place, PlaceRepresents, RepresentsNode}
 use Rattle.dtm_node.specs.declared.node.Node as code
 use Rattle.dtm_node.specs.declared.node.Place as code_of
 use Rattle.dtm_node.specs.declared.node.Place.TheVariants as code_place

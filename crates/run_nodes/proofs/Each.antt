@@ -4,26 +4,26 @@ use Rattle.std.proofs.Common.{◌≡◌, ℕ, ◌<◌, List, [], ◌∷◌, map,
 use Rattle.std.specs.Str.{bytes_eq}
 use Rattle.std.proofs.lemmas.Option.{slice_get_within}
 use Rattle.block_disk.specs.Disk.{CallLog}
-use Rattle.commit_protocol.specs.Messages.{Message}
-use Rattle.transcript_model.specs.Lines as line
-use Rattle.transcript_model.specs.Lines.{Line, Normal}
+use Rattle.emitter_model.specs.commit_protocol.Messages.{Message}
+use Rattle.emitter_model.specs.transcript_model.Lines as line
+use Rattle.emitter_model.specs.transcript_model.Lines.{Line, Normal}
 use Rattle.emitter_model.specs.Emitting.{Emits, Shown}
-use Rattle.script_model.specs.Statements.{AddBranch, At, Clock, Deliver, LinkDown, Recover, Request, Statement}
-use Rattle.script_model.specs.Statements as said
+use Rattle.script_lang.specs.script_model.Statements.{AddBranch, At, Clock, Deliver, LinkDown, Recover, Request, Statement}
+use Rattle.script_lang.specs.script_model.Statements as said
 use Rattle.script_lang.specs.Statements.{request_of}
 use Rattle.script_lang.specs.declared.literals.Literals.{Literals}
 use Rattle.vms_base.specs.declared.times.Moment.{Moment}
 use Rattle.script_lang.specs.declared.statement.Request as code
 use Rattle.script_lang.specs.declared.statement.Request.TheVariants as request
-use Rattle.run_said.specs.Said.{node_in, other_said}
-use Rattle.run_model.specs.World.{Node, World, find_node}
-use Rattle.run_model.specs.Operations.{refused_if}
-use Rattle.run_model.specs.Answers.{LosesLink, Takes, Ticks}
-use Rattle.run_model.specs.Statements.{message_at, other_node}
-use Rattle.run_shared.specs.Sharing.{SharedState}
-use Rattle.node_standing.specs.Moments.{CanBeTold}
-use Rattle.node_standing.specs.Standing.{NodeState}
-use Rattle.node_standing.specs.Telling.{said_node}
+use Rattle.said_steps.specs.run_said.Said.{node_in, other_said}
+use Rattle.said_steps.specs.run_model.World.{Node, World, find_node}
+use Rattle.said_steps.specs.run_model.Operations.{refused_if}
+use Rattle.said_steps.specs.run_model.Answers.{LosesLink, Takes, Ticks}
+use Rattle.said_steps.specs.run_model.Statements.{message_at, other_node}
+use Rattle.dtm_node.specs.run_shared.Sharing.{SharedState}
+use Rattle.dtm_node.specs.node_standing.Moments.{CanBeTold}
+use Rattle.dtm_node.specs.node_standing.Standing.{NodeState}
+use Rattle.dtm_node.specs.node_standing.Telling.{said_node}
 use Rattle.said_steps.proofs.Refusals.{delivery_said_lost, delivery_said_missing, link_said_first, link_said_second, request_said_alone, request_said_missing, there_said_at, there_said_missing}
 use Rattle.statement_steps.specs.Doing.{AllKept}
 use Rattle.statement_steps.specs.TheLaws.{StaysWithin}

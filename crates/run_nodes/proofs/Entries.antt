@@ -2,12 +2,12 @@
 use Rattle.std.specs.Prelude.{slice_get, slice_set}
 use Rattle.std.proofs.Common.{◌≡◌, ℕ, zero, suc, ◌+◌, List, [], ◌∷◌, map, true, Some, refl, sym, ◌∙◌, ap, subst}
 use Rattle.block_disk.specs.Disk.{DiskState}
-use Rattle.recovery_units.specs.State.{UnitsState}
-use Rattle.run_model.proofs.NodeLists.{some_is}
-use Rattle.run_shared.specs.Sharing.{SharedState}
+use Rattle.dtm_node.specs.recovery_units.State.{UnitsState}
+use Rattle.said_steps.proofs.run_model.NodeLists.{some_is}
+use Rattle.dtm_node.specs.run_shared.Sharing.{SharedState}
 use Rattle.indexmap.specs.IndexMap.{set_value_at}
 use Rattle.dtm_node.specs.Nodes.{IsNode, kept_of}
-use Rattle.node_standing.specs.Standing.{NodeState}
+use Rattle.dtm_node.specs.node_standing.Standing.{NodeState}
 use Rattle.dtm_node.specs.declared.node.Node.{Node}
 use Rattle.run_nodes.specs.Held.{AreNodesIn, clocks_of}
 use Rattle.run_nodes.proofs.Counts.{node_more, node_shared}

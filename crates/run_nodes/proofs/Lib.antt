@@ -15,3 +15,5 @@ pub mod Loops
 pub mod Doubts
 pub mod Askings
 pub mod Firsts
+pub mod dtm_node
+pub mod statement_steps

@@ -4,13 +4,13 @@ use Rattle.std.proofs.Common.{◌≡◌, ℕ, zero, suc, ◌+◌, ◌<◌, ◌�
 use Rattle.std.proofs.lemmas.List.{length-map}
 use Rattle.emitter_model.specs.Emitting.{Shown}
 use Rattle.emitter_model.proofs.EmittingLemmas.{emits_nothing, emits_on}
-use Rattle.script_model.specs.Statements.{Settle}
-use Rattle.run_model.specs.Answers.{Hears, Restarts, RunsDown, Task}
-use Rattle.run_model.proofs.NodeLists.{some_is}
-use Rattle.commit_protocol.specs.Messages.{Message}
-use Rattle.run_shared.specs.Sharing.{SharedState}
-use Rattle.node_standing.specs.Standing.{NodeState, is_up}
-use Rattle.node_standing.specs.Telling.{said_node}
+use Rattle.script_lang.specs.script_model.Statements.{Settle}
+use Rattle.said_steps.specs.run_model.Answers.{Hears, Restarts, RunsDown, Task}
+use Rattle.said_steps.proofs.run_model.NodeLists.{some_is}
+use Rattle.emitter_model.specs.commit_protocol.Messages.{Message}
+use Rattle.dtm_node.specs.run_shared.Sharing.{SharedState}
+use Rattle.dtm_node.specs.node_standing.Standing.{NodeState, is_up}
+use Rattle.dtm_node.specs.node_standing.Telling.{said_node}
 use Rattle.said_steps.specs.Answers.{FallsTold}
 use Rattle.run_nodes.specs.Names.{AreApart}
 use Rattle.run_nodes.specs.Tasks.{DoesTask}

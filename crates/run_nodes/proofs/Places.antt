@@ -5,13 +5,13 @@ use Rattle.std.specs.Str.{bytes_eq}
 use Rattle.std.proofs.lemmas.Bool.{both_ways, false_from_ne_true}
 use Rattle.std.proofs.lemmas.Slice.Eq.{bytes_eq-Decides}
 use Rattle.block_disk.specs.Disk.{CallLog}
-use Rattle.run_model.specs.World.{DiskCounts, Node, Shared, World, disk_of, find_node}
-use Rattle.run_model.proofs.NodeLists.{some_is}
-use Rattle.run_agreement.specs.Laws.{NamesApart}
-use Rattle.run_said.specs.Said.{node_in, with_said}
-use Rattle.run_shared.specs.Sharing.{IsShared, SharedState}
-use Rattle.node_standing.specs.Standing.{NodeState, RepresentsNode, counts_of, disk_in}
-use Rattle.node_standing.specs.Telling.{said_node}
+use Rattle.said_steps.specs.run_model.World.{DiskCounts, Node, Shared, World, disk_of, find_node}
+use Rattle.said_steps.proofs.run_model.NodeLists.{some_is}
+use Rattle.statement_steps.specs.run_agreement.Laws.{NamesApart}
+use Rattle.said_steps.specs.run_said.Said.{node_in, with_said}
+use Rattle.dtm_node.specs.run_shared.Sharing.{IsShared, SharedState}
+use Rattle.dtm_node.specs.node_standing.Standing.{NodeState, RepresentsNode, counts_of, disk_in}
+use Rattle.dtm_node.specs.node_standing.Telling.{said_node}
 use Rattle.statement_steps.specs.Doing.{moved}
 use Rattle.statement_steps.proofs.Places.{counts_at, disk_at, find_at, put_at, unnamed}
 use Rattle.run_nodes.specs.Names.{AreApart, is_among}

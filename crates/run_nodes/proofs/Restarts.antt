@@ -7,23 +7,23 @@ use Rattle.std.proofs.lemmas.Bool.{false_from_ne_true}
 use Rattle.std.proofs.lemmas.Slice.Eq.{bytes_eq-Decides}
 use Rattle.block_disk.specs.Disk.{DiskState, noted}
 use Rattle.block_disk.specs.declared.disk.DiskCall.TheVariants as disk_call
-use Rattle.commit_protocol.specs.World.{In}
-use Rattle.commit_protocol.proofs.Lists.{in_parts}
-use Rattle.transcript_model.specs.Lines as line
-use Rattle.transcript_model.specs.Lines.{Cause, Line, Normal}
+use Rattle.emitter_model.specs.commit_protocol.World.{In}
+use Rattle.emitter_model.proofs.commit_protocol.Lists.{in_parts}
+use Rattle.emitter_model.specs.transcript_model.Lines as line
+use Rattle.emitter_model.specs.transcript_model.Lines.{Cause, Line, Normal}
 use Rattle.emitter_model.specs.Emitting.{Emits, Shown}
 use Rattle.emitter_model.proofs.EmittingLemmas.{emits_nothing, emits_on}
-use Rattle.script_model.specs.Statements.{Crash, Settle}
-use Rattle.run_said.specs.Said.{Said, SaidNode, SaidShared, down_said, is_by_lines, line_said, lines_said, node_in, with_use}
-use Rattle.run_said.proofs.Views.{said_append}
-use Rattle.run_model.specs.Answers.{Restarts, Serves, Task, task_service}
-use Rattle.run_model.specs.Operations.{refused_if}
-use Rattle.run_model.specs.Steps.{count_of}
-use Rattle.run_model.proofs.NodeLists.{some_is}
-use Rattle.run_shared.specs.Sharing.{SharedState}
-use Rattle.node_standing.specs.Standing.{NodeState, counts_of, disk_in, is_up}
-use Rattle.node_standing.specs.Holding.{HoldsAs}
-use Rattle.node_standing.specs.Telling.{RestartTold, TellsTask, calls_after_task, is_unpowered, may_answer_task, refused_task, said_node, said_shared, task_used}
+use Rattle.script_lang.specs.script_model.Statements.{Crash, Settle}
+use Rattle.said_steps.specs.run_said.Said.{Said, SaidNode, SaidShared, down_said, is_by_lines, line_said, lines_said, node_in, with_use}
+use Rattle.said_steps.proofs.run_said.Views.{said_append}
+use Rattle.said_steps.specs.run_model.Answers.{Restarts, Serves, Task, task_service}
+use Rattle.said_steps.specs.run_model.Operations.{refused_if}
+use Rattle.said_steps.specs.run_model.Steps.{count_of}
+use Rattle.said_steps.proofs.run_model.NodeLists.{some_is}
+use Rattle.dtm_node.specs.run_shared.Sharing.{SharedState}
+use Rattle.dtm_node.specs.node_standing.Standing.{NodeState, counts_of, disk_in, is_up}
+use Rattle.dtm_node.specs.node_standing.Holding.{HoldsAs}
+use Rattle.dtm_node.specs.node_standing.Telling.{RestartTold, TellsTask, calls_after_task, is_unpowered, may_answer_task, refused_task, said_node, said_shared, task_used}
 use Rattle.dtm_node.proofs.Held.{holds_is}
 use Rattle.said_steps.specs.Answers.{FallsTold, IsSteady, answers_so, ends_at, ends_boot, ends_turns, is_answer, is_broken, is_normal, is_unmade_at, stuck_at}
 use Rattle.said_steps.specs.Calls.{CameUp, NamesDiffer, has_used, is_boot_refusal, is_named, is_tried, restarted, shows_boot, spoken_to}

@@ -3,20 +3,20 @@ use Rattle.std.specs.Prelude.{slice_get, slice_set}
 use Rattle.std.proofs.Common.{◌≡◌, ℕ, List, [], ◌∷◌, ◌++◌, Bool, true, false, Some, None, refl, sym, ◌∙◌, ap, subst}
 use Rattle.std.specs.Str.{bytes_eq}
 use Rattle.block_disk.specs.Disk.{CallLog}
-use Rattle.transcript_model.specs.Lines as line
-use Rattle.transcript_model.specs.Lines.{Line, Normal}
+use Rattle.emitter_model.specs.transcript_model.Lines as line
+use Rattle.emitter_model.specs.transcript_model.Lines.{Line, Normal}
 use Rattle.emitter_model.specs.Emitting.{Emits, Shown}
 use Rattle.emitter_model.proofs.EmittingLemmas.{emits_nothing, emits_on}
-use Rattle.script_model.specs.Statements.{At, Boot, Clock, Deliver, LinkDown, Request, Statement}
-use Rattle.commit_protocol.specs.Messages.{Message}
-use Rattle.run_model.specs.World.{DiskCounts, Node, Sound, Unknown, World, disk_of, find_node}
-use Rattle.run_model.specs.Answers.{LosesLink, Serves, Takes, Task, Ticks, powers, task_service}
-use Rattle.run_model.specs.Operations.{refused_if}
-use Rattle.run_model.specs.Statements.{Does, Part, message_at, other_node, refused_at_once, where_up}
-use Rattle.run_model.proofs.NodeLists.{some_is}
-use Rattle.run_shared.specs.Sharing.{SharedState}
-use Rattle.node_standing.specs.Keeping.{IsPromised, Performs, PerformsRequest, PerformsTask}
-use Rattle.node_standing.specs.Standing.{IsDown, IsRunning, NodeState, Place, PlaceRepresents, RepresentsNode, counts_of, disk_in, is_up}
+use Rattle.script_lang.specs.script_model.Statements.{At, Boot, Clock, Deliver, LinkDown, Request, Statement}
+use Rattle.emitter_model.specs.commit_protocol.Messages.{Message}
+use Rattle.said_steps.specs.run_model.World.{DiskCounts, Node, Sound, Unknown, World, disk_of, find_node}
+use Rattle.said_steps.specs.run_model.Answers.{LosesLink, Serves, Takes, Task, Ticks, powers, task_service}
+use Rattle.said_steps.specs.run_model.Operations.{refused_if}
+use Rattle.said_steps.specs.run_model.Statements.{Does, Part, message_at, other_node, refused_at_once, where_up}
+use Rattle.said_steps.proofs.run_model.NodeLists.{some_is}
+use Rattle.dtm_node.specs.run_shared.Sharing.{SharedState}
+use Rattle.dtm_node.specs.node_standing.Keeping.{IsPromised, Performs, PerformsRequest, PerformsTask}
+use Rattle.dtm_node.specs.node_standing.Standing.{IsDown, IsRunning, NodeState, Place, PlaceRepresents, RepresentsNode, counts_of, disk_in, is_up}
 use Rattle.statement_steps.specs.Doing.{AllKept, DoesParts, IsPlain, IsWithin, as_begun, moved}
 use Rattle.statement_steps.specs.TheLaws.{StaysWithin}
 use Rattle.statement_steps.proofs.Keeping.{kept_at, within_begun}

@@ -1,18 +1,18 @@
 -- A node that is up stays so by lines by which none goes down.
 use Rattle.std.proofs.Common.{◌≡◌, ℕ, List, [], ◌∷◌, Bool, true, false, Option, Some, None, inl, inr, if◌then◌else◌, refl, sym, ◌∙◌, ap, subst}
 use Rattle.std.specs.Str.{bytes_eq}
-use Rattle.commit_protocol.specs.World.{In}
-use Rattle.transcript_model.specs.Lines as line
-use Rattle.transcript_model.specs.Lines.{Cause, Line}
+use Rattle.emitter_model.specs.commit_protocol.World.{In}
+use Rattle.emitter_model.specs.transcript_model.Lines as line
+use Rattle.emitter_model.specs.transcript_model.Lines.{Cause, Line}
 use Rattle.emitter_model.specs.Emitting.{Shown}
-use Rattle.script_model.specs.Statements.{Crash}
-use Rattle.run_said.specs.Said.{Said, SaidNode, SaidShared, line_said, lines_said, with_said}
-use Rattle.run_model.specs.Answers.{Serves, Task, task_service}
-use Rattle.run_shared.specs.Sharing.{SharedState}
+use Rattle.script_lang.specs.script_model.Statements.{Crash}
+use Rattle.said_steps.specs.run_said.Said.{Said, SaidNode, SaidShared, line_said, lines_said, with_said}
+use Rattle.said_steps.specs.run_model.Answers.{Serves, Task, task_service}
+use Rattle.dtm_node.specs.run_shared.Sharing.{SharedState}
 use Rattle.said_steps.specs.Answers.{IsSteady, is_normal}
 use Rattle.said_steps.specs.Own.{alone}
-use Rattle.node_standing.specs.Standing.{NodeState}
-use Rattle.node_standing.specs.Telling.{TellsTask, may_answer_task, refused_task, said_node, said_shared}
+use Rattle.dtm_node.specs.node_standing.Standing.{NodeState}
+use Rattle.dtm_node.specs.node_standing.Telling.{TellsTask, may_answer_task, refused_task, said_node, said_shared}
 
 -- whether the first node is up
 abbrev first_up : List SaidNode → Bool

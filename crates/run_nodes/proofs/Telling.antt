@@ -5,21 +5,21 @@ use Rattle.std.specs.Str.{bytes_eq}
 use Rattle.std.proofs.lemmas.Slice.Eq.{bytes_eq-Decides}
 use Rattle.block_disk.specs.Disk.{CallLog, DiskState, noted}
 use Rattle.block_disk.specs.declared.disk.DiskCall.TheVariants as disk_call
-use Rattle.commit_protocol.specs.World.{In}
-use Rattle.commit_protocol.proofs.Lists.{in_parts}
-use Rattle.transcript_model.specs.Lines as line
-use Rattle.transcript_model.specs.Lines.{Cause, Line, Normal}
+use Rattle.emitter_model.specs.commit_protocol.World.{In}
+use Rattle.emitter_model.proofs.commit_protocol.Lists.{in_parts}
+use Rattle.emitter_model.specs.transcript_model.Lines as line
+use Rattle.emitter_model.specs.transcript_model.Lines.{Cause, Line, Normal}
 use Rattle.emitter_model.specs.Emitting.{Shown}
-use Rattle.run_said.specs.Said.{Said, SaidNode, line_said, lines_said}
-use Rattle.run_said.proofs.Views.{said_append}
-use Rattle.run_model.specs.Answers.{Task}
-use Rattle.run_model.specs.Steps.{count_of}
-use Rattle.run_model.proofs.NodeLists.{some_is}
-use Rattle.recovery_units.specs.Uses.{IsCounted}
-use Rattle.run_shared.specs.Sharing.{SharedState}
-use Rattle.node_standing.specs.Holding.{HoldsAs}
-use Rattle.node_standing.specs.Standing.{NodeState, counts_of, disk_in, is_up}
-use Rattle.node_standing.specs.Telling.{DiskAdvancesOverCalls, TellsTask, armed_task, powered_task, said_node, said_shared}
+use Rattle.said_steps.specs.run_said.Said.{Said, SaidNode, line_said, lines_said}
+use Rattle.said_steps.proofs.run_said.Views.{said_append}
+use Rattle.said_steps.specs.run_model.Answers.{Task}
+use Rattle.said_steps.specs.run_model.Steps.{count_of}
+use Rattle.said_steps.proofs.run_model.NodeLists.{some_is}
+use Rattle.dtm_node.specs.recovery_units.Uses.{IsCounted}
+use Rattle.dtm_node.specs.run_shared.Sharing.{SharedState}
+use Rattle.dtm_node.specs.node_standing.Holding.{HoldsAs}
+use Rattle.dtm_node.specs.node_standing.Standing.{NodeState, counts_of, disk_in, is_up}
+use Rattle.dtm_node.specs.node_standing.Telling.{DiskAdvancesOverCalls, TellsTask, armed_task, powered_task, said_node, said_shared}
 use Rattle.dtm_node.proofs.Held.{holds_is, holds_on}
 use Rattle.said_steps.specs.Calls.{is_boot_refusal, is_named}
 use Rattle.said_steps.specs.Own.{alone}

@@ -2,11 +2,11 @@
 use Rattle.std.specs.Prelude.{slice_get}
 use Rattle.std.proofs.Common.{◌≡◌, ℕ, zero, suc, ◌<◌, List, [], ◌∷◌, length, Bool, true, false, Some, refl, sym, ◌∙◌, arith}
 use Rattle.block_disk.specs.Disk.{DiskState}
-use Rattle.recovery_units.specs.State.{UnitsState}
+use Rattle.dtm_node.specs.recovery_units.State.{UnitsState}
 use Rattle.emitter_model.specs.Emitting.{Shown}
-use Rattle.run_model.specs.Answers.{Task}
-use Rattle.run_shared.specs.Sharing.{SharedState}
-use Rattle.node_standing.specs.Standing.{NodeState, is_up}
+use Rattle.said_steps.specs.run_model.Answers.{Task}
+use Rattle.dtm_node.specs.run_shared.Sharing.{SharedState}
+use Rattle.dtm_node.specs.node_standing.Standing.{NodeState, is_up}
 use Rattle.dtm_node.specs.declared.node.Node.{Node}
 use Rattle.run_nodes.specs.Tasks.{DoesIfUp}
 use Rattle.run_nodes.proofs.Entries.{kept_in, names_in}

@@ -3,17 +3,17 @@ use Rattle.std.specs.Prelude.{slice_get, slice_set}
 use Rattle.std.proofs.Common.{◌≡◌, ℕ, ◌+◌, ◌≤◌, List, [], ◌∷◌, ◌++◌, take, length, Bool, true, false, Some, refl, sym, ◌∙◌, ap, subst, add-one, append_assoc}
 use Rattle.std.proofs.lemmas.List.{length-map}
 use Rattle.block_disk.specs.Disk.{CallLog}
-use Rattle.transcript_model.specs.Lines.{Normal}
+use Rattle.emitter_model.specs.transcript_model.Lines.{Normal}
 use Rattle.emitter_model.specs.Emitting.{Emits, Shown}
 use Rattle.emitter_model.proofs.EmittingLemmas.{emits_nothing, emits_on}
-use Rattle.script_model.specs.Statements.{Settle}
-use Rattle.run_model.specs.World.{Node, World}
-use Rattle.run_model.specs.Answers.{Restarts, RunsDown}
-use Rattle.run_model.specs.Statements.{Part, begun_with}
-use Rattle.run_shared.specs.Sharing.{SharedState}
-use Rattle.run_agreement.specs.Laws.{NamesApart}
-use Rattle.node_standing.specs.Keeping.{IsPromised}
-use Rattle.node_standing.specs.Standing.{NodeState, counts_of, disk_in, is_up}
+use Rattle.script_lang.specs.script_model.Statements.{Settle}
+use Rattle.said_steps.specs.run_model.World.{Node, World}
+use Rattle.said_steps.specs.run_model.Answers.{Restarts, RunsDown}
+use Rattle.said_steps.specs.run_model.Statements.{Part, begun_with}
+use Rattle.dtm_node.specs.run_shared.Sharing.{SharedState}
+use Rattle.statement_steps.specs.run_agreement.Laws.{NamesApart}
+use Rattle.dtm_node.specs.node_standing.Keeping.{IsPromised}
+use Rattle.dtm_node.specs.node_standing.Standing.{NodeState, counts_of, disk_in, is_up}
 use Rattle.statement_steps.specs.Doing.{AllKept, IsWithin, moved}
 use Rattle.statement_steps.specs.Settling.{AreUp, Through, asks_of, restart_of, run_down_of}
 use Rattle.statement_steps.specs.TheLaws.{StaysWithin}

@@ -3,19 +3,19 @@
 use Rattle.std.specs.Prelude.{◌≡◌, ℕ, List, [], ◌∷◌, ◌++◌, true, false, Some, None, IfSome}
 use Rattle.std.specs.List.{last_or}
 use Rattle.block_disk.specs.Disk.{DiskState}
-use Rattle.commit_protocol.specs.World.{In}
-use Rattle.transcript_model.specs.Lines as line
-use Rattle.transcript_model.specs.Lines.{Cause, Line}
-use Rattle.transcript_model.specs.Outside.{Rose}
-use Rattle.script_model.specs.Statements.{At, Bad, Blank, Crash, Reading, Says, Statement}
-use Rattle.run_said.specs.Said.{Said, is_by_lines, refused_by_said}
-use Rattle.run_model.specs.Steps.{count_of}
-use Rattle.recovery_units.specs.Uses.{IsCounted}
+use Rattle.emitter_model.specs.commit_protocol.World.{In}
+use Rattle.emitter_model.specs.transcript_model.Lines as line
+use Rattle.emitter_model.specs.transcript_model.Lines.{Cause, Line}
+use Rattle.emitter_model.specs.transcript_model.Outside.{Rose}
+use Rattle.script_lang.specs.script_model.Statements.{At, Bad, Blank, Crash, Reading, Says, Statement}
+use Rattle.said_steps.specs.run_said.Said.{Said, is_by_lines, refused_by_said}
+use Rattle.said_steps.specs.run_model.Steps.{count_of}
+use Rattle.dtm_node.specs.recovery_units.Uses.{IsCounted}
 use Rattle.said_steps.specs.Answers.{FallsTold, answers_so, goes_on, is_answer}
 use Rattle.said_steps.specs.Calls.{calls_after, has_used, is_named, spoken_to, was_down}
-use Rattle.node_standing.specs.Holding.{HoldsAs}
-use Rattle.node_standing.specs.Telling.{DiskAdvancesOverCalls}
-use Rattle.node_standing.specs.Standing.{counts_of}
+use Rattle.dtm_node.specs.node_standing.Holding.{HoldsAs}
+use Rattle.dtm_node.specs.node_standing.Telling.{DiskAdvancesOverCalls}
+use Rattle.dtm_node.specs.node_standing.Standing.{counts_of}
 
 -- What the lines of a statement tell of the disk of the node of this name: which calls armed or powered it; that each failure of it that they show raised its
 -- count; that it is as it was where the statement does not speak to the node, or where what was said before refuses it; and that nothing on it is lost where its node

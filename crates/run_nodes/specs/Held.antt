@@ -2,11 +2,11 @@
 use Rattle.std.specs.Prelude.{◌≡◌, ◌<◌, ℕ, List, [], ◌∷◌, map}
 use Rattle.block_disk.specs.Disk.{DiskState}
 use Rattle.vms_model.specs.Limits.{statement_bound}
-use Rattle.run_shared.specs.Sharing.{SharedState}
+use Rattle.dtm_node.specs.run_shared.Sharing.{SharedState}
 use Rattle.dtm_node.specs.Nodes.{IsNode, kept_of}
-use Rattle.node_standing.specs.Standing.{NodeState}
+use Rattle.dtm_node.specs.node_standing.Standing.{NodeState}
 use Rattle.dtm_node.specs.declared.node.Node as code
-use Rattle.recovery_units.specs.State.{UnitsState}
+use Rattle.dtm_node.specs.recovery_units.State.{UnitsState}
 use Rattle.run_nodes.specs.declared.nodes.Nodes.{Nodes}
 
 -- the names of nodes, and what is kept of each, in the rack's order

@@ -2,12 +2,12 @@
 use Rattle.std.specs.Prelude.{◌≡◌, ℕ, suc, ◌+◌, List, [], ◌∷◌, ◌++◌, true, false, Some, take, drop, length, slice_get}
 use Rattle.vms_model.specs.Ids.{Id}
 use Rattle.block_disk.specs.Disk.{CallLog}
-use Rattle.transcript_model.specs.Lines.{Line, Normal}
+use Rattle.emitter_model.specs.transcript_model.Lines.{Line, Normal}
 use Rattle.emitter_model.specs.Emitting.{Emits, Shown}
-use Rattle.run_model.specs.World.{Node, World, find_node}
-use Rattle.run_model.specs.Statements.{Part}
-use Rattle.run_shared.specs.Sharing.{SharedState}
-use Rattle.node_standing.specs.Standing.{NodeState}
+use Rattle.said_steps.specs.run_model.World.{Node, World, find_node}
+use Rattle.said_steps.specs.run_model.Statements.{Part}
+use Rattle.dtm_node.specs.run_shared.Sharing.{SharedState}
+use Rattle.dtm_node.specs.node_standing.Standing.{NodeState}
 use Rattle.statement_steps.specs.Doing.{DoesParts, IsWithin}
 use Rattle.statement_steps.specs.Settling.{AreUp, Asking, Through, asks, doubts_of, each_node}
 use Rattle.run_nodes.specs.Together.{StandsTogether}

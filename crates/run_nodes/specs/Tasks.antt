@@ -1,12 +1,12 @@
 -- Tasks of one node among all.
 use Rattle.std.specs.Prelude.{◌≡◌, ℕ, List, Bool, true, false, Some, slice_get, slice_set}
 use Rattle.emitter_model.specs.Emitting.{Shown}
-use Rattle.script_model.specs.Statements.{Clock, Request}
-use Rattle.run_model.specs.Answers.{Serves, Task}
-use Rattle.run_shared.specs.Sharing.{SharedState}
-use Rattle.node_standing.specs.Keeping.{PerformsRequest, PerformsTask}
-use Rattle.node_standing.specs.Standing.{NodeState, is_up}
-use Rattle.node_standing.specs.Telling.{TellsTask}
+use Rattle.script_lang.specs.script_model.Statements.{Clock, Request}
+use Rattle.said_steps.specs.run_model.Answers.{Serves, Task}
+use Rattle.dtm_node.specs.run_shared.Sharing.{SharedState}
+use Rattle.dtm_node.specs.node_standing.Keeping.{PerformsRequest, PerformsTask}
+use Rattle.dtm_node.specs.node_standing.Standing.{NodeState, is_up}
+use Rattle.dtm_node.specs.node_standing.Telling.{TellsTask}
 
 -- A task was done by the node at this place, which keeps its name; the others are as they were.
 pub record DoesTask (place : ℕ) (task : Task) (answers ends : Bool) (ks : List NodeState) (s : SharedState) (a b : Shown) (ls : List NodeState) (t : SharedState) : Type 0 where

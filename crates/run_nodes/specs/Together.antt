@@ -1,15 +1,15 @@
 -- The nodes of a run together, by what is kept of each, and the world that they stand for.
 use Rattle.std.specs.Prelude.{◌≡◌, ℕ, List, [], ◌∷◌, map}
 use Rattle.block_disk.specs.Disk.{CallLog, DiskState}
-use Rattle.transcript_model.specs.Lines.{Line}
+use Rattle.emitter_model.specs.transcript_model.Lines.{Line}
 use Rattle.emitter_model.specs.Emitting.{Emits, Shown}
-use Rattle.script_model.specs.Statements.{Says, Statement}
-use Rattle.run_said.specs.Said.{Said, said_here}
-use Rattle.run_model.specs.Statements.{Step}
-use Rattle.run_model.specs.World.{Node, World}
-use Rattle.run_shared.specs.Sharing.{IsShared, SharedState}
-use Rattle.node_standing.specs.Standing.{NodeState, RepresentsNode, counts_of, disk_in}
-use Rattle.node_standing.specs.Telling.{said_node, said_shared}
+use Rattle.script_lang.specs.script_model.Statements.{Says, Statement}
+use Rattle.said_steps.specs.run_said.Said.{Said, said_here}
+use Rattle.said_steps.specs.run_model.Statements.{Step}
+use Rattle.said_steps.specs.run_model.World.{Node, World}
+use Rattle.dtm_node.specs.run_shared.Sharing.{IsShared, SharedState}
+use Rattle.dtm_node.specs.node_standing.Standing.{NodeState, RepresentsNode, counts_of, disk_in}
+use Rattle.dtm_node.specs.node_standing.Telling.{said_node, said_shared}
 use Rattle.run_nodes.specs.Calls.{DisksFollowLine, LineFollows}
 
 -- the disks of nodes, by what is kept of each

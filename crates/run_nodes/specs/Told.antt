@@ -2,18 +2,18 @@
 use Rattle.std.specs.Prelude.{◌≡◌, ◌<◌, ◌≤◌, ℕ, List, [], ◌∷◌, ◌++◌, Bool, true, false, not, Some, if◌then◌else◌, map, slice_get, take}
 use Rattle.block_disk.specs.Disk.{DiskState, noted}
 use Rattle.block_disk.specs.declared.disk.DiskCall.TheVariants as disk_call
-use Rattle.commit_protocol.specs.World.{In}
-use Rattle.transcript_model.specs.Lines as line
-use Rattle.transcript_model.specs.Lines.{Cause, Line}
-use Rattle.transcript_model.specs.Outside.{Rose}
+use Rattle.emitter_model.specs.commit_protocol.World.{In}
+use Rattle.emitter_model.specs.transcript_model.Lines as line
+use Rattle.emitter_model.specs.transcript_model.Lines.{Cause, Line}
+use Rattle.emitter_model.specs.transcript_model.Outside.{Rose}
 use Rattle.emitter_model.specs.Emitting.{Emits, Shown}
-use Rattle.run_said.specs.Said.{Said, line_said, lines_said}
-use Rattle.run_model.specs.Steps.{count_of}
-use Rattle.recovery_units.specs.Uses.{IsCounted}
-use Rattle.run_shared.specs.Sharing.{SharedState}
-use Rattle.node_standing.specs.Standing.{NodeState, counts_of, disk_in, is_up}
-use Rattle.node_standing.specs.Telling.{DiskAdvancesOverCalls, said_node}
-use Rattle.node_standing.specs.Holding.{HoldsAs}
+use Rattle.said_steps.specs.run_said.Said.{Said, line_said, lines_said}
+use Rattle.said_steps.specs.run_model.Steps.{count_of}
+use Rattle.dtm_node.specs.recovery_units.Uses.{IsCounted}
+use Rattle.dtm_node.specs.run_shared.Sharing.{SharedState}
+use Rattle.dtm_node.specs.node_standing.Standing.{NodeState, counts_of, disk_in, is_up}
+use Rattle.dtm_node.specs.node_standing.Telling.{DiskAdvancesOverCalls, said_node}
+use Rattle.dtm_node.specs.node_standing.Holding.{HoldsAs}
 use Rattle.said_steps.specs.Answers.{FallsTold, IsSteady, ends_turns, is_answer}
 use Rattle.said_steps.specs.Calls.{CameUp, is_named, shows_boot}
 use Rattle.run_nodes.specs.Together.{said_together}

@@ -1,9 +1,9 @@
 -- Nodes of whose disks nothing is known.
 use Rattle.std.specs.Prelude.{◌≡◌, ◌≤◌, ℕ, List, false, Some}
 use Rattle.vms_model.specs.Limits.{moment_limit}
-use Rattle.script_model.specs.Statements.{At, Boot, Clock, Recover, Settle, Statement}
-use Rattle.run_model.specs.World.{Node, Unknown, World, find_node}
-use Rattle.node_standing.specs.Moments.{CanBeTold}
+use Rattle.script_lang.specs.script_model.Statements.{At, Boot, Clock, Recover, Settle, Statement}
+use Rattle.said_steps.specs.run_model.World.{Node, Unknown, World, find_node}
+use Rattle.dtm_node.specs.node_standing.Moments.{CanBeTold}
 
 -- a node that is down, and of whose disk nothing is known, though no INIT of it failed
 pub record IsUntold (n : Node) : Type 0 where

@@ -5,5 +5,6 @@ mod nodes;
 mod settling;
 mod statements;
 
+pub use dtm_node::{Node, Shared};
 pub use nodes::Nodes;
 pub use statements::serve_statement;

@@ -2,11 +2,11 @@
 use Rattle.std.proofs.Common.{◌≡◌, ℕ, List, [], ◌∷◌, ◌++◌, map, Bool, true, false, Option, if◌then◌else◌}
 use Rattle.vms_model.specs.Ids.{Id}
 use Rattle.vms_model.specs.Transactions.{Reason}
-use Rattle.transcript_model.specs.Lines as line
-use Rattle.transcript_model.specs.Lines.{Line}
-use Rattle.commit_protocol.specs.Messages.{LogRecord, RmEvent}
-use Rattle.commit_protocol.specs.Table as table
-use Rattle.commit_protocol.specs.Table.{Branch, Key as BranchKey, nothing_left, waits_for, holds, acknowledged}
+use Rattle.run_model.specs.transcript_model.Lines as line
+use Rattle.run_model.specs.transcript_model.Lines.{Line}
+use Rattle.run_model.specs.commit_protocol.Messages.{LogRecord, RmEvent}
+use Rattle.run_model.specs.commit_protocol.Table as table
+use Rattle.run_model.specs.commit_protocol.Table.{Branch, Key as BranchKey, nothing_left, waits_for, holds, acknowledged}
 use Rattle.run_model.specs.World.{Node}
 use Rattle.run_model.specs.Answers.{acknowledged_lines, forgot_lines, is_declared, owed_line, prepared_line, released_lines, table_lines}
 

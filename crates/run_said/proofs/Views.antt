@@ -2,8 +2,8 @@
 use Rattle.std.proofs.Common.{◌≡◌, ℕ, List, [], ◌∷◌, ◌++◌, map, take, zero, suc, Bool, true, false, Some, if◌then◌else◌, refl, sym, ◌∙◌, ap, subst}
 use Rattle.std.specs.Str.{bytes_eq}
 use Rattle.std.proofs.lemmas.Slice.Eq.{bytes_eq-Decides}
-use Rattle.transcript_model.specs.Lines as line
-use Rattle.transcript_model.specs.Lines.{Line}
+use Rattle.run_model.specs.transcript_model.Lines as line
+use Rattle.run_model.specs.transcript_model.Lines.{Line}
 use Rattle.run_model.specs.World.{World, Shared, Node, Label, find_node, with_node}
 use Rattle.run_model.specs.Answers.{Row}
 use Rattle.run_model.specs.Steps.{node_after, shared_then, node_after_rows, shared_after_rows, lines_of_rows}

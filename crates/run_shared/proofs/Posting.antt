@@ -3,7 +3,7 @@ use Rattle.std.proofs.Common.{◌≡◌, ℕ, zero, suc, ◌+◌, ◌<◌, Bool,
 use Rattle.std.specs.Option.{option_map}
 use Rattle.std.proofs.lemmas.Bool.{lt-ltb}
 use Rattle.vms_model.specs.Limits.{message_limit}
-use Rattle.commit_protocol.specs.Messages as model
+use Rattle.net_wire.specs.commit_protocol.Messages as model
 use Rattle.net_wire.specs.declared.wire.Message.{Message}
 use Rattle.net_wire.specs.Messages.{message_of}
 use Rattle.net_wire.specs.Network.{numbered}

@@ -1,6 +1,6 @@
 -- What the nodes of a run share, as the code has it.
 use Rattle.std.specs.Prelude.{◌≡◌, Bool, List}
-use Rattle.commit_protocol.specs.Messages.{Message}
+use Rattle.net_wire.specs.commit_protocol.Messages.{Message}
 use Rattle.run_model.specs.World.{Label, Shared}
 
 -- The labels, the newest first; whether a volume may still be made; and the messages that were sent, by their numbers from 1 on.

@@ -7,9 +7,9 @@ use Rattle.std.proofs.lemmas.Bool.{false_from_ne_true}
 use Rattle.std.proofs.lemmas.Slice.Eq.{bytes_eq-Decides}
 use Rattle.block_disk.specs.Disk.{CallLog, noted}
 use Rattle.block_disk.specs.declared.disk.DiskCall.TheVariants as disk_call
-use Rattle.transcript_model.specs.Lines as line
-use Rattle.transcript_model.specs.Lines.{Line}
-use Rattle.script_model.specs.Statements.{At, Deliver, Fuse, LinkDown, Request, Says, Settle}
+use Rattle.run_said.specs.transcript_model.Lines as line
+use Rattle.run_said.specs.transcript_model.Lines.{Line}
+use Rattle.run_said.specs.script_model.Statements.{At, Deliver, Fuse, LinkDown, Request, Says, Settle}
 use Rattle.run_said.specs.Said.{Said, SaidNode, lines_said, line_said, node_in, said_here, with_use}
 use Rattle.said_steps.specs.Calls.{CameUp, NamesDiffer, armed_by, calls_after, down_names, has_powered, has_used, is_boot_refusal, is_named, is_tried, refuses_boot, restarted, shows_boot, tried_last}
 use Rattle.said_steps.proofs.OwnLines.{here_said, last_is}

@@ -6,8 +6,8 @@ use Rattle.std.specs.Str.{bytes_eq}
 use Rattle.std.proofs.lemmas.Slice.Eq.{bytes_eq-Decides}
 use Rattle.commit_protocol.specs.World.{In}
 use Rattle.commit_protocol.proofs.Lists.{in_parts}
-use Rattle.transcript_model.specs.Lines as line
-use Rattle.transcript_model.specs.Lines.{Cause, Line}
+use Rattle.run_said.specs.transcript_model.Lines as line
+use Rattle.run_said.specs.transcript_model.Lines.{Cause, Line}
 use Rattle.said_steps.specs.Answers.{FallsTold, FellLast, IsSteady, is_broken}
 use Rattle.said_steps.specs.Calls.{is_named}
 use Rattle.said_steps.proofs.OwnLines.{last_is}

@@ -3,10 +3,10 @@ use Rattle.std.proofs.Common.{◌≡◌, ℕ, List, [], ◌∷◌, ◌++◌, Boo
 use Rattle.std.specs.List.{AllByRecursion, last_or}
 use Rattle.std.specs.Str.{bytes_eq}
 use Rattle.std.proofs.lemmas.Slice.Eq.{bytes_eq-Decides}
-use Rattle.transcript_model.specs.Lines as line
-use Rattle.transcript_model.specs.Lines.{Cause, Line}
+use Rattle.run_said.specs.transcript_model.Lines as line
+use Rattle.run_said.specs.transcript_model.Lines.{Cause, Line}
 use Rattle.commit_protocol.specs.World.{In}
-use Rattle.script_model.specs.Statements.{AddBranch, At, Boot, Init, Request, StartTrans}
+use Rattle.run_said.specs.script_model.Statements.{AddBranch, At, Boot, Init, Request, StartTrans}
 use Rattle.run_said.specs.Said.{Said, SaidNode, SaidShared, answer_said, line_said, lines_said, node_in, request_said, with_said, with_sent, with_unmade, with_up}
 use Rattle.run_said.proofs.Views.{said_append, unmade_view, up_view}
 use Rattle.said_steps.specs.Own.{IsOwn, OwnLinesSay, OwnRequestsSay, alone, among}

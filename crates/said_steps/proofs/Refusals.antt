@@ -3,12 +3,12 @@ use Rattle.std.specs.Prelude.{not, nat_le}
 use Rattle.std.proofs.Common.{◌≡◌, ℕ, List, Bool, true, false, Option, Some, None, if◌then◌else◌, length, refl, ◌∙◌, ap, subst}
 use Rattle.std.specs.Str.{bytes_eq}
 use Rattle.vms_model.specs.Limits.{label_limit}
-use Rattle.transcript_model.specs.Lines as line
-use Rattle.transcript_model.specs.Lines.{Line}
-use Rattle.script_model.specs.Statements.{AbortTrans, AckEvent, AddBranch, At, Boot, ByLabel, BySerial, Clock, Deliver, EndBranch, EndTrans, Fuse, GetDti, Init, Inquire, JoinRm, LinkDown, Named, Records, Request, Settle, StartBranch, StartTrans, Statement}
+use Rattle.run_said.specs.transcript_model.Lines as line
+use Rattle.run_said.specs.transcript_model.Lines.{Line}
+use Rattle.run_said.specs.script_model.Statements.{AbortTrans, AckEvent, AddBranch, At, Boot, ByLabel, BySerial, Clock, Deliver, EndBranch, EndTrans, Fuse, GetDti, Init, Inquire, JoinRm, LinkDown, Named, Records, Request, Settle, StartBranch, StartTrans, Statement}
 use Rattle.commit_protocol.specs.Messages.{Message}
-use Rattle.run_model.specs.Operations.{first_of, refused_if}
-use Rattle.run_model.specs.Statements.{message_at}
+use Rattle.run_said.specs.run_model.Operations.{first_of, refused_if}
+use Rattle.run_said.specs.run_model.Statements.{message_at}
 use Rattle.run_said.specs.Said.{Said, SaidLabel, SaidNode, SaidShared, at_said, down_said, find_said, is_of_lines, made_said, named_said, new_said, node_in, other_said, refused_by_lines, refused_by_said, there_said}
 
 pub request_said_at : (said : Said) (name : List ℕ) (request : Request) (n : SaidNode) → node_in name said.nodes ≡ Some n → other_said said request ≡ None → refused_by_said said (At name request) ≡ refused_by_lines said.shared n request

@@ -4,8 +4,8 @@ use Rattle.std.specs.List.{AllByRecursion, last_or}
 use Rattle.std.specs.Str.{bytes_eq}
 use Rattle.std.proofs.lemmas.Bool.{false_from_ne_true}
 use Rattle.std.proofs.lemmas.Slice.Eq.{bytes_eq-Decides}
-use Rattle.transcript_model.specs.Lines as line
-use Rattle.transcript_model.specs.Lines.{Line}
+use Rattle.run_said.specs.transcript_model.Lines as line
+use Rattle.run_said.specs.transcript_model.Lines.{Line}
 use Rattle.run_said.specs.Said.{SaidNode, node_in}
 use Rattle.said_steps.specs.Answers.{stuck_at}
 use Rattle.said_steps.specs.Own.{IsOwn}

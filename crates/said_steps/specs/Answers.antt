@@ -3,11 +3,11 @@ use Rattle.std.specs.Prelude.{◌≡◌, ◌||◌, ◌&&◌, ℕ, List, [], ◌�
 use Rattle.std.specs.List.{last_or}
 use Rattle.std.specs.Str.{bytes_eq}
 use Rattle.commit_protocol.specs.World.{In}
-use Rattle.transcript_model.specs.Lines as line
-use Rattle.transcript_model.specs.Lines.{Cause, Line}
-use Rattle.script_model.specs.Statements.{At, Boot, Clock, Crash, Deliver, Fuse, Init, LinkDown, Recover, Request, Settle, Statement}
+use Rattle.run_said.specs.transcript_model.Lines as line
+use Rattle.run_said.specs.transcript_model.Lines.{Cause, Line}
+use Rattle.run_said.specs.script_model.Statements.{At, Boot, Clock, Crash, Deliver, Fuse, Init, LinkDown, Recover, Request, Settle, Statement}
 use Rattle.run_said.specs.Said.{Said, SaidNode}
-use Rattle.run_model.specs.Answers.{service, touches}
+use Rattle.run_said.specs.run_model.Answers.{service, touches}
 use Rattle.said_steps.specs.Calls.{is_named, shows_boot}
 
 -- whether a line answers a statement

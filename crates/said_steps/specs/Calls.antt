@@ -4,11 +4,11 @@ use Rattle.std.specs.List.{last_or, list_any}
 use Rattle.std.specs.Str.{bytes_eq}
 use Rattle.block_disk.specs.Disk.{CallLog, noted}
 use Rattle.block_disk.specs.declared.disk.DiskCall.TheVariants as disk_call
-use Rattle.transcript_model.specs.Lines as line
-use Rattle.transcript_model.specs.Lines.{Line}
-use Rattle.script_model.specs.Statements.{At, Boot, Deliver, Fuse, Init, LinkDown, Request, Settle, Statement}
+use Rattle.run_said.specs.transcript_model.Lines as line
+use Rattle.run_said.specs.transcript_model.Lines.{Line}
+use Rattle.run_said.specs.script_model.Statements.{At, Boot, Deliver, Fuse, Init, LinkDown, Request, Settle, Statement}
 use Rattle.run_said.specs.Said.{Said, SaidNode, node_in}
-use Rattle.run_model.specs.Statements.{message_at}
+use Rattle.run_said.specs.run_model.Statements.{message_at}
 
 -- whether a name is one of these
 abbrev pub is_named : List ℕ → List (List ℕ) → Bool

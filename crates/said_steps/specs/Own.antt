@@ -1,9 +1,9 @@
 -- What lines say of all nodes that tell of one node alone.
 use Rattle.std.specs.Prelude.{◌≡◌, ℕ, List, [], ◌∷◌, ◌++◌, Some}
 use Rattle.std.specs.List.{AllByRecursion}
-use Rattle.transcript_model.specs.Lines as line
-use Rattle.transcript_model.specs.Lines.{Line}
-use Rattle.script_model.specs.Statements.{At, Request, Says}
+use Rattle.run_said.specs.transcript_model.Lines as line
+use Rattle.run_said.specs.transcript_model.Lines.{Line}
+use Rattle.run_said.specs.script_model.Statements.{At, Request, Says}
 use Rattle.run_said.specs.Said.{Said, SaidNode, SaidShared, lines_said, line_said, node_in, request_said, said_here, with_said}
 
 -- a line that tells of a node tells of this one

@@ -1,10 +1,10 @@
 -- Copies of files of any organization, and saves.
 use Rattle.std.proofs.Common.{◌≡◌, ℕ, List, refl, sym, subst}
-use Rattle.file_base.specs.declared.head.FileHead.{FileHead}
-use Rattle.file_base.specs.declared.head.Marks.{Marks}
-use Rattle.file_base.specs.declared.head.Save.{Save}
-use Rattle.file_base.specs.declared.head.Organization.{Organization}
-use Rattle.file_base.specs.declared.head.Organization.TheVariants.{Sequential, Relative, Indexed}
+use Rattle.record_files.specs.file_base.declared.head.FileHead.{FileHead}
+use Rattle.record_files.specs.file_base.declared.head.Marks.{Marks}
+use Rattle.record_files.specs.file_base.declared.head.Save.{Save}
+use Rattle.record_files.specs.file_base.declared.head.Organization.{Organization}
+use Rattle.record_files.specs.file_base.declared.head.Organization.TheVariants.{Sequential, Relative, Indexed}
 use Rattle.record_files.specs.Any.{FormBy, map_by, layout_by, LaidOutBy}
 use Rattle.save_laws.specs.Saves.{kept_as, StandAt, save_head, IsOfNow, KeepsSave}
 use Rattle.save_laws.specs.Laws.{ReadsAs, CopiesAreRead, SavesAreRead, SavesStay}

@@ -3,3 +3,7 @@ pub mod Relatives
 pub mod Sequences
 pub mod Trees
 pub mod Copies
+pub mod change_set
+pub mod indexed_file
+pub mod indexed_tree
+pub mod relative_file

@@ -1,9 +1,9 @@
 -- Buckets at another place.
 use Rattle.std.proofs.Common.{◌≡◌, ℕ, zero, suc, ◌<◌, ◌+◌, ◌-◌, ◌*◌, ◌++◌, List, refl, ap, ◌∙◌, arith}
-use Rattle.block_disk.specs.Blocks.{block_at}
-use Rattle.file_base.specs.declared.head.FileHead.{FileHead}
-use Rattle.change_set.specs.Buckets.{bucket_bytes}
-use Rattle.change_set.proofs.Extents.{ranges_apart}
+use Rattle.record_files.specs.block_disk.Blocks.{block_at}
+use Rattle.record_files.specs.file_base.declared.head.FileHead.{FileHead}
+use Rattle.record_files.specs.change_set.Buckets.{bucket_bytes}
+use Rattle.record_files.proofs.change_set.Extents.{ranges_apart}
 use Rattle.save_laws.specs.Saves.{StandAt}
 
 pub bytes_alike : (a b : List (List ℕ)) (x y n : ℕ) → ((k : ℕ) → k < n → block_at b (y + k) ≡ block_at a (x + k)) → bucket_bytes b y n ≡ bucket_bytes a x n

@@ -2,11 +2,11 @@
 use Rattle.std.proofs.Common.{◌≡◌, ℕ, ◌+◌, ◌-◌, ◌/◌, Bool, true, false, List, Option, None, take, drop, refl, ap, ◌∙◌, arith}
 use Rattle.std.specs.Prelude.{if◌then◌else◌}
 use Rattle.std.proofs.lemmas.Nat.{div_below}
-use Rattle.file_base.specs.declared.head.FileHead.{FileHead}
-use Rattle.file_base.specs.Bytes.{piece_at}
-use Rattle.vms_model.specs.Keys.{Key, Number, Text, End}
-use Rattle.relative_file.specs.Cells.{map_of, IsRelative, IsLaidOut, has_cell, cells_in, cells_end, place_of, record_in, size_in, as_read}
-use Rattle.relative_file.specs.Local.{in_range, bucket_below}
+use Rattle.record_files.specs.file_base.declared.head.FileHead.{FileHead}
+use Rattle.record_files.specs.file_base.Bytes.{piece_at}
+use Rattle.records_model.specs.vms_model.Keys.{Key, Number, Text, End}
+use Rattle.record_files.specs.relative_file.Cells.{map_of, IsRelative, IsLaidOut, has_cell, cells_in, cells_end, place_of, record_in, size_in, as_read}
+use Rattle.record_files.specs.relative_file.Local.{in_range, bucket_below}
 use Rattle.save_laws.specs.Saves.{kept_as, StandAt}
 use Rattle.save_laws.proofs.Moves.{moved_bucket}
 

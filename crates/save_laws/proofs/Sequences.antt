@@ -1,13 +1,13 @@
 -- A sequential file at another place.
 use Rattle.std.proofs.Common.{◌≡◌, ℕ, suc, ◌<◌, ◌*◌, List, length, map, sym, ap, subst, ◌∙◌, arith}
 use Rattle.std.specs.List.{All}
-use Rattle.file_base.specs.declared.head.FileHead.{FileHead}
-use Rattle.bucket_page.specs.declared.kind.PageKind.TheVariants.{Seq}
-use Rattle.bucket_page.specs.Pages.{slots_of, IsBucket}
-use Rattle.seq_file.specs.Placing.{BeginsAnew}
-use Rattle.seq_file.specs.Records.{map_of_list}
-use Rattle.seq_file.specs.Layout.{bucket_at, slots_at, record_of, records_in, map_of, capacity, IsSequential, IsRecord, IsLaidOut}
-use Rattle.seq_file.specs.Local.{along_same}
+use Rattle.record_files.specs.file_base.declared.head.FileHead.{FileHead}
+use Rattle.record_files.specs.bucket_page.declared.kind.PageKind.TheVariants.{Seq}
+use Rattle.record_files.specs.bucket_page.Pages.{slots_of, IsBucket}
+use Rattle.record_files.specs.seq_file.Placing.{BeginsAnew}
+use Rattle.record_files.specs.seq_file.Records.{map_of_list}
+use Rattle.record_files.specs.seq_file.Layout.{bucket_at, slots_at, record_of, records_in, map_of, capacity, IsSequential, IsRecord, IsLaidOut}
+use Rattle.record_files.specs.seq_file.Local.{along_same}
 use Rattle.save_laws.specs.Saves.{kept_as, StandAt}
 use Rattle.save_laws.proofs.Moves.{moved_bucket}
 

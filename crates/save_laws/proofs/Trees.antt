@@ -2,25 +2,25 @@
 use Rattle.std.proofs.Common.{◌≡◌, ℕ, zero, suc, ◌<◌, ◌≤◌, ◌+◌, ◌-◌, ◌*◌, List, [], ◌∷◌, ◌++◌, length, map, drop, refl, sym, ap, subst, ◌∙◌, arith}
 use Rattle.std.specs.Prelude.{nat_le, nat_lt}
 use Rattle.std.proofs.lemmas.Bool.{leb-true, ltb-true, and_parts}
-use Rattle.block_disk.specs.Blocks.{block_at}
-use Rattle.file_base.specs.declared.head.FileHead.{FileHead}
-use Rattle.vms_model.specs.Keys.{Key, Number, Text, End}
-use Rattle.change_set.specs.Files.{AgreesOn}
-use Rattle.bucket_page.specs.Pages.{slots_of, next_of, no_next}
+use Rattle.record_files.specs.block_disk.Blocks.{block_at}
+use Rattle.record_files.specs.file_base.declared.head.FileHead.{FileHead}
+use Rattle.records_model.specs.vms_model.Keys.{Key, Number, Text, End}
+use Rattle.record_files.specs.change_set.Files.{AgreesOn}
+use Rattle.record_files.specs.bucket_page.Pages.{slots_of, next_of, no_next}
 use Rattle.records_model.specs.Slots.{lookup}
-use Rattle.tree_model.specs.Layouts.{Layout, slots_along}
-use Rattle.tree_model.specs.Trees.{IsTree}
-use Rattle.index_model.specs.Indexes.{Entry, entries_along, parent_entry, numbers_of, AllDiffer}
-use Rattle.index_model.specs.Trees.{child_of, layout_of}
-use Rattle.index_bucket.specs.Entries.{entries_at, sizes_of, IsIndexBucket}
-use Rattle.index_blocks.specs.Buckets.{bucket_at}
-use Rattle.index_blocks.specs.Levels.{entries_in, below_at, levels_above, height, levels_of, AllAre}
-use Rattle.indexed_file.specs.Chain.{kind_of, slot_of, slots_in, IsLeaf, Leads}
-use Rattle.indexed_tree.specs.Rooted.{leaf_numbers, layout_in, IsRooted}
-use Rattle.indexed_tree.specs.Files.{IsTreeHead, map_of}
-use Rattle.indexed_tree.specs.Laws.{StaysRooted}
-use Rattle.indexed_tree.proofs.StayLaws.{moved}
-use Rattle.indexed_tree.proofs.LocalLaws.{rooted_stays}
+use Rattle.record_files.specs.tree_model.Layouts.{Layout, slots_along}
+use Rattle.record_files.specs.tree_model.Trees.{IsTree}
+use Rattle.record_files.specs.index_model.Indexes.{Entry, entries_along, parent_entry, numbers_of, AllDiffer}
+use Rattle.record_files.specs.index_model.Trees.{child_of, layout_of}
+use Rattle.record_files.specs.index_bucket.Entries.{entries_at, sizes_of, IsIndexBucket}
+use Rattle.record_files.specs.index_blocks.Buckets.{bucket_at}
+use Rattle.record_files.specs.index_blocks.Levels.{entries_in, below_at, levels_above, height, levels_of, AllAre}
+use Rattle.record_files.specs.indexed_file.Chain.{kind_of, slot_of, slots_in, IsLeaf, Leads}
+use Rattle.record_files.specs.indexed_tree.Rooted.{leaf_numbers, layout_in, IsRooted}
+use Rattle.record_files.specs.indexed_tree.Files.{IsTreeHead, map_of}
+use Rattle.record_files.specs.indexed_tree.Laws.{StaysRooted}
+use Rattle.record_files.proofs.indexed_tree.StayLaws.{moved}
+use Rattle.record_files.proofs.indexed_tree.LocalLaws.{rooted_stays}
 use Rattle.save_laws.specs.Saves.{kept_as, StandAt}
 use Rattle.save_laws.proofs.Moves.{bytes_alike}
 

@@ -1,8 +1,8 @@
 -- What a copy of a file's buckets has.
 use Rattle.std.specs.Prelude.{◌≡◌, ℕ, List}
-use Rattle.file_base.specs.declared.head.FileHead.{FileHead}
-use Rattle.file_base.specs.declared.head.Marks.{Marks}
-use Rattle.file_base.specs.declared.head.Save.{Save}
+use Rattle.record_files.specs.file_base.declared.head.FileHead.{FileHead}
+use Rattle.record_files.specs.file_base.declared.head.Marks.{Marks}
+use Rattle.record_files.specs.file_base.declared.head.Save.{Save}
 use Rattle.record_files.specs.Any.{IsFile, IsLaidOut, map_of, layout_of}
 use Rattle.save_laws.specs.Saves.{kept_as, StandAt, save_head, IsOfNow, KeepsSave}
 

@@ -1,9 +1,9 @@
 -- A file's save, and the head by which it is read.
 use Rattle.std.specs.Prelude.{◌≡◌, ℕ, ◌<◌, ◌+◌, ◌-◌, ◌*◌, List}
-use Rattle.block_disk.specs.Blocks.{block_at}
-use Rattle.block_disk.specs.Sizes.{content_start}
-use Rattle.file_base.specs.declared.head.FileHead.{FileHead}
-use Rattle.file_base.specs.declared.head.Save.{Save}
+use Rattle.record_files.specs.block_disk.Blocks.{block_at}
+use Rattle.record_files.specs.block_disk.Sizes.{content_start}
+use Rattle.record_files.specs.file_base.declared.head.FileHead.{FileHead}
+use Rattle.record_files.specs.file_base.declared.head.Save.{Save}
 
 -- A head that is kept in the way of another, with as many buckets, used ones and records; and its own place, name, marks, journals and save.
 abbrev pub kept_as : FileHead → FileHead → FileHead

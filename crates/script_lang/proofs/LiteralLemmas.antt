@@ -3,7 +3,7 @@ use Rattle.std.proofs.Common.{◌≡◌, ◌≢◌, ℕ, ◌+◌, ◌-◌, ◌<�
 use Rattle.std.proofs.lemmas.List.{take_all, length-take}
 use Rattle.std.specs.Prelude.{◌==◌}
 use Rattle.std.specs.Option.{option_map}
-use Rattle.vms_model.specs.Texts.{is_plain}
+use Rattle.vms_base.specs.vms_model.Texts.{is_plain}
 use Rattle.script_model.specs.Operands.{to_quote, hex_said, hex_value, hex_pairs, with_front}
 use Rattle.script_lang.proofs.PartingLemmas.{head_is}
 

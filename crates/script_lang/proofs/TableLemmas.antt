@@ -3,8 +3,8 @@ use Rattle.std.proofs.Common.{◌≡◌, ℕ, List, [], ◌∷◌, true, false, 
 use Rattle.std.specs.Prelude.{if◌then◌else◌}
 use Rattle.std.specs.Option.{option_map}
 use Rattle.std.specs.Str.{bytes_eq}
-use Rattle.vms_model.specs.Names.{upper}
-use Rattle.vms_model.specs.Words.{among}
+use Rattle.vms_base.specs.vms_model.Names.{upper}
+use Rattle.vms_base.specs.vms_model.Words.{among}
 
 pub among_map : {A B : Type 0} (f : A → B) (rows : List (List ℕ × A)) (text : List ℕ) → option_map f (among rows text) ≡ among (map (λ row. (row.0, f row.1)) rows) text
 among_map f [] text = refl

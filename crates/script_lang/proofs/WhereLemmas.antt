@@ -5,13 +5,13 @@ use Rattle.std.specs.Str.{bytes_eq}
 use Rattle.script_model.specs.LineWords.{Word, is_empty, words_of}
 use Rattle.script_model.specs.Statements.{Statement, Reading, Blank, Says, Bad, At, DumpJournal as JournalDumped, RecoveryUnits, AfterImages, BeforeImages, Side, ByLabel}
 use Rattle.jiff_core.specs.Calendar.{days_from_civil, day_count, days_of_years, days_of_months}
-use Rattle.vms_model.specs.Times.{MomentSaid, time_said}
-use Rattle.commit_protocol.specs.Messages.{VetoReply}
+use Rattle.vms_base.specs.vms_model.Times.{MomentSaid, time_said}
+use Rattle.script_model.specs.commit_protocol.Messages.{VetoReply}
 use Rattle.script_model.specs.Operands.{KeyWord, Numbered, Spelled, moment_in}
 use Rattle.script_model.specs.Grammar.{Kind, Meaning, meaning, AFirst, AVerb, ANode, ALabel, ALabelOrNone, AManager, AReply, AFile, AnOrganization, ASetting, ALogWord, LogWord, Show, Dumped, ANumber, ALongNumber, SomeBytes, AKey, ABranch, ATime, ATimeout, Timeout, AnUntil, Until, ASide, ADirection, Mark, Whole, OfBlocks, Verb, Init, Boot, Create, SetFile, StartTrans, AddBranch, StartBranch, Put, Update, Delete, Truncate, Get, Next, EndBranch, EndTrans, AbortTrans, Inquire, DeclareRm, JoinRm, AckEvent, ForgetRm, GetDti, Lmcp, Dump, DumpJournal, Backup, Recover, Fuse, Crash, Clock, Deliver, LinkDown, Settle, Organization, Sequential, Relative, Indexed, First, ToNode, ToWorld, Shape, Ends, Then, EndsOr, ThenMore, reads, is_side, sides, units_word, mark_operands, image_operands, journal_operands, direction_operands, form_operands, put_operands, operands, behind_first, line_shape, is_skipped}
 use Rattle.std.proofs.lemmas.Slice.Eq.{bytes_eq-Decides}
 use Rattle.std.proofs.lemmas.Str.Ascii.{uppercase-uppercase}
-use Rattle.vms_model.specs.Names.{upper, is_name}
+use Rattle.vms_base.specs.vms_model.Names.{upper, is_name}
 use Rattle.script_lang.specs.Where.{CanGoOn, MayNotEnd, TellsWhere, LineTellsWhere}
 
 -- there is such a word

@@ -1,7 +1,7 @@
 -- The statements that the code's values are.
 use Rattle.std.specs.Prelude.{ℕ, List, Result, Ok, Err, Option, Some, None}
 use Rattle.std.specs.Option.{option_map}
-use Rattle.vms_model.specs.Keys.{Key}
+use Rattle.vms_base.specs.vms_model.Keys.{Key}
 use Rattle.vms_base.specs.Ids.{serial_of}
 use Rattle.script_model.specs.Operands as operands
 use Rattle.script_model.specs.Operands.{key_of}

@@ -1,6 +1,6 @@
 // The statement of a line.
 ghost use Rattle.std.specs.Prelude.{◌≡◌, ◌≤◌, length};
-ghost use Rattle.vms_model.specs.Limits.{line_size_limit};
+ghost use Rattle.vms_base.specs.vms_model.Limits.{line_size_limit};
 ghost use Rattle.script_model.specs.Grammar.{Ends, line_shape, behind_first as behind_first_of, operands as operands_of, form_operands as form_operands_of, reading, Verb as TheVerb, ToNode as ToTheNode};
 ghost use Rattle.script_model.specs.Statements.{At as AtNode, Create as CreateOf};
 ghost use Rattle.script_lang.specs.Reads.{Reads};

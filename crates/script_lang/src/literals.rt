@@ -1,8 +1,8 @@
 // The bytes of a statement's operands, which are kept beside it.
 ghost use Rattle.std.specs.Prelude.{◌≡◌, ℕ, ◌+◌, ◌<◌, ◌≤◌, List, [], ◌∷◌, ◌++◌, take, length, IfOk, IfSome, Option, Some, None, if◌then◌else◌};
 ghost use Rattle.std.specs.Option.{option_map};
-ghost use Rattle.vms_model.specs.Texts.{is_plain as is_plain_byte};
-ghost use Rattle.vms_model.specs.Limits.{line_size_limit};
+ghost use Rattle.vms_base.specs.vms_model.Texts.{is_plain as is_plain_byte};
+ghost use Rattle.vms_base.specs.vms_model.Limits.{line_size_limit};
 ghost use Rattle.script_model.specs.Operands.{to_quote, hex_value as hex_value_of, hex_pairs, hex_said, bytes_said};
 
 use std::alloc::{AllocError, Global};

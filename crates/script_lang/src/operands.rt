@@ -1,7 +1,7 @@
 // What single words say.
 ghost use Rattle.std.specs.Prelude.{◌≡◌, ℕ, ◌≤◌, IfSome, Option};
 ghost use Rattle.std.specs.Option.{option_map};
-ghost use Rattle.vms_model.specs.Words.{number_up_to, among};
+ghost use Rattle.vms_base.specs.vms_model.Words.{number_up_to, among};
 ghost use Rattle.script_model.specs.Operands.{prefix_said, branch_said, time_word_said};
 ghost use Rattle.script_model.specs.Grammar.{verbs, world_verbs, organizations, sides, settings, directions, log_words, replies, first_said};
 ghost use Rattle.script_lang.specs.Statements.{verb_of, world_verb_of, organization_of, side_of, mark_of, log_word_of, first_of, named_of};

@@ -1,6 +1,6 @@
 // The words of a line.
 ghost use Rattle.std.specs.Prelude.{◌≡◌, ℕ, ◌+◌, ◌<◌, ◌≤◌, ◌≢◌, List, [], ◌∷◌, take, drop, length, MatchResult, IfOk};
-ghost use Rattle.vms_model.specs.Limits.{line_size_limit};
+ghost use Rattle.vms_base.specs.vms_model.Limits.{line_size_limit};
 ghost use Rattle.script_model.specs.LineWords.{Ahead, Word as WordRead, Between, words_from, words_of};
 ghost use Rattle.script_model.specs.LineWords.{is_empty};
 ghost use Rattle.script_model.specs.Grammar.{is_skipped as is_skipped_line};

@@ -2,8 +2,8 @@
 use Rattle.std.specs.Prelude.{ℕ, List, [], ◌∷◌, Bool, true, false, ◌==◌, ◌&&◌, Option, Some, None, is_some, if◌then◌else◌, codes}
 use Rattle.std.specs.Option.{option_map}
 use Rattle.std.specs.Str.{bytes_eq}
-use Rattle.vms_model.specs.Names.{node_named, label_named, file_named}
-use Rattle.vms_model.specs.Words.{number_up_to, among}
+use Rattle.commit_protocol.specs.vms_model.Names.{node_named, label_named, file_named}
+use Rattle.commit_protocol.specs.vms_model.Words.{number_up_to, among}
 use Rattle.commit_protocol.specs.Messages.{Reply, PreparedReply, ForgetReply, VetoReply, RememberReply, NormalReply}
 use Rattle.script_model.specs.LineWords.{Word, is_empty, words_of}
 use Rattle.script_model.specs.Operands.{KeyWord, Numbered, Spelled, bytes_said, key_word_said, key_of, prefix_said, branch_said, time_word_said}

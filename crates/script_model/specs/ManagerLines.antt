@@ -1,6 +1,6 @@
 -- What lines of resource managers, of a branch's state and of the transaction log say.
 use Rattle.std.specs.Prelude.{◌≡◌, ℕ, List, codes}
-use Rattle.vms_model.specs.Ids.{Id}
+use Rattle.commit_protocol.specs.vms_model.Ids.{Id}
 use Rattle.commit_protocol.specs.Messages.{PreparedReply, RememberReply}
 use Rattle.script_model.specs.Statements as says
 use Rattle.script_model.specs.Statements.{Reading, Says, Bad, At, ByLabel, BySerial}

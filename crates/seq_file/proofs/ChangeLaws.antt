@@ -1,10 +1,10 @@
 -- A file once the bucket that was made in a frame is staged, and the frame given back.
 use Rattle.std.proofs.Common.{◌≡◌, inl, ℕ, ◌≤◌, ◌+◌, ◌*◌, List, length, take, set, Bool, Option, Some, None, IfSome, IfNone, IsSomeAnd, MatchOption, option_map, refl, sym, ap, subst, ◌∙◌, arith}
-use Rattle.careful_write.specs.Reads.{SameButReads}
-use Rattle.careful_write.specs.State.{StoreState}
-use Rattle.careful_write.proofs.Reading.{same_as}
-use Rattle.careful_write.specs.Steps.{AgreesOff}
-use Rattle.block_disk.specs.Disk.{DiskState}
+use Rattle.change_set.specs.careful_write.Reads.{SameButReads}
+use Rattle.change_set.specs.careful_write.State.{StoreState}
+use Rattle.change_set.proofs.careful_write.Reading.{same_as}
+use Rattle.change_set.specs.careful_write.Steps.{AgreesOff}
+use Rattle.change_set.specs.block_disk.Disk.{DiskState}
 use Rattle.file_base.specs.declared.head.FileHead.{FileHead}
 use Rattle.change_set.specs.Buckets.{frame_of, with_frame, with_bucket, with_numbers, WasFree}
 use Rattle.change_set.specs.Files.{IsPlaced, StagesIn, SameFile, in_extent}

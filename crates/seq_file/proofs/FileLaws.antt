@@ -8,7 +8,7 @@ use Rattle.change_set.specs.Buckets.{with_bucket}
 use Rattle.change_set.proofs.BucketLaws.{block_at-with_bucket_other, bucket_bytes_agree, bucket_bytes-with_bucket}
 use Rattle.bucket_page.specs.declared.kind.PageKind.TheVariants.{Seq}
 use Rattle.bucket_page.specs.Pages.{slots_of, joined, IsBucket}
-use Rattle.records_model.specs.Placing.{filled_by, first_bucket}
+use Rattle.change_set.specs.records_model.Placing.{filled_by, first_bucket}
 use Rattle.seq_file.specs.Placing.{slots_along, IsFilled, buckets_for}
 use Rattle.seq_file.specs.Records.{list_set, slot_sizes}
 use Rattle.seq_file.specs.Layout.{bucket_first, bucket_at, slots_at, slot_of, record_of, records_in, capacity, last_bytes, head_with, IsRecord, IsLaidOut, Becomes, Changed, AskedIsPlaced, AppendTakes}

@@ -1,9 +1,9 @@
 -- A bucket in a frame that is lent.
 use Rattle.std.proofs.Common.{◌≡◌, ℕ, ◌<◌, ◌≤◌, suc, ◌+◌, ◌-◌, ◌*◌, ◌&&◌, ◌++◌, true, List, [], ◌∷◌, length, take, drop, set, Option, Some, None, IfSome, refl, sym, ap, subst, ◌∙◌, arith, rules}
 use Rattle.std.proofs.lemmas.List.{set-set, set_split, take_all, drop_all, take-take, drop-drop, drop-take, take_more}
-use Rattle.block_disk.specs.Disk.{DiskState}
-use Rattle.careful_write.specs.State.{StoreState}
-use Rattle.careful_write.proofs.Reading.{same_so}
+use Rattle.change_set.specs.block_disk.Disk.{DiskState}
+use Rattle.change_set.specs.careful_write.State.{StoreState}
+use Rattle.change_set.proofs.careful_write.Reading.{same_so}
 use Rattle.frame_pool.specs.Pool.{IsOut}
 use Rattle.file_base.specs.declared.head.FileHead.{FileHead}
 use Rattle.change_set.specs.Buckets.{frame_of, with_frame}

@@ -8,3 +8,4 @@ pub mod RecordLaws
 pub mod RewriteLaws
 pub mod SetLaws
 pub mod WalkLaws
+pub mod change_set

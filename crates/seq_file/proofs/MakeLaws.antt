@@ -1,9 +1,9 @@
 -- The empty file.
 use Rattle.std.proofs.Common.{◌≡◌, ℕ, ◌≤◌, ◌+◌, ◌-◌, ◌*◌, List, [], length, take, map, set, Option, Some, None, IfSome, option_map, sym, ap, subst, ◌∙◌, arith}
 use Rattle.std.specs.List.{All}
-use Rattle.careful_write.specs.State.{StoreState}
-use Rattle.careful_write.proofs.Reading.{same_all, same_so}
-use Rattle.block_disk.specs.Disk.{DiskState}
+use Rattle.change_set.specs.careful_write.State.{StoreState}
+use Rattle.change_set.proofs.careful_write.Reading.{same_all, same_so}
+use Rattle.change_set.specs.block_disk.Disk.{DiskState}
 use Rattle.file_base.specs.declared.head.FileHead.{FileHead}
 use Rattle.change_set.specs.Buckets.{frame_of, with_frame, with_bucket, with_numbers, WasFree}
 use Rattle.change_set.specs.Files.{in_extent, AgreesOut}

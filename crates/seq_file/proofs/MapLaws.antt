@@ -2,7 +2,7 @@
 use Rattle.std.proofs.Common.{◌≡◌, ◌≢◌, ⊎_elim, ℕ, ◌<◌, ◌≤◌, ◌+◌, ◌-◌, Bool, true, false, List, length, take, Option, Some, None, if◌then◌else◌, nat_le, refl, sym, ap, ◌∙◌, arith}
 use Rattle.std.proofs.lemmas.Bool.{cases_eq, cases_lt}
 use Rattle.std.proofs.lemmas.Bool.Decides.{nat_tests}
-use Rattle.vms_model.specs.Keys.{Key, Number, Text, End}
+use Rattle.file_base.specs.vms_model.Keys.{Key, Number, Text, End}
 use Rattle.change_set.specs.Maps.{set_key, same_key}
 use Rattle.change_set.proofs.NumberKeys.{same_test, other_test}
 use Rattle.seq_file.specs.Records.{record_at, map_of_list, list_set, cut_from, MaySet}

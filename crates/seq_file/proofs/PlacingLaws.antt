@@ -5,7 +5,7 @@ use Rattle.std.proofs.lemmas.Bool.Decides.{nat_tests}
 use Rattle.std.proofs.lemmas.Bool.{cases_lt, cases_eq}
 use Rattle.bucket_page.specs.Pages.{joined}
 use Rattle.bucket_page.proofs.PageLaws.{joined-append}
-use Rattle.records_model.specs.Placing.{Filled, filled_more, filled_by, first_bucket}
+use Rattle.change_set.specs.records_model.Placing.{Filled, filled_more, filled_by, first_bucket}
 use Rattle.seq_file.specs.Placing.{slots_along, BeginsAnew, IsFilled, FilledIsPlaced, PrefixPlaces, buckets_for}
 
 abbrev Slots : Type 0

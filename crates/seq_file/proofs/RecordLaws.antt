@@ -3,7 +3,7 @@ use Rattle.std.proofs.Common.{◌≡◌, ◌≢◌, ℕ, zero, suc, ◌+◌, ◌
 use Rattle.std.specs.List.{slice_get}
 use Rattle.std.proofs.lemmas.List.{take_all, drop_all, set_split, take-map, drop-map, map-append}
 use Rattle.std.proofs.lemmas.Option.{slice_get_past}
-use Rattle.vms_model.specs.Keys.{Number}
+use Rattle.file_base.specs.vms_model.Keys.{Number}
 use Rattle.change_set.specs.Maps.{Map}
 use Rattle.seq_file.specs.Records.{record_at, list_set, map_of_list}
 

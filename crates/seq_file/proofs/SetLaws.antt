@@ -4,9 +4,9 @@ use Rattle.std.proofs.lemmas.Bool.{cases_lt}
 use Rattle.std.proofs.lemmas.List.{length-take-le}
 use Rattle.std.proofs.lemmas.Nat.{mul-le}
 use Rattle.std.proofs.lemmas.Option.{slice_get-get_or}
-use Rattle.careful_write.specs.State.{StoreState}
+use Rattle.change_set.specs.careful_write.State.{StoreState}
 use Rattle.file_base.specs.declared.head.FileHead.{FileHead}
-use Rattle.vms_model.specs.Keys.{Key, Number, Text, End}
+use Rattle.file_base.specs.vms_model.Keys.{Key, Number, Text, End}
 use Rattle.change_set.specs.Files.{StagesIn, SameFile}
 use Rattle.change_set.specs.Maps.{set_key, key_before, is_after, IsNext, EndsAfter, StartsAt, StartsNowhere, empty_map}
 use Rattle.change_set.proofs.Extents.{stages_more}

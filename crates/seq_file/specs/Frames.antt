@@ -1,8 +1,8 @@
 -- A bucket of a file in a frame, and what the file becomes once it is written.
 use Rattle.std.specs.Prelude.{◌≡◌, ◌⊎◌, ◌≤◌, ◌<◌, ℕ, ◌+◌, ◌*◌, ◌++◌, List, [], ◌∷◌, length, slice_set, None, option_map, IfSome, IsSomeAnd}
-use Rattle.block_disk.specs.Sizes.{content_start}
-use Rattle.careful_write.specs.Reads.{SameButReads}
-use Rattle.careful_write.specs.State.{StoreState}
+use Rattle.change_set.specs.block_disk.Sizes.{content_start}
+use Rattle.change_set.specs.careful_write.Reads.{SameButReads}
+use Rattle.change_set.specs.careful_write.State.{StoreState}
 use Rattle.file_base.specs.declared.head.FileHead.{FileHead}
 use Rattle.change_set.specs.Buckets.{frame_of, with_frame, with_bucket, with_numbers}
 use Rattle.change_set.specs.Files.{StagesIn, SameFile}

@@ -1,10 +1,10 @@
 -- How a sequential file lies on the disk, and the map that it means.
 use Rattle.std.specs.Prelude.{◌≡◌, ◌≢◌, ◌≤◌, ◌<◌, ◌⊎◌, ℕ, suc, ◌+◌, ◌-◌, ◌*◌, ◌++◌, List, [], ◌∷◌, length, take, drop, map, Option, Some, None, IfSome, IsSomeAnd, if◌then◌else◌, ◌&&◌, nat_le, nat_lt, nat_eq}
 use Rattle.std.specs.List.{All}
-use Rattle.block_disk.specs.Sizes.{content_start}
+use Rattle.change_set.specs.block_disk.Sizes.{content_start}
 use Rattle.file_base.specs.declared.head.FileHead.{FileHead}
 use Rattle.file_base.specs.declared.head.Organization.TheVariants.{Sequential}
-use Rattle.vms_model.specs.Keys.{Key, Number, Text, End}
+use Rattle.file_base.specs.vms_model.Keys.{Key, Number, Text, End}
 use Rattle.change_set.specs.Buckets.{bucket_bytes}
 use Rattle.change_set.specs.Maps.{Map}
 use Rattle.change_set.specs.declared.walk.Place.{Place}

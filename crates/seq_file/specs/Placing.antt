@@ -1,6 +1,6 @@
 -- How slots are placed into buckets, one after the other.
 use Rattle.std.specs.Prelude.{◌≡◌, ◌≤◌, ◌<◌, ℕ, zero, suc, ◌+◌, ◌++◌, List, [], ◌∷◌, length, take, map}
-use Rattle.records_model.specs.Placing.{filled_by, first_bucket}
+use Rattle.change_set.specs.records_model.Placing.{filled_by, first_bucket}
 use Rattle.bucket_page.specs.Pages.{joined}
 
 -- how many buckets the placing of slots of these sizes takes

@@ -2,7 +2,7 @@
 use Rattle.std.specs.Prelude.{◌≡◌, ◌≤◌, ℕ, zero, suc, ◌+◌, ◌-◌, ◌++◌, List, ◌∷◌, length, take, drop, map, Option, Some, None, if◌then◌else◌, nat_le}
 use Rattle.std.specs.List.{slice_get}
 use Rattle.change_set.specs.Maps.{Map, set_key}
-use Rattle.vms_model.specs.Keys.{Number, Text, End}
+use Rattle.file_base.specs.vms_model.Keys.{Number, Text, End}
 
 -- the record of this position, of which the first is 1
 abbrev pub record_at : List (List ℕ) → ℕ → Option (List ℕ)

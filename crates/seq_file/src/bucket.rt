@@ -1,7 +1,7 @@
 //! One bucket of a sequential file, in a frame of a store.
 ghost use Rattle.std.specs.Prelude.{◌↔◌, ◌≡◌, ◌≢◌, ◌≤◌, ◌<◌, ◌+◌, ◌-◌, ◌*◌, ◌++◌, ℕ, List, true, false, [], ◌∷◌, length, take, OnOk, OnErr, IfOk, IfSome, IfNone, slice_set};
-ghost use Rattle.vms_model.specs.Limits.{record_limit};
-ghost use Rattle.careful_write.specs.Down.{answered};
+ghost use Rattle.file_base.specs.vms_model.Limits.{record_limit};
+ghost use Rattle.change_set.specs.careful_write.Down.{answered};
 ghost use Rattle.frame_pool.specs.Pool.{IsOut};
 ghost use Rattle.change_set.specs.Files.{IsPlaced};
 ghost use Rattle.byteorder.specs.Endian.{little_bytes};
@@ -10,14 +10,11 @@ ghost use Rattle.bucket_page.specs.Pages.{slots_of, slot_at, joined, IsBucket};
 ghost use Rattle.seq_file.specs.Layout.{slot_of, record_of, IsRecord};
 ghost use Rattle.seq_file.specs.Frames.{page_in, HasSlots, InFrame, Reads, Settles, ReadsInFrame};
 
-use block_disk::Disk;
 use bucket_page::{Page, PageKind};
 use byteorder::{ByteOrder, LittleEndian};
-use careful_write::{Down, Store};
-use change_set::load_bucket;
-use file_base::{FileHead, splice};
+use change_set::{Disk, Down, Store, load_bucket};
+use file_base::{FileHead, Record, splice};
 use frame_pool::Frame;
-use vms_base::Record;
 
 // The greatest length of a record's slot.
 const SLOT: usize = 8162;

@@ -1,10 +1,10 @@
 //! Positions of a file over a store.
 ghost use Rattle.std.specs.Prelude.{◌≡◌, ◌≤◌, ◌<◌, ◌+◌, ◌-◌, ◌*◌, ℕ, List, true, false, Some, None, length, take, OnOk, OnErr, IfOk, IfSome, IfNone, slice_set};
 ghost use Rattle.std.specs.Option.{option_copied};
-ghost use Rattle.careful_write.specs.Down.{answered};
-ghost use Rattle.careful_write.specs.Reads.{SameButReads};
+ghost use Rattle.change_set.specs.careful_write.Down.{answered};
+ghost use Rattle.change_set.specs.careful_write.Reads.{SameButReads};
 ghost use Rattle.frame_pool.specs.Pool.{IsOut};
-ghost use Rattle.vms_model.specs.Keys.{Number};
+ghost use Rattle.file_base.specs.vms_model.Keys.{Number};
 ghost use Rattle.change_set.specs.Files.{IsPlaced, free_frames};
 ghost use Rattle.seq_file.specs.Records.{list_set, record_at};
 ghost use Rattle.seq_file.specs.Layout.{records_in, asks, head_with, IsRecord, CountsBefore, IsSequential, IsLaidOut, Stands, Suits, TakesAt};
@@ -14,12 +14,9 @@ use crate::bucket::{load_slots, read_record, slots_end};
 use crate::rewrite::{cut_off, set_at};
 use crate::spot::Rewrite;
 use crate::walk::locate;
-use block_disk::Disk;
-use careful_write::{Down, Store};
-use change_set::{Place, give_frame, stage_bucket, take_frame};
-use file_base::FileHead;
+use change_set::{Disk, Down, Place, Store, give_frame, stage_bucket, take_frame};
+use file_base::{FileHead, Record};
 use frame_pool::Frame;
-use vms_base::Record;
 
 // Reads the record of position n by way of a frame. False only where the file is not laid out: a slot whose length is
 // none of its records is read as none.

@@ -1,14 +1,12 @@
 //! The empty sequential file.
 ghost use Rattle.std.specs.Prelude.{◌≡◌, ◌≤◌, ◌<◌, ◌+◌, ◌-◌, ◌*◌, ℕ, List, Option, Some, None, [], length, take, OnOk, OnErr, IfSome};
-ghost use Rattle.careful_write.specs.Down.{Counts};
-ghost use Rattle.careful_write.specs.State.{IsIdle};
+ghost use Rattle.change_set.specs.careful_write.Down.{Counts};
+ghost use Rattle.change_set.specs.careful_write.State.{IsIdle};
 ghost use Rattle.change_set.specs.Files.{IsPlaced, free_frames, in_extent, AgreesOut, LeavesOut};
 ghost use Rattle.seq_file.specs.Layout.{IsSequential, IsFresh, Becomes};
 
 use crate::bucket::clear_page;
-use block_disk::Disk;
-use careful_write::{Down, Store};
-use change_set::{give_frame, stage_bucket, take_frame};
+use change_set::{Disk, Down, Store, give_frame, stage_bucket, take_frame};
 use file_base::FileHead;
 
 /// Writes the one used bucket of a new file, in a group of its own.

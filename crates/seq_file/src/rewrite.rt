@@ -1,11 +1,11 @@
 //! Which bucket a change of a file's records writes. The bucket is left in a frame.
 ghost use Rattle.std.specs.Prelude.{◌≡◌, ◌≢◌, ◌≤◌, ◌<◌, ◌⊎◌, ◌+◌, ◌-◌, ◌*◌, ◌++◌, ℕ, List, true, false, Some, None, [], ◌∷◌, length, take, OnOk, OnErr, IfOk, IfSome, IfNone};
 ghost use Rattle.std.specs.Option.{option_copied};
-ghost use Rattle.block_disk.specs.Sizes.{greatest_disk_size};
-ghost use Rattle.vms_model.specs.Limits.{record_limit};
-ghost use Rattle.careful_write.specs.Down.{answered};
+ghost use Rattle.change_set.specs.block_disk.Sizes.{greatest_disk_size};
+ghost use Rattle.file_base.specs.vms_model.Limits.{record_limit};
+ghost use Rattle.change_set.specs.careful_write.Down.{answered};
 ghost use Rattle.frame_pool.specs.Pool.{IsOut};
-ghost use Rattle.vms_model.specs.Keys.{Number};
+ghost use Rattle.file_base.specs.vms_model.Keys.{Number};
 ghost use Rattle.change_set.specs.Files.{IsPlaced};
 ghost use Rattle.bucket_page.specs.declared.kind.PageKind.TheVariants.{Seq};
 ghost use Rattle.bucket_page.specs.Pages.{slots_of, slot_at, joined, IsBucket};
@@ -16,12 +16,9 @@ ghost use Rattle.seq_file.specs.Frames.{page_in, InFrame, PutBehind, PutAnew, Pu
 use crate::bucket::{clear_page, keep_slots, load_slots, push_slot, replace_slot};
 use crate::spot::{Rewrite, Spot};
 use crate::walk::locate;
-use block_disk::Disk;
-use careful_write::{Down, Store};
-use change_set::Place;
-use file_base::FileHead;
+use change_set::{Disk, Down, Place, Store};
+use file_base::{FileHead, Record};
 use frame_pool::Frame;
-use vms_base::Record;
 
 // Puts a record behind the slots of the last used bucket, which is in a frame, or alone into the next one. None where
 // it does not fit and no bucket is free.

@@ -1,9 +1,9 @@
 //! A sequential file as a map from positions to records.
 ghost use Rattle.std.specs.Prelude.{◌≡◌, ◌≤◌, ◌<◌, ◌+◌, ◌-◌, ◌*◌, ℕ, List, Bool, true, false, Option, Some, None, [], length, take, OnOk, OnErr, IfOk, IfSome, IfNone, option_map};
 ghost use Rattle.std.specs.Option.{option_copied};
-ghost use Rattle.vms_base.specs.Keys.{key_of};
-ghost use Rattle.careful_write.specs.Reads.{SameButReads};
-ghost use Rattle.careful_write.specs.Sizes.{staged_limit};
+ghost use Rattle.file_base.specs.vms_base.Keys.{key_of};
+ghost use Rattle.change_set.specs.careful_write.Reads.{SameButReads};
+ghost use Rattle.change_set.specs.careful_write.Sizes.{staged_limit};
 ghost use Rattle.change_set.specs.Files.{IsPlaced, free_frames, fell, StagesIn, SameFile};
 ghost use Rattle.change_set.specs.Maps.{set_key};
 ghost use Rattle.seq_file.specs.Records.{cut_from};
@@ -11,11 +11,8 @@ ghost use Rattle.seq_file.specs.Layout.{map_of, capacity, used_after, CountsBefo
 
 use crate::file::{cut_positions, need_of, read_position, set_position};
 use crate::make::make_file;
-use block_disk::Disk;
-use careful_write::{Down, Store};
-use change_set::{Held, Place, RecordFile, number_behind};
-use file_base::FileHead;
-use vms_base::{Key, Record};
+use change_set::{Disk, Down, Held, Place, RecordFile, Store, number_behind};
+use file_base::{FileHead, Key, Record};
 
 /// Files whose records stand one behind the other, at the positions from 1 to their number. A record goes into the last
 /// used bucket where it fits, and else into the next one.
@@ -64,7 +61,7 @@ impl RecordFile for SeqFile {
     ghost use Rattle.seq_file.specs.Layout.{map_of, IsSequential, IsFresh, IsLaidOut, Stands, Suits, Takes, asks, used_after, CountsBefore};
     ghost use Rattle.seq_file.specs.Local.{local_law, valid_local_law};
     ghost use Rattle.std.specs.Prelude.{ℕ, ◌*◌, refl};
-    ghost use Rattle.tree_model.specs.Layouts.{no_layout};
+    ghost use Rattle.change_set.specs.tree_model.Layouts.{no_layout};
 
     ghost map = { map_of };
 

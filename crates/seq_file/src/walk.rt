@@ -1,6 +1,6 @@
 //! Where positions stand.
 ghost use Rattle.std.specs.Prelude.{◌≡◌, ◌≤◌, ◌<◌, ◌⊎◌, ◌+◌, ◌-◌, ◌*◌, ◌++◌, ℕ, List, length, OnOk, OnErr, IfOk, IfSome, IfNone};
-ghost use Rattle.careful_write.specs.Down.{answered};
+ghost use Rattle.change_set.specs.careful_write.Down.{answered};
 ghost use Rattle.frame_pool.specs.Pool.{IsOut};
 ghost use Rattle.change_set.specs.Files.{IsPlaced, first_place};
 ghost use Rattle.bucket_page.specs.declared.kind.PageKind.TheVariants.{Seq};
@@ -10,9 +10,7 @@ ghost use Rattle.seq_file.specs.Frames.{page_in, IsAt, IsRead, ReadsInFrame};
 
 use crate::bucket::load_slots;
 use crate::spot::Spot;
-use block_disk::Disk;
-use careful_write::{Down, Store};
-use change_set::Place;
+use change_set::{Disk, Down, Place, Store};
 use file_base::FileHead;
 use frame_pool::Frame;
 

@@ -4,12 +4,12 @@ use Rattle.std.specs.Prelude.{◌==◌, nat_le, IsSome, min}
 use Rattle.std.specs.Option.{is_none}
 use Rattle.seq_file.specs.Records.{record_at, list_set, MaySet}
 use Rattle.seq_file.proofs.RecordLaws.{list_set_none, record_at_take, record_at_past}
-use Rattle.vms_model.specs.Keys.{Key, Number, Text, End}
-use Rattle.records_model.specs.Records.{Change, key_cmp}
+use Rattle.unit_laws.specs.vms_model.Keys.{Key, Number, Text, End}
+use Rattle.unit_laws.specs.records_model.Records.{Change, key_cmp}
 use Rattle.std.specs.Ordering.{eq_by_cmp}
 use Rattle.std.proofs.lemmas.Bool.{false_from_ne_true}
-use Rattle.change_set.proofs.NumberKeys.{same_test, other_test}
-use Rattle.records_model.specs.History.{changes_key}
+use Rattle.seq_file.proofs.change_set.NumberKeys.{same_test, other_test}
+use Rattle.unit_laws.specs.records_model.History.{changes_key}
 use Rattle.unit_laws.specs.Units.{IsImage, is_of, earliest_before, latest_after, moves_end}
 use Rattle.unit_laws.proofs.Tests.{never, both_ways, picked, passed, or_one, or_other, or_either}
 use Rattle.unit_laws.proofs.LiveLemmas.{clash}

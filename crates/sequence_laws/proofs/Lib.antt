@@ -1,3 +1,4 @@
 pub mod SequenceLemmas
 pub mod OthersLemmas
 pub mod ChangeLemmas
+pub mod seq_file

@@ -5,13 +5,13 @@ use Rattle.std.specs.Option.{option_map, is_none}
 use Rattle.std.specs.List.{All, slice_get}
 use Rattle.std.proofs.lemmas.Bool.{false_from_ne_true}
 use Rattle.std.proofs.lemmas.Option.{slice_get-get_or, slice_get_within, get_or_from_slice_get}
-use Rattle.file_base.specs.declared.head.FileHead.{FileHead}
+use Rattle.seq_file.specs.file_base.declared.head.FileHead.{FileHead}
 use Rattle.seq_file.specs.Layout.{IsRecord, capacity}
 use Rattle.seq_file.specs.Placing.{buckets_for}
 use Rattle.seq_file.specs.Records.{record_at, map_of_list, list_set, slot_sizes}
-use Rattle.vms_model.specs.Keys.{Key, Number, Text, End}
-use Rattle.records_model.specs.Records.{Change}
-use Rattle.records_model.specs.History.{changes_key}
+use Rattle.unit_laws.specs.vms_model.Keys.{Key, Number, Text, End}
+use Rattle.unit_laws.specs.records_model.Records.{Change}
+use Rattle.unit_laws.specs.records_model.History.{changes_key}
 use Rattle.unit_laws.specs.Units.{HasImages, IsImage, is_of, earliest_before, moves_end}
 use Rattle.sequence_laws.specs.Undoing.{GoesBack, StandsWhole, goes_in_place, lowest_absent, absent_at, lower, is_taken_away}
 use Rattle.seq_file.proofs.RecordLaws.{record_at_past}

@@ -7,9 +7,9 @@ use Rattle.seq_file.specs.Placing.{buckets_for}
 use Rattle.seq_file.specs.Records.{record_at, map_of_list, list_set, slot_sizes}
 use Rattle.seq_file.proofs.RecordLaws.{list_set_stands, list_set_next, record_at_set, record_at_push, record_at_take, record_at_past}
 use Rattle.seq_file.proofs.PlacingLaws.{prefix_places}
-use Rattle.vms_model.specs.Keys.{Key, Number, Text, End}
-use Rattle.records_model.specs.Records.{Change}
-use Rattle.records_model.specs.History.{changes_key}
+use Rattle.unit_laws.specs.vms_model.Keys.{Key, Number, Text, End}
+use Rattle.unit_laws.specs.records_model.Records.{Change}
+use Rattle.unit_laws.specs.records_model.History.{changes_key}
 use Rattle.unit_laws.specs.Units.{HasImages, IsImage, is_of, earliest_before, latest_after}
 use Rattle.unit_laws.proofs.Tests.{both_ways, picked}
 use Rattle.unit_laws.proofs.LiveLemmas.{clash}

@@ -1,13 +1,13 @@
 -- The steps by which the changes of one branch in a sequential file are undone, from whatever records there are.
 use Rattle.std.specs.Prelude.{◌≡◌, ℕ, ◌+◌, ◌-◌, ◌<◌, ◌≤◌, List, [], ◌∷◌, ◌++◌, true, false, Some, length, take}
 use Rattle.std.specs.List.{All}
-use Rattle.file_base.specs.declared.head.FileHead.{FileHead}
+use Rattle.seq_file.specs.file_base.declared.head.FileHead.{FileHead}
 use Rattle.seq_file.specs.Layout.{IsRecord, capacity}
 use Rattle.seq_file.specs.Placing.{buckets_for}
 use Rattle.seq_file.specs.Records.{record_at, map_of_list, list_set, slot_sizes, MaySet}
-use Rattle.vms_model.specs.Keys.{Key, Number}
-use Rattle.records_model.specs.Records.{Change}
-use Rattle.records_model.specs.History.{changes_key}
+use Rattle.unit_laws.specs.vms_model.Keys.{Key, Number}
+use Rattle.unit_laws.specs.records_model.Records.{Change}
+use Rattle.unit_laws.specs.records_model.History.{changes_key}
 use Rattle.unit_laws.specs.Units.{HasImages, HasLatest, earliest_before, moves_end}
 use Rattle.sequence_laws.specs.Undoing.{GoesBack, AllInPlace, goes_in_place, lowest_absent, is_taken_away}
 

@@ -1,13 +1,13 @@
 -- How the changes of one branch in a sequential file are undone: positions at its end are taken away, and others set back.
 use Rattle.std.specs.Prelude.{◌≡◌, ℕ, ◌≤◌, ◌==◌, List, [], ◌∷◌, Bool, true, false, Option, Some, None, IsSome, ◌⊎◌, if◌then◌else◌, nat_le, min, length}
 use Rattle.std.specs.List.{All}
-use Rattle.file_base.specs.declared.head.FileHead.{FileHead}
+use Rattle.seq_file.specs.file_base.declared.head.FileHead.{FileHead}
 use Rattle.seq_file.specs.Layout.{IsRecord, capacity}
 use Rattle.seq_file.specs.Placing.{buckets_for}
 use Rattle.seq_file.specs.Records.{record_at, slot_sizes}
-use Rattle.vms_model.specs.Keys.{Number, Text, End}
-use Rattle.records_model.specs.Records.{Change}
-use Rattle.records_model.specs.History.{changes_key}
+use Rattle.unit_laws.specs.vms_model.Keys.{Number, Text, End}
+use Rattle.unit_laws.specs.records_model.Records.{Change}
+use Rattle.unit_laws.specs.records_model.History.{changes_key}
 use Rattle.unit_laws.specs.Units.{earliest_before, latest_after, IsImage}
 
 -- The lowest position at which a branch found no record: of the positions from there on its undo may take away. There is none where the branch put no record

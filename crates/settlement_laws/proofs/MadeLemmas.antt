@@ -20,25 +20,25 @@ use Rattle.unit_laws.specs.Journal.{RecoveryUnit, SettledEntry, end_of, find_uni
 use Rattle.unit_laws.specs.JournalLaws.{is_unit}
 use Rattle.unit_laws.proofs.TrimLemmas.{settles_unit}
 use Rattle.lmcp_log.specs.Keeping.{SameSlots}
-use Rattle.run_model.specs.World.{Node, Settlement}
-use Rattle.volume.specs.declared.catalog.Catalog.{Catalog}
-use Rattle.volume.specs.Catalogs.{IsSound, TellsCatalog, TellsEntry}
-use Rattle.volume.specs.Limits.{EntryFits, SaveFits, data_area}
-use Rattle.volume.specs.State.{VolumeState}
+use Rattle.world_laws.specs.run_model.World.{Node, Settlement}
+use Rattle.lmcp_log.specs.volume.declared.catalog.Catalog.{Catalog}
+use Rattle.lmcp_log.specs.volume.Catalogs.{IsSound, TellsCatalog, TellsEntry}
+use Rattle.lmcp_log.specs.volume.Limits.{EntryFits, SaveFits, data_area}
+use Rattle.lmcp_log.specs.volume.State.{VolumeState}
 use Rattle.volume_format.specs.Home.{IsHome, HasHome as TellsHome, HasRu, home_block_of, home_rows, ru_block_of, ru_rows, sizes_of}
 use Rattle.volume_format.specs.declared.home.Home.{Home}
 use Rattle.volume_format.specs.declared.home.Ending.{Ending}
 use Rattle.volume_format.proofs.Homes.{home_wide, home_written}
 use Rattle.volume_format.proofs.Splices.{laid_again, laid_stand, length-laid}
-use Rattle.volume_files.proofs.Places.{fit_of}
-use Rattle.directory_model.specs.Files.{AgreesOnFile, Fit, head_at}
-use Rattle.directory_model.proofs.Apart.{writes_apart}
-use Rattle.volume_model.specs.Entries.{entry_for}
-use Rattle.volume_model.specs.Homes.{HasHome}
-use Rattle.volume_model.specs.Volumes.{HasJournal}
-use Rattle.file_images.specs.Files.{SameRing}
+use Rattle.volume_laws.proofs.volume_files.Places.{fit_of}
+use Rattle.volume_laws.specs.directory_model.Files.{AgreesOnFile, Fit, head_at}
+use Rattle.volume_laws.proofs.directory_model.Apart.{writes_apart}
+use Rattle.volume_laws.specs.volume_model.Entries.{entry_for}
+use Rattle.volume_laws.specs.volume_model.Homes.{HasHome}
+use Rattle.volume_laws.specs.volume_model.Volumes.{HasJournal}
+use Rattle.volume_laws.specs.file_images.Files.{SameRing}
 use Rattle.volume_laws.specs.Journals.{settled_entries}
-use Rattle.file_images.proofs.Rings.{journal_stands}
+use Rattle.volume_laws.proofs.file_images.Rings.{journal_stands}
 use Rattle.unit_table.specs.Units.{OpenUnit}
 use Rattle.unit_journal.specs.Entries.{settled_entry}
 use Rattle.unit_journal.specs.Settling.{content_with, entry_if, from_earliest, settled_home, span_with, with_front}

@@ -10,15 +10,15 @@ use Rattle.journal_model.specs.Entries.{Entry}
 use Rattle.journal_model.specs.Ring.{IsJournal, ring_size}
 use Rattle.unit_laws.specs.Journal.{end_of, with_settled}
 use Rattle.unit_laws.specs.JournalLaws.{is_unit}
-use Rattle.run_model.specs.World.{Node, Settlement, with_settlement}
+use Rattle.world_laws.specs.run_model.World.{Node, Settlement, with_settlement}
 use Rattle.world_laws.specs.Ordered as ordered
-use Rattle.volume.specs.declared.catalog.Catalog.{Catalog}
-use Rattle.volume.specs.Catalogs.{IsSound, TellsCatalog}
-use Rattle.volume.specs.State.{VolumeState}
+use Rattle.lmcp_log.specs.volume.declared.catalog.Catalog.{Catalog}
+use Rattle.lmcp_log.specs.volume.Catalogs.{IsSound, TellsCatalog}
+use Rattle.lmcp_log.specs.volume.State.{VolumeState}
 use Rattle.volume_format.specs.declared.home.Ending.{Ending}
-use Rattle.directory_model.specs.Files.{AgreesOnFile, head_at}
-use Rattle.volume_model.specs.Homes.{HasHome, settlement_of}
-use Rattle.volume_model.specs.Volumes.{HasJournal}
+use Rattle.volume_laws.specs.directory_model.Files.{AgreesOnFile, head_at}
+use Rattle.volume_laws.specs.volume_model.Homes.{HasHome, settlement_of}
+use Rattle.volume_laws.specs.volume_model.Volumes.{HasJournal}
 use Rattle.volume_laws.specs.Journals.{settled_entries}
 use Rattle.unit_table.specs.Units.{OpenUnit}
 use Rattle.unit_journal.specs.Entries.{settled_entry}

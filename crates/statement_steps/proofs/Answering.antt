@@ -2,13 +2,13 @@
 use Rattle.std.specs.Prelude.{slice_get}
 use Rattle.std.proofs.Common.{◌≡◌, ℕ, ◌+◌, List, [], ◌∷◌, ◌++◌, length, Bool, true, false, Some, None, refl, sym, ◌∙◌, subst, append-nil}
 use Rattle.vms_model.specs.Ids.{Id}
-use Rattle.transcript_model.specs.Lines.{InDoubt, Line, Normal}
+use Rattle.world_laws.specs.transcript_model.Lines.{InDoubt, Line, Normal}
 use Rattle.commit_protocol.specs.Messages.{Message}
 use Rattle.commit_protocol.specs.Rows.{Got, row}
-use Rattle.run_model.specs.World.{DiskCounts, Node, Shared, World, disk_of, find_node, tm_of}
-use Rattle.run_model.specs.Answers.{Hears}
-use Rattle.run_model.specs.Steps.{NodeStep}
-use Rattle.run_model.specs.Statements.{Asks, answer_in}
+use Rattle.world_laws.specs.run_model.World.{DiskCounts, Node, Shared, World, disk_of, find_node, tm_of}
+use Rattle.world_laws.specs.run_model.Answers.{Hears}
+use Rattle.world_laws.specs.run_model.Steps.{NodeStep}
+use Rattle.world_laws.specs.run_model.Statements.{Asks, answer_in}
 use Rattle.statement_steps.specs.Doing.{DoesParts, IsWithin, moved}
 use Rattle.statement_steps.specs.Settling.{AreUp, Asking, asks, doubts_of, question_in}
 use Rattle.statement_steps.proofs.Asking.{answer_comes, answer_leaves, asking_ended, asking_leaves, asking_stays}

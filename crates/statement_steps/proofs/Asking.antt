@@ -2,17 +2,17 @@
 use Rattle.std.specs.Prelude.{slice_get}
 use Rattle.std.proofs.Common.{◌≡◌, ℕ, ◌+◌, List, [], ◌∷◌, ◌++◌, length, Bool, true, false, Some, None, inl, inr, refl, sym, ◌∙◌, ap, subst, append_assoc, append-nil, length-append, arith}
 use Rattle.vms_model.specs.Ids.{Id}
-use Rattle.transcript_model.specs.Lines.{Line, Normal}
+use Rattle.world_laws.specs.transcript_model.Lines.{Line, Normal}
 use Rattle.commit_protocol.specs.Agreement.{Distinct}
 use Rattle.commit_protocol.specs.Messages.{Message}
 use Rattle.commit_protocol.specs.Rows.{Got, row}
 use Rattle.commit_protocol.specs.Table.{without}
 use Rattle.commit_protocol.specs.World.{In}
 use Rattle.commit_protocol.proofs.Lists.{in_right, same_id-refl, told_id}
-use Rattle.run_model.specs.World.{DiskCounts, Node, Shared, World, tm_of}
-use Rattle.run_model.specs.Answers.{Hears}
-use Rattle.run_model.specs.Steps.{NodeStep}
-use Rattle.run_model.specs.Statements.{Asks, answer_in}
+use Rattle.world_laws.specs.run_model.World.{DiskCounts, Node, Shared, World, tm_of}
+use Rattle.world_laws.specs.run_model.Answers.{Hears}
+use Rattle.world_laws.specs.run_model.Steps.{NodeStep}
+use Rattle.world_laws.specs.run_model.Statements.{Asks, answer_in}
 use Rattle.world_laws.specs.Nodes.{IsKeptNode}
 use Rattle.statement_steps.specs.Doing.{DoesParts}
 use Rattle.statement_steps.specs.Settling.{Asking, asks, doubts_of, question_in}

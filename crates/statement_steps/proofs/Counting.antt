@@ -1,14 +1,14 @@
 -- Counts of disks that do not fall, and what they allow.
 use Rattle.std.proofs.Common.{◌≡◌, ℕ, ◌≤◌, List, [], ◌∷◌, Bool, true, false, Option, Some, None, if◌then◌else◌, inl, inr, length, refl, sym, ap, subst, arith}
 use Rattle.std.specs.Str.{bytes_eq}
-use Rattle.transcript_model.specs.Outside.{Rose}
-use Rattle.transcript_model.specs.Lines.{Cause, Failed, Stopped}
-use Rattle.run_model.specs.World.{DiskCounts, Node, Outturn, Shared, World, disk_of, find_node, powered}
-use Rattle.run_model.specs.Answers.{Hears, Service, Task, powers, refused_before_reading, spoils, task_service}
-use Rattle.run_model.specs.Steps.{Choice, Cut, TaskAllowed, Unpowered, Whole, WithoutMemory, count_of, cut, ready_node, rows_to_cut, task_effect, whole, with_unknown_volume, without_power}
-use Rattle.run_model.specs.Statements.{Allowed, AllowedAt, AllowedOf, Asks, Does, Doubtful, Heard, NoneFalls, Part, Question, RoseAt, Unanswered, question, stops_at}
-use Rattle.run_model.proofs.NodeLists.{none_falls_at}
-use Rattle.run_model.proofs.PartLemmas.{allowed_here, here_allowed}
+use Rattle.world_laws.specs.transcript_model.Outside.{Rose}
+use Rattle.world_laws.specs.transcript_model.Lines.{Cause, Failed, Stopped}
+use Rattle.world_laws.specs.run_model.World.{DiskCounts, Node, Outturn, Shared, World, disk_of, find_node, powered}
+use Rattle.world_laws.specs.run_model.Answers.{Hears, Service, Task, powers, refused_before_reading, spoils, task_service}
+use Rattle.world_laws.specs.run_model.Steps.{Choice, Cut, TaskAllowed, Unpowered, Whole, WithoutMemory, count_of, cut, ready_node, rows_to_cut, task_effect, whole, with_unknown_volume, without_power}
+use Rattle.world_laws.specs.run_model.Statements.{Allowed, AllowedAt, AllowedOf, Asks, Does, Doubtful, Heard, NoneFalls, Part, Question, RoseAt, Unanswered, question, stops_at}
+use Rattle.world_laws.proofs.run_model.NodeLists.{none_falls_at}
+use Rattle.world_laws.proofs.run_model.PartLemmas.{allowed_here, here_allowed}
 
 -- neither count of a disk falls
 abbrev pub Grows : DiskCounts → DiskCounts → Type 0

@@ -1,12 +1,12 @@
 -- A settling goes from node to node.
 use Rattle.std.specs.Prelude.{slice_get}
 use Rattle.std.proofs.Common.{◌≡◌, ℕ, suc, List, [], ◌∷◌, ◌++◌, Bool, true, false, Some, if◌then◌else◌, refl, sym, ◌∙◌, ap, subst, append-nil}
-use Rattle.transcript_model.specs.Lines.{Line, Normal}
-use Rattle.script_model.specs.Statements.{Settle}
-use Rattle.run_model.specs.World.{DiskCounts, Node, Shared, World}
-use Rattle.run_model.specs.Answers.{Restarts, RunsDown}
-use Rattle.run_model.specs.Steps.{NodeStep}
-use Rattle.run_model.specs.Statements.{Does, Part, begun_with}
+use Rattle.world_laws.specs.transcript_model.Lines.{Line, Normal}
+use Rattle.world_laws.specs.script_model.Statements.{Settle}
+use Rattle.world_laws.specs.run_model.World.{DiskCounts, Node, Shared, World}
+use Rattle.world_laws.specs.run_model.Answers.{Restarts, RunsDown}
+use Rattle.world_laws.specs.run_model.Steps.{NodeStep}
+use Rattle.world_laws.specs.run_model.Statements.{Does, Part, begun_with}
 use Rattle.statement_steps.specs.Doing.{DoesParts, IsWithin, moved}
 use Rattle.statement_steps.specs.Settling.{Through, restart_of, run_down_of}
 use Rattle.statement_steps.proofs.OneParts.{step_on}

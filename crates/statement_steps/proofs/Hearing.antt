@@ -3,7 +3,7 @@ use Rattle.std.proofs.Common.{◌≡◌, ◌⊎◌, List, [], ◌∷◌, inl, in
 use Rattle.std.specs.List.{list_any}
 use Rattle.vms_model.specs.Ids.{Id}
 use Rattle.vms_model.specs.Transactions.{Abort as ToAbort, Aborted, Commit as ToCommit, Outcome, Reason}
-use Rattle.transcript_model.specs.Lines.{Line}
+use Rattle.world_laws.specs.transcript_model.Lines.{Line}
 use Rattle.commit_protocol.specs.Allowed.{is_prepared}
 use Rattle.commit_protocol.specs.Messages.{Abort, AbortEvent, Ack, Commit, CommitEvent, Inquire, Kind, LogRecord, Message, Name, RmEvent, same_id}
 use Rattle.commit_protocol.specs.Rows.{Got, RunDown, abort_row, abort_state, answer, answer_state, commit_row, commit_state, down, interested, owing, row, tells, up}
@@ -13,10 +13,10 @@ use Rattle.commit_protocol.specs.Agreement.{Distinct}
 use Rattle.commit_protocol.specs.World.{arranged}
 use Rattle.commit_protocol.proofs.Lists.{find_serial-key, find_serial-serial, in_left}
 use Rattle.commit_protocol.proofs.Serials.{parts_apart, there_serial}
-use Rattle.run_model.specs.World.{Act, DiskCounts, Node, Shared, Tables, acted, next_moment, shared_after, tm_of}
-use Rattle.run_model.specs.Answers.{Hears, Restarts, RunsDown, table_rows, task_service}
-use Rattle.run_model.specs.Steps.{NodeStep, node_after_rows}
-use Rattle.run_model.specs.Statements.{answer_in, answer_of}
+use Rattle.world_laws.specs.run_model.World.{Act, DiskCounts, Node, Shared, Tables, acted, next_moment, shared_after, tm_of}
+use Rattle.world_laws.specs.run_model.Answers.{Hears, Restarts, RunsDown, table_rows, task_service}
+use Rattle.world_laws.specs.run_model.Steps.{NodeStep, node_after_rows}
+use Rattle.world_laws.specs.run_model.Statements.{answer_in, answer_of}
 use Rattle.run_agreement.proofs.Going.{table_rows_keep, went_on}
 use Rattle.run_agreement.proofs.Serving.{serves_up}
 use Rattle.world_laws.specs.Nodes.{IsKeptNode}

@@ -2,13 +2,13 @@
 use Rattle.std.specs.Prelude.{slice_get}
 use Rattle.std.proofs.Common.{◌≡◌, ℕ, zero, suc, List, [], ◌∷◌, Bool, true, false, Option, Some, if◌then◌else◌, refl, subst}
 use Rattle.std.specs.Str.{bytes_eq}
-use Rattle.transcript_model.specs.Lines.{Line}
-use Rattle.script_model.specs.Statements.{At, Deliver, LinkDown, Settle, Statement}
-use Rattle.run_model.specs.World.{DiskCounts, Node, Shared, World, disk_of, find_node, with_counts, with_node}
-use Rattle.run_model.specs.Answers.{Task}
-use Rattle.run_model.specs.Steps.{NodeStep}
-use Rattle.run_model.specs.Statements.{begun_with}
-use Rattle.run_model.proofs.NodeLists.{none_falls_on, none_falls_put, none_falls_same, some_is}
+use Rattle.world_laws.specs.transcript_model.Lines.{Line}
+use Rattle.world_laws.specs.script_model.Statements.{At, Deliver, LinkDown, Settle, Statement}
+use Rattle.world_laws.specs.run_model.World.{DiskCounts, Node, Shared, World, disk_of, find_node, with_counts, with_node}
+use Rattle.world_laws.specs.run_model.Answers.{Task}
+use Rattle.world_laws.specs.run_model.Steps.{NodeStep}
+use Rattle.world_laws.specs.run_model.Statements.{begun_with}
+use Rattle.world_laws.proofs.run_model.NodeLists.{none_falls_on, none_falls_put, none_falls_same, some_is}
 use Rattle.run_agreement.specs.Laws.{NamesApart}
 use Rattle.world_laws.specs.Nodes.{IsKeptNode, StepsKeepNodes, StepsKeepOthers}
 use Rattle.statement_steps.specs.Doing.{AllKept, IsWithin, moved}

@@ -1,16 +1,16 @@
 -- One part: a step of its node, or nothing.
 use Rattle.std.specs.Prelude.{not}
 use Rattle.std.proofs.Common.{◌≡◌, ℕ, List, [], ◌∷◌, Bool, true, false, Option, Some, None, if◌then◌else◌, refl, sym, ◌∙◌, ap, subst, append-nil, arith}
-use Rattle.transcript_model.specs.Outside.{Rose}
-use Rattle.transcript_model.specs.Lines as line
-use Rattle.transcript_model.specs.Lines.{Cause, Line, Normal}
-use Rattle.run_model.specs.World.{DiskCounts, Node, Shared, World, disk_of, find_node, with_counts}
-use Rattle.run_model.specs.Answers.{Service, Task, powers, refused_before_reading, task_service}
-use Rattle.run_model.specs.Steps.{Choice, Cut, NodeStep, Unpowered, Whole, WithoutMemory, begun, count_of, ready_node, service_effect, task_effect, whole}
-use Rattle.run_model.specs.Statements.{Asks, Does, NoneFalls, Part, PartEffect}
-use Rattle.run_model.specs.StepLaws.{PartStep, task_of_part}
-use Rattle.run_model.proofs.Lifting.{node_steps}
-use Rattle.run_model.proofs.NodeLists.{counts_put, none_falls_at, none_falls_put, some_is}
+use Rattle.world_laws.specs.transcript_model.Outside.{Rose}
+use Rattle.world_laws.specs.transcript_model.Lines as line
+use Rattle.world_laws.specs.transcript_model.Lines.{Cause, Line, Normal}
+use Rattle.world_laws.specs.run_model.World.{DiskCounts, Node, Shared, World, disk_of, find_node, with_counts}
+use Rattle.world_laws.specs.run_model.Answers.{Service, Task, powers, refused_before_reading, task_service}
+use Rattle.world_laws.specs.run_model.Steps.{Choice, Cut, NodeStep, Unpowered, Whole, WithoutMemory, begun, count_of, ready_node, service_effect, task_effect, whole}
+use Rattle.world_laws.specs.run_model.Statements.{Asks, Does, NoneFalls, Part, PartEffect}
+use Rattle.world_laws.specs.run_model.StepLaws.{PartStep, task_of_part}
+use Rattle.world_laws.proofs.run_model.Lifting.{node_steps}
+use Rattle.world_laws.proofs.run_model.NodeLists.{counts_put, none_falls_at, none_falls_put, some_is}
 use Rattle.statement_steps.specs.Doing.{Behind, DoesParts, IsPlain, Walked, as_begun, moved}
 use Rattle.statement_steps.proofs.Counting.{Grows, allowed_as, count_grows, counts_before, rose_over, same_effect}
 

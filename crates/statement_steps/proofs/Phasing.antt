@@ -1,12 +1,12 @@
 -- From the parts of each phase to the step of a statement.
 use Rattle.std.proofs.Common.{◌≡◌, ℕ, List, [], ◌∷◌, ◌++◌, inl, inr, Bool, true, false, Some, None, refl, sym, ap, subst, append-nil}
-use Rattle.transcript_model.specs.Lines.{Line, Normal}
-use Rattle.script_model.specs.Statements.{At, Deliver, LinkDown, Settle, Statement}
-use Rattle.run_model.specs.World.{DiskCounts, Node, World, find_node}
-use Rattle.run_model.specs.Answers.{Task}
-use Rattle.run_model.specs.Statements.{Does, NoneFalls, Phase, Phases, Step, begun_with, is_up, phases_of, refused_at_once, where_up}
-use Rattle.run_model.proofs.NodeLists.{none_falls_on, none_falls_same}
-use Rattle.run_model.proofs.PartLemmas.{begins_so}
+use Rattle.world_laws.specs.transcript_model.Lines.{Line, Normal}
+use Rattle.world_laws.specs.script_model.Statements.{At, Deliver, LinkDown, Settle, Statement}
+use Rattle.world_laws.specs.run_model.World.{DiskCounts, Node, World, find_node}
+use Rattle.world_laws.specs.run_model.Answers.{Task}
+use Rattle.world_laws.specs.run_model.Statements.{Does, NoneFalls, Phase, Phases, Step, begun_with, is_up, phases_of, refused_at_once, where_up}
+use Rattle.world_laws.proofs.run_model.NodeLists.{none_falls_on, none_falls_same}
+use Rattle.world_laws.proofs.run_model.PartLemmas.{begins_so}
 use Rattle.statement_steps.specs.Doing.{DoesParts, DoesPhases, as_begun}
 use Rattle.statement_steps.proofs.Walking.{does_on, parts_ended, parts_on, walked_later}
 

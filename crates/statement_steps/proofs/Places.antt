@@ -5,12 +5,12 @@ use Rattle.std.specs.List.{list_any}
 use Rattle.std.specs.Str.{bytes_eq}
 use Rattle.std.proofs.lemmas.Bool.{both_ways, false_from_ne_true}
 use Rattle.std.proofs.lemmas.Slice.Eq.{bytes_eq-Decides}
-use Rattle.transcript_model.specs.Lines.{Line}
-use Rattle.run_model.specs.World.{DiskCounts, Node, Shared, disk_of, find_node, with_counts, with_node}
-use Rattle.run_model.specs.Answers.{Task}
-use Rattle.run_model.specs.Steps.{NodeStep}
-use Rattle.run_model.proofs.NodeLists.{some_is}
-use Rattle.run_model.proofs.TaskLemmas.{effect_name}
+use Rattle.world_laws.specs.transcript_model.Lines.{Line}
+use Rattle.world_laws.specs.run_model.World.{DiskCounts, Node, Shared, disk_of, find_node, with_counts, with_node}
+use Rattle.world_laws.specs.run_model.Answers.{Task}
+use Rattle.world_laws.specs.run_model.Steps.{NodeStep}
+use Rattle.world_laws.proofs.run_model.NodeLists.{some_is}
+use Rattle.world_laws.proofs.run_model.TaskLemmas.{effect_name}
 use Rattle.run_agreement.specs.Laws.{NamesApart}
 
 -- a node keeps its name

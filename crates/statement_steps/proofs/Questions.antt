@@ -3,20 +3,20 @@ use Rattle.std.specs.Option.{option_and_then}
 use Rattle.std.proofs.Common.{◌≡◌, ℕ, List, [], ◌∷◌, Bool, true, false, Option, Some, None, if◌then◌else◌, inl, inr, refl, sym, ◌∙◌, ap, subst}
 use Rattle.vms_model.specs.Ids.{Id}
 use Rattle.records_model.specs.History.{same_id as said_id}
-use Rattle.transcript_model.specs.Lines as line
-use Rattle.transcript_model.specs.Lines.{Line, Normal}
+use Rattle.world_laws.specs.transcript_model.Lines as line
+use Rattle.world_laws.specs.transcript_model.Lines.{Line, Normal}
 use Rattle.commit_protocol.specs.Allowed.{is_prepared}
 use Rattle.commit_protocol.specs.Messages.{Inquire, Message}
 use Rattle.commit_protocol.specs.Rows.{Got, row, up}
 use Rattle.commit_protocol.specs.Table.{Branch, coordinator_of, find_serial}
 use Rattle.commit_protocol.proofs.Lists.{find_serial-serial, told_id}
-use Rattle.run_model.specs.World.{DiskCounts, Node, Shared, World, disk_of, find_branch, find_node, tm_of}
-use Rattle.run_model.specs.Answers.{Hears}
-use Rattle.run_model.specs.Steps.{Choice, NodeStep, WithoutMemory}
-use Rattle.run_model.specs.Statements.{Allowed, AllowedAt, AllowedOf, Asks, Doubtful, Heard, NoneFalls, Part, PartEffect, Unanswered, answer_in, answer_of, asked, asking, done_at, in_doubt, part_effect, question, question_effect}
-use Rattle.run_model.specs.StepLaws.{asked_by}
-use Rattle.run_model.proofs.NodeLists.{none_falls_same, some_is}
-use Rattle.run_model.proofs.ReplyLemmas.{same_found}
+use Rattle.world_laws.specs.run_model.World.{DiskCounts, Node, Shared, World, disk_of, find_branch, find_node, tm_of}
+use Rattle.world_laws.specs.run_model.Answers.{Hears}
+use Rattle.world_laws.specs.run_model.Steps.{Choice, NodeStep, WithoutMemory}
+use Rattle.world_laws.specs.run_model.Statements.{Allowed, AllowedAt, AllowedOf, Asks, Doubtful, Heard, NoneFalls, Part, PartEffect, Unanswered, answer_in, answer_of, asked, asking, done_at, in_doubt, part_effect, question, question_effect}
+use Rattle.world_laws.specs.run_model.StepLaws.{asked_by}
+use Rattle.world_laws.proofs.run_model.NodeLists.{none_falls_same, some_is}
+use Rattle.world_laws.proofs.run_model.ReplyLemmas.{same_found}
 use Rattle.statement_steps.specs.Doing.{Behind, DoesParts, Walked, as_begun, moved}
 use Rattle.statement_steps.specs.Settling.{question_in, question_of}
 use Rattle.statement_steps.proofs.OneParts.{does_task}

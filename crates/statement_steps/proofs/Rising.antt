@@ -2,8 +2,8 @@
 use Rattle.std.specs.Prelude.{slice_get, slice_set}
 use Rattle.std.specs.Str.{bytes_eq}
 use Rattle.std.proofs.Common.{◌≡◌, ℕ, zero, suc, ◌≤◌, List, [], ◌∷◌, length, take, Bool, true, false, Option, Some, if◌then◌else◌, sym, ◌∙◌, ap, subst}
-use Rattle.run_model.specs.World.{Node, find_node, with_node}
-use Rattle.run_model.proofs.NodeLists.{some_is}
+use Rattle.world_laws.specs.run_model.World.{Node, find_node, with_node}
+use Rattle.world_laws.proofs.run_model.NodeLists.{some_is}
 use Rattle.run_agreement.specs.Laws.{NamesApart}
 use Rattle.statement_steps.specs.Settling.{AreUp}
 use Rattle.statement_steps.proofs.Places.{put_at}

@@ -2,18 +2,18 @@
 use Rattle.std.specs.Prelude.{not, ◌||◌}
 use Rattle.std.specs.Str.{bytes_eq}
 use Rattle.std.proofs.Common.{◌≡◌, ℕ, List, [], ◌∷◌, ◌++◌, Bool, true, false, Option, Some, None, if◌then◌else◌, refl, sym, ◌∙◌, ap, subst, arith}
-use Rattle.transcript_model.specs.Lines as line
-use Rattle.transcript_model.specs.Lines.{Line, Normal}
-use Rattle.script_model.specs.Statements.{At, Clock, Deliver, LinkDown, Request, Settle, Statement}
+use Rattle.world_laws.specs.transcript_model.Lines as line
+use Rattle.world_laws.specs.transcript_model.Lines.{Line, Normal}
+use Rattle.world_laws.specs.script_model.Statements.{At, Clock, Deliver, LinkDown, Request, Settle, Statement}
 use Rattle.commit_protocol.specs.Messages.{Message}
-use Rattle.run_model.specs.World.{Clocks, DiskCounts, Lost, Node, Shared, World, acted, disk_of, find_node, with_counts, with_node}
-use Rattle.run_model.specs.Operations.{first_of, refused_if}
-use Rattle.run_model.specs.Answers.{LosesLink, Serves, Takes, Task, Ticks, powers, refused_before_reading, service, task_service}
-use Rattle.run_model.specs.Steps.{NodeStep, TaskEffect, Whole, task_effect, whole}
-use Rattle.run_model.specs.Statements.{Does, NoneFalls, Step, all_questions, begun_with, message_at, named_node, other_node, refused_at_once, restarts_of, run_downs_of, where_up}
-use Rattle.run_model.specs.StepLaws.{task_of}
-use Rattle.run_model.proofs.Lifting.{node_steps}
-use Rattle.run_model.proofs.NodeLists.{none_falls_same, put_node}
+use Rattle.world_laws.specs.run_model.World.{Clocks, DiskCounts, Lost, Node, Shared, World, acted, disk_of, find_node, with_counts, with_node}
+use Rattle.world_laws.specs.run_model.Operations.{first_of, refused_if}
+use Rattle.world_laws.specs.run_model.Answers.{LosesLink, Serves, Takes, Task, Ticks, powers, refused_before_reading, service, task_service}
+use Rattle.world_laws.specs.run_model.Steps.{NodeStep, TaskEffect, Whole, task_effect, whole}
+use Rattle.world_laws.specs.run_model.Statements.{Does, NoneFalls, Step, all_questions, begun_with, message_at, named_node, other_node, refused_at_once, restarts_of, run_downs_of, where_up}
+use Rattle.world_laws.specs.run_model.StepLaws.{task_of}
+use Rattle.world_laws.proofs.run_model.Lifting.{node_steps}
+use Rattle.world_laws.proofs.run_model.NodeLists.{none_falls_same, put_node}
 use Rattle.statement_steps.specs.Doing.{DoesParts, IsPlain, as_begun, moved}
 use Rattle.statement_steps.specs.Settling.{asks_of, each_node, restart_of, run_down_of}
 use Rattle.statement_steps.proofs.OneParts.{does_task}

@@ -1,14 +1,14 @@
 -- One node after another in a phase of a settling.
 use Rattle.std.specs.Prelude.{slice_get}
 use Rattle.std.proofs.Common.{◌≡◌, ℕ, zero, suc, ◌≤◌, List, [], ◌∷◌, ◌++◌, length, take, drop, Bool, true, false, Some, if◌then◌else◌, refl, sym, ◌∙◌, ap, subst, append_assoc, append-nil, arith}
-use Rattle.transcript_model.specs.Lines.{Line, Normal}
+use Rattle.world_laws.specs.transcript_model.Lines.{Line, Normal}
 use Rattle.commit_protocol.specs.Allowed.{is_prepared}
 use Rattle.commit_protocol.specs.Table.{Branch}
 use Rattle.commit_protocol.specs.World.{arranged}
-use Rattle.run_model.specs.World.{DiskCounts, Node, Shared, World}
-use Rattle.run_model.specs.Answers.{Restarts, RunsDown, Task, powers, task_service}
-use Rattle.run_model.specs.Steps.{NodeStep}
-use Rattle.run_model.specs.Statements.{Asks, Does, NoneFalls, Part, all_questions, questions_of, restarts_of, run_downs_of}
+use Rattle.world_laws.specs.run_model.World.{DiskCounts, Node, Shared, World}
+use Rattle.world_laws.specs.run_model.Answers.{Restarts, RunsDown, Task, powers, task_service}
+use Rattle.world_laws.specs.run_model.Steps.{NodeStep}
+use Rattle.world_laws.specs.run_model.Statements.{Asks, Does, NoneFalls, Part, all_questions, questions_of, restarts_of, run_downs_of}
 use Rattle.run_agreement.specs.Laws.{NamesApart}
 use Rattle.statement_steps.specs.Doing.{DoesParts, IsPlain, moved}
 use Rattle.statement_steps.specs.Settling.{Through, asks, asks_of, each_node, in_doubt_of, restart_of, run_down_of}

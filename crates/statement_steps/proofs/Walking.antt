@@ -1,9 +1,9 @@
 -- Parts one after another.
 use Rattle.std.proofs.Common.{◌≡◌, List, [], ◌∷◌, ◌++◌, Bool, true, false, refl, sym, ◌∙◌, ap, subst, append_assoc}
-use Rattle.transcript_model.specs.Lines.{Line, Normal}
-use Rattle.run_model.specs.World.{World, DiskCounts}
-use Rattle.run_model.specs.Statements.{NoneFalls, Onward, Part, PartEffect, Parts, Then, part_effect}
-use Rattle.run_model.proofs.NodeLists.{none_falls_on, none_falls_same}
+use Rattle.world_laws.specs.transcript_model.Lines.{Line, Normal}
+use Rattle.world_laws.specs.run_model.World.{World, DiskCounts}
+use Rattle.world_laws.specs.run_model.Statements.{NoneFalls, Onward, Part, PartEffect, Parts, Then, part_effect}
+use Rattle.world_laws.proofs.run_model.NodeLists.{none_falls_on, none_falls_same}
 use Rattle.statement_steps.specs.Doing.{Behind, Deed, DoesParts, Walked, as_begun}
 use Rattle.statement_steps.proofs.Counting.{allowed_later}
 

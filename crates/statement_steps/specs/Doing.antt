@@ -1,13 +1,13 @@
 -- How the parts of a statement are done one after another, each by its node, in worlds whose disks have the counts of then. Each part reads the counts that stood
 -- when the statement began, and may do what those allow that stand when it has ended.
 use Rattle.std.specs.Prelude.{◌≡◌, ◌⊎◌, List, [], ◌∷◌, ◌++◌, Bool, true, false, ℕ}
-use Rattle.transcript_model.specs.Lines.{Line, Normal}
+use Rattle.world_laws.specs.transcript_model.Lines.{Line, Normal}
 use Rattle.run_agreement.specs.Laws.{NamesApart}
 use Rattle.world_laws.specs.Nodes.{IsKeptNode}
-use Rattle.run_model.specs.World.{World, Node, Shared, DiskCounts, with_counts, with_node}
-use Rattle.run_model.specs.Answers.{Task, task_service}
-use Rattle.run_model.specs.Steps.{Choice}
-use Rattle.run_model.specs.Statements.{Allowed, NoneFalls, Part, PartEffect, Phase, part_effect}
+use Rattle.world_laws.specs.run_model.World.{World, Node, Shared, DiskCounts, with_counts, with_node}
+use Rattle.world_laws.specs.run_model.Answers.{Task, task_service}
+use Rattle.world_laws.specs.run_model.Steps.{Choice}
+use Rattle.world_laws.specs.run_model.Statements.{Allowed, NoneFalls, Part, PartEffect, Phase, part_effect}
 
 -- a world with the counts that its disks had when the statement began
 abbrev pub as_begun : List DiskCounts → World → World

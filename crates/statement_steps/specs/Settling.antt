@@ -2,16 +2,16 @@
 use Rattle.std.specs.Prelude.{◌≡◌, ℕ, List, [], ◌∷◌, ◌++◌, true, false, Option, Some, None, if◌then◌else◌, length, take, drop}
 use Rattle.std.specs.Option.{option_and_then}
 use Rattle.vms_model.specs.Ids.{Id}
-use Rattle.transcript_model.specs.Lines.{Line, Normal}
+use Rattle.world_laws.specs.transcript_model.Lines.{Line, Normal}
 use Rattle.commit_protocol.specs.Agreement.{Distinct}
 use Rattle.commit_protocol.specs.Allowed.{is_prepared}
 use Rattle.commit_protocol.specs.Messages.{Inquire, Message}
 use Rattle.commit_protocol.specs.Rows.{up}
 use Rattle.commit_protocol.specs.Table.{Branch, find_serial}
 use Rattle.commit_protocol.specs.World.{arranged}
-use Rattle.run_model.specs.World.{DiskCounts, Node, World}
-use Rattle.run_model.specs.Answers.{Restarts, RunsDown}
-use Rattle.run_model.specs.Statements.{Asks, Does, Part}
+use Rattle.world_laws.specs.run_model.World.{DiskCounts, Node, World}
+use Rattle.world_laws.specs.run_model.Answers.{Restarts, RunsDown}
+use Rattle.world_laws.specs.run_model.Statements.{Asks, Does, Part}
 use Rattle.statement_steps.specs.Doing.{DoesParts}
 
 -- each of these nodes is up

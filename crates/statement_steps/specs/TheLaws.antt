@@ -1,17 +1,17 @@
 -- How the steps of single nodes make the step of a statement.
 use Rattle.std.specs.Prelude.{◌≡◌, ℕ, List, [], ◌∷◌, ◌++◌, Bool, true, false, Some, None}
 use Rattle.vms_model.specs.Ids.{Id}
-use Rattle.transcript_model.specs.Lines.{InDoubt, Line, NoSuchNode, Normal}
-use Rattle.script_model.specs.Statements.{Settle, Statement}
+use Rattle.world_laws.specs.transcript_model.Lines.{InDoubt, Line, NoSuchNode, Normal}
+use Rattle.world_laws.specs.script_model.Statements.{Settle, Statement}
 use Rattle.commit_protocol.specs.Messages.{Message}
 use Rattle.commit_protocol.specs.Rows.{Got, row}
 use Rattle.commit_protocol.specs.Table.{without}
 use Rattle.run_agreement.specs.Laws.{NamesApart}
-use Rattle.run_model.specs.World.{DiskCounts, Node, Shared, World, disk_of, find_node, tm_of}
-use Rattle.run_model.specs.Answers.{Hears, Task, powers, task_service}
-use Rattle.run_model.specs.Steps.{NodeStep}
-use Rattle.run_model.specs.Statements.{Asks, NoneFalls, Part, Step, answer_in, begun_with, phases_of, refused_at_once}
-use Rattle.run_model.specs.StepLaws.{task_of_part}
+use Rattle.world_laws.specs.run_model.World.{DiskCounts, Node, Shared, World, disk_of, find_node, tm_of}
+use Rattle.world_laws.specs.run_model.Answers.{Hears, Task, powers, task_service}
+use Rattle.world_laws.specs.run_model.Steps.{NodeStep}
+use Rattle.world_laws.specs.run_model.Statements.{Asks, NoneFalls, Part, Step, answer_in, begun_with, phases_of, refused_at_once}
+use Rattle.world_laws.specs.run_model.StepLaws.{task_of_part}
 use Rattle.world_laws.specs.Nodes.{IsKeptNode}
 use Rattle.statement_steps.specs.Doing.{AllKept, DoesParts, DoesPhases, IsPlain, IsWithin, moved}
 use Rattle.statement_steps.specs.Settling.{asks_of, doubts_of, each_node, question_in, restart_of, run_down_of}

@@ -8,7 +8,7 @@ use Rattle.std.specs.declared.cmp.Ordering.{Ordering}
 use Rattle.std.specs.declared.cmp.Ordering.TheVariants.{Less, Equal, Greater}
 use Rattle.std.specs.Hash as fed
 use Rattle.std.specs.Hash.{HashWrites}
-use Rattle.vms_model.specs.Keys.{Key, Number, Text, End}
+use Rattle.vms_base.specs.vms_model.Keys.{Key, Number, Text, End}
 use Rattle.records_model.specs.Records.{key_cmp}
 use Rattle.records_model.proofs.KeyLemmas.{key_cmp_total, key_cmp-IsAntisymmetric}
 

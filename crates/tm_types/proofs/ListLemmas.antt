@@ -1,7 +1,7 @@
 -- Lists that a loop makes, element by element, and tests of each element.
 use Rattle.std.proofs.Common.{◌≡◌, ℕ, ◌+◌, ◌<◌, ◌≤◌, Bool, true, false, List, [], ◌∷◌, ◌++◌, Option, Some, length, map, get_or, drop, refl, ap, sym, ◌∙◌, append_assoc, not, if◌then◌else◌, arith}
 use Rattle.std.proofs.lemmas.List.{at_drop_more, at_drop_all, append-nil, length_push}
-use Rattle.vms_model.specs.Ids.{Id}
+use Rattle.vms_base.specs.vms_model.Ids.{Id}
 use Rattle.commit_protocol.specs.Messages.{Message, ReadOnly, Abort}
 use Rattle.commit_protocol.specs.Messages as model
 use Rattle.commit_protocol.specs.Table as table

@@ -1,14 +1,14 @@
 // The accepted serials and the managers of a branch.
 ghost use Rattle.std.specs.Prelude.{◌≡◌, ◌<◌, ◌≤◌, ◌&&◌, [], ◌∷◌, ◌++◌, length, map, not};
 ghost use Rattle.std.specs.List.{list_any};
-ghost use Rattle.vms_model.specs.Limits.{bid_limit};
+ghost use Rattle.vms_base.specs.vms_model.Limits.{bid_limit};
 ghost use Rattle.commit_protocol.specs.Rows.{has_bid, has_serial, is_yes, is_noted, joined_as, all_taken, all_voted, serials, yes_of, others, told_abort, to_each, lacks_vote, note_vote, asks, joined, interested, all_replied, note_reply};
 ghost use Rattle.std.specs.Option.{option_map};
 ghost use Rattle.commit_protocol.specs.Allowed.{answers, answers_waiting};
 ghost use Rattle.commit_protocol.specs.Messages.{Abort, same_id as same_id_of, same_name};
 ghost use Rattle.commit_protocol.specs.Table.{holding};
 ghost use Rattle.vms_base.specs.Ids.{bid_of, serial_of};
-ghost use Rattle.vms_model.specs.Ids.{Id as ModelId};
+ghost use Rattle.vms_base.specs.vms_model.Ids.{Id as ModelId};
 ghost use Rattle.net_wire.specs.Messages.{kind_of};
 ghost use Rattle.tm_types.specs.Parts.{child_of, manager_of, rm_event_of, reply_of, is_read_only};
 
@@ -55,7 +55,7 @@ pub struct BidList {
 
 impl Model for BidList {
     ghost use Rattle.std.specs.Prelude.{◌≡◌, ◌≤◌, List, take, length};
-    ghost use Rattle.vms_model.specs.Limits.{bid_limit};
+    ghost use Rattle.vms_base.specs.vms_model.Limits.{bid_limit};
     ghost use Rattle.vms_base.specs.declared.ids.Bid.{Bid};
 
     ghost Value = { List Bid };
@@ -139,7 +139,7 @@ pub struct ChildList {
 
 impl Model for ChildList {
     ghost use Rattle.std.specs.Prelude.{◌≡◌, ◌≤◌, List, take, length};
-    ghost use Rattle.vms_model.specs.Limits.{bid_limit};
+    ghost use Rattle.vms_base.specs.vms_model.Limits.{bid_limit};
     ghost use Rattle.tm_types.specs.declared.lists.Child.{Child};
 
     ghost Value = { List Child };

@@ -4,9 +4,9 @@ use Rattle.std.proofs.Math.Seq.{drop-cons}
 use Rattle.std.proofs.lemmas.Grind.{common_steps, get_or_default_zero}
 use Rattle.std.proofs.lemmas.List.{take_more_set}
 use Rattle.std.specs.Option.{option_map, IfSome}
-use Rattle.transcript_model.specs.Outside.{ahead}
-use Rattle.transcript_model.specs.Script.{ScriptLine, HasNoFeed, lines_of, BeginsTooLong}
-use Rattle.transcript_model.proofs.ScriptLemmas.{no_feed_on, line_to_feed, line_to_end, line_too_long, script_too_long}
+use Rattle.emitter_model.specs.transcript_model.Outside.{ahead}
+use Rattle.emitter_model.specs.transcript_model.Script.{ScriptLine, HasNoFeed, lines_of, BeginsTooLong}
+use Rattle.emitter_model.proofs.transcript_model.ScriptLemmas.{no_feed_on, line_to_feed, line_to_end, line_too_long, script_too_long}
 
 pub range_cons : (xs : List ℕ) (i j : ℕ) → i < j → j ≤ length xs → slice_range xs i j ≡ get_or xs i 0 ∷ slice_range xs (i + 1) j
 range_cons xs i j h k =

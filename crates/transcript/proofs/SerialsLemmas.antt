@@ -6,7 +6,7 @@ use Rattle.vms_model.specs.Ids.{Id}
 use Rattle.vms_model.specs.Texts.{id_text}
 use Rattle.vms_base.specs.Ids.{serial_of}
 use Rattle.vms_base.specs.declared.ids.Serial.{Serial}
-use Rattle.transcript_model.specs.Lines.{ids_text, list_text}
+use Rattle.emitter_model.specs.transcript_model.Lines.{ids_text, list_text}
 
 flat_map_over : {A B : Type 0} (f : B → List ℕ) (g : A → B) (xs : List A) → flat_map f (map g xs) ≡ flat_map (λ x. f (g x)) xs
 flat_map_over f g [] = refl

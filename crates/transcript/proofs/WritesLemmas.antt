@@ -1,8 +1,8 @@
 -- One more write.
 use Rattle.std.proofs.Common.{◌≡◌, ℕ, ◌≤◌, List, [], ◌++◌, Option, take, drop, refl, sym, ◌∙◌, append_assoc, arith}
 use Rattle.std.proofs.lemmas.List.{take-append-drop}
-use Rattle.transcript_model.specs.Outside.{behind}
-use Rattle.transcript_model.proofs.OutsideLemmas.{behind_none, behind_on}
+use Rattle.emitter_model.specs.transcript_model.Outside.{behind}
+use Rattle.emitter_model.proofs.transcript_model.OutsideLemmas.{behind_none, behind_on}
 use Rattle.transcript.specs.Writes.{WritesUpTo}
 
 pub writes_none : (s : Option (List ℕ)) (n : ℕ) (bytes : List ℕ) → WritesUpTo s n bytes bytes s n

@@ -7,7 +7,7 @@ use Rattle.vms_base.specs.Keys.{key_of}
 use Rattle.vms_base.specs.Outcomes.{outcome_of, reason_of}
 use Rattle.net_wire.specs.Messages.{message_of}
 use Rattle.tm_types.specs.Parts.{rm_event_of, log_record_of}
-use Rattle.transcript_model.specs.Lines as model
+use Rattle.emitter_model.specs.transcript_model.Lines as model
 use Rattle.transcript.specs.declared.form.Cause.{Cause}
 use Rattle.transcript.specs.declared.form.Cause.TheVariants as cause
 use Rattle.transcript.specs.declared.form.Quota.{Quota}

@@ -2,8 +2,8 @@
 use Rattle.std.specs.Prelude.{◌≡◌, ◌≢◌, ℕ, ◌+◌, ◌<◌, ◌≤◌, ◌⊎◌, List, [], ◌∷◌, ◌++◌, Option, take, length, slice_range, IfSome}
 use Rattle.std.specs.Option.{option_map}
 use Rattle.vms_model.specs.Limits.{line_size_limit, script_size_limit}
-use Rattle.transcript_model.specs.Outside.{ahead, Rose}
-use Rattle.transcript_model.specs.Script.{ScriptLine, lines_of, size_of, HasNoFeed, BeginsTooLong, IsWithinLimits}
+use Rattle.emitter_model.specs.transcript_model.Outside.{ahead, Rose}
+use Rattle.emitter_model.specs.transcript_model.Script.{ScriptLine, lines_of, size_of, HasNoFeed, BeginsTooLong, IsWithinLimits}
 use Rattle.transcript.specs.declared.lines.LineReader.{LineReader}
 use Rattle.transcript.specs.declared.lines.Next.{Next}
 use Rattle.transcript.specs.declared.lines.Next.TheVariants as next

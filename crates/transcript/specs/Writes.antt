@@ -1,6 +1,6 @@
 -- What a loop of writes does.
 use Rattle.std.specs.Prelude.{◌≡◌, ℕ, ◌≤◌, List, [], ◌++◌, Bool, true, false, Option}
-use Rattle.transcript_model.specs.Outside.{behind, Rose}
+use Rattle.emitter_model.specs.transcript_model.Outside.{behind, Rose}
 
 -- A sink that showed old, with the count before, now shows new, with the count after: some front of the
 -- bytes was written, and rest was not. Where rest is not empty, a write failed.

@@ -5,8 +5,8 @@ ghost use Rattle.vms_model.specs.Texts.{id_text};
 ghost use Rattle.vms_base.specs.Ids.{tid_of, serial_of, bid_of};
 ghost use Rattle.vms_base.specs.Outcomes.{outcome_of, reason_of};
 ghost use Rattle.net_wire.specs.Messages.{kind_of, message_of};
-ghost use Rattle.transcript_model.specs.Lines as model;
-ghost use Rattle.transcript_model.specs.Lines.{line_words, kind_text as kind_text_of, branch_text, bid_text, message_text, ending_text, ids_text};
+ghost use Rattle.emitter_model.specs.transcript_model.Lines as model;
+ghost use Rattle.emitter_model.specs.transcript_model.Lines.{line_words, kind_text as kind_text_of, branch_text, bid_text, message_text, ending_text, ids_text};
 ghost use Rattle.transcript.specs.Buffered.{Appends};
 ghost use Rattle.transcript.specs.Emitters.{kept_by};
 

@@ -2,7 +2,7 @@
 ghost use Rattle.std.specs.Prelude.{◌≡◌, ◌≢◌, ◌+◌, ◌<◌, ◌≤◌, if◌then◌else◌, List, [], ℕ, Option, IfOk};
 ghost use Rattle.std.specs.Option.{option_map};
 ghost use Rattle.vms_model.specs.Limits.{script_size_limit};
-ghost use Rattle.transcript_model.specs.Script.{lines_of, size_of, IsWithinLimits};
+ghost use Rattle.emitter_model.specs.transcript_model.Script.{lines_of, size_of, IsWithinLimits};
 ghost use Rattle.transcript.specs.Reading.{IsSound, Takes, ReadsNext, Counts, begun_line, pending, script_line, lines_ahead, taken_bytes};
 
 use crate::outside::Source;

@@ -3,8 +3,8 @@ ghost use Rattle.std.specs.Prelude.{◌≡◌, ◌∷◌, ◌++◌, flat_map, ma
 ghost use Rattle.vms_model.specs.Texts.{id_text};
 ghost use Rattle.vms_base.specs.Ids.{tid_of, serial_of};
 ghost use Rattle.tm_types.specs.Parts.{rm_event_of, log_record_of};
-ghost use Rattle.transcript_model.specs.Lines as model;
-ghost use Rattle.transcript_model.specs.Lines.{line_words, list_text, event_text as event_text_of, record_text, standing_text as standing_text_of};
+ghost use Rattle.emitter_model.specs.transcript_model.Lines as model;
+ghost use Rattle.emitter_model.specs.transcript_model.Lines.{line_words, list_text, event_text as event_text_of, record_text, standing_text as standing_text_of};
 ghost use Rattle.transcript.specs.Buffered.{Appends};
 ghost use Rattle.transcript.specs.Emitters.{kept_by};
 ghost use Rattle.transcript.specs.Forms.{standing_of};

@@ -1,6 +1,6 @@
 //! A source and a sink in memory, which fail at the calls that are named.
 ghost use Rattle.std.specs.Prelude.{◌≡◌, ◌||◌, ◌==◌, ◌<◌, ◌≤◌, [], ◌∷◌, ◌++◌, Some, length, take, drop, min, IfOk, OnOk, OnErr, is_err, IfSome, vec_capacity};
-ghost use Rattle.transcript_model.specs.Outside.{Rose, ahead, behind};
+ghost use Rattle.emitter_model.specs.transcript_model.Outside.{Rose, ahead, behind};
 
 use crate::outside::{Failed, Sink, Source};
 use std::alloc::{AllocError, Global};

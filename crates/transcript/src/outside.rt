@@ -1,6 +1,6 @@
 //! The bytes of a script, and the bytes of a transcript.
 ghost use Rattle.std.specs.Prelude.{◌≡◌, ◌<◌, ◌≤◌, List, [], ℕ, Option, length, take, OnErr, OnOk, IfOk, IfSome};
-ghost use Rattle.transcript_model.specs.Outside.{Rose, ahead, behind};
+ghost use Rattle.emitter_model.specs.transcript_model.Outside.{Rose, ahead, behind};
 
 use thiserror::Error;
 

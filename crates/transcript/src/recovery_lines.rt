@@ -1,8 +1,8 @@
 // The lines of files' journals of images, of their saves and of their recovery.
 ghost use Rattle.std.specs.Prelude.{◌≡◌, ◌∷◌, ◌++◌};
 ghost use Rattle.vms_model.specs.Times.{CanBeWritten};
-ghost use Rattle.transcript_model.specs.Lines as model;
-ghost use Rattle.transcript_model.specs.Lines.{line_words, quoted_time};
+ghost use Rattle.emitter_model.specs.transcript_model.Lines as model;
+ghost use Rattle.emitter_model.specs.transcript_model.Lines.{line_words, quoted_time};
 ghost use Rattle.transcript.specs.Buffered.{Appends};
 ghost use Rattle.transcript.specs.Emitters.{kept_by};
 

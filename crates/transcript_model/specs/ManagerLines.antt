@@ -1,6 +1,6 @@
 -- Worked lines of resource managers and of the transaction log, byte for byte.
 use Rattle.std.specs.Prelude.{◌≡◌, ℕ, List, [], ◌∷◌, ◌++◌, codes}
-use Rattle.vms_model.specs.Ids.{Id}
+use Rattle.commit_protocol.specs.vms_model.Ids.{Id}
 use Rattle.commit_protocol.specs.Messages.{PrepareEvent, CommitEvent, AbortEvent, OnePhaseEvent, PreparedRecord, CommittedRecord}
 use Rattle.transcript_model.specs.Lines.{Line, ManagerTold, LogEntry, NormalStanding, NormalLog, Pending, NoSuchManager, QuotaExceeded, EndingBranch, CommittedBranch, Declared, Managers, line_text}
 

@@ -1,7 +1,7 @@
 -- Worked lines of image journals, saves and recoveries, byte for byte.
 use Rattle.std.specs.Prelude.{◌≡◌, ℕ, List, Some, None, codes}
-use Rattle.vms_model.specs.Keys.{Number}
-use Rattle.vms_model.specs.Transactions.{Commit}
+use Rattle.commit_protocol.specs.vms_model.Keys.{Number}
+use Rattle.commit_protocol.specs.vms_model.Transactions.{Commit}
 use Rattle.transcript_model.specs.Lines.{ChangeEntry, SettledEntry, NormalSave, NoJournal, NoSave, TooEarly, PositionsMissing, MomentsMissing, AftersFull, BeforesFull}
 use Rattle.transcript_model.specs.ManagerLines.{id, IsShown}
 

@@ -9,3 +9,4 @@ pub mod BackLemmas
 pub mod ZeroLemmas
 pub mod GrowLemmas
 pub mod LoadLemmas
+pub mod records_model

@@ -1,7 +1,7 @@
 -- Trees in which a key is set.
 use Rattle.std.proofs.Common.{◌≡◌, ◌≤◌, ◌+◌, ◌-◌, ◌==◌, ℕ, suc, Bool, true, false, not, List, [], ◌∷◌, length, replicate, Option, if◌then◌else◌, refl, ap, ◌∙◌, subst, arith}
 use Rattle.std.proofs.lemmas.Bool.Decides.{nat_tests}
-use Rattle.vms_model.specs.Keys.{Key, Number, Text, End}
+use Rattle.records_model.specs.vms_model.Keys.{Key, Number, Text, End}
 use Rattle.records_model.specs.Slots.{bytes_before, size_of}
 use Rattle.tree_model.specs.Layouts.{Leaf, Sizes, Layout, level_limit, no_disk_has, used_of, levels_of, most_taken}
 use Rattle.tree_model.specs.Setting.{leaves_with, leaf_place, index_with, layout_with, layout_set, layout_changed}

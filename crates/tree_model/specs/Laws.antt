@@ -1,6 +1,6 @@
 -- What holds of trees.
 use Rattle.std.specs.Prelude.{◌≡◌, ◌≤◌, ◌<◌, ◌+◌, ℕ, suc, Bool, true, false, List, [], ◌∷◌, length, map, replicate, Option, Some, if◌then◌else◌}
-use Rattle.vms_model.specs.Keys.{Key, Text}
+use Rattle.records_model.specs.vms_model.Keys.{Key, Text}
 use Rattle.records_model.specs.Records.{Change}
 use Rattle.records_model.specs.Slots.{Slot, same_bytes, bytes_before, slot_at, lookup, size_of, room_of, put, tidied, IsOrdered}
 use Rattle.records_model.specs.Parts.{bytes_of, added_buckets}

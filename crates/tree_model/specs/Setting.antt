@@ -1,7 +1,7 @@
 -- What becomes of a layout where a key is set, or set back in place.
 use Rattle.std.specs.Prelude.{ℕ, zero, suc, ◌+◌, ◌-◌, ◌/◌, Bool, not, List, [], ◌∷◌, ◌++◌, length, map, Option, if◌then◌else◌, nat_le, nat_lt}
 use Rattle.std.specs.List.{list_any}
-use Rattle.vms_model.specs.Keys.{Key, Number, Text, End}
+use Rattle.records_model.specs.vms_model.Keys.{Key, Number, Text, End}
 use Rattle.records_model.specs.Records.{Change}
 use Rattle.records_model.specs.Slots.{Slot, bytes_before}
 use Rattle.records_model.specs.Chain.{bucket_with, slot_back}

@@ -5,24 +5,24 @@ use Rattle.careful_write.specs.State.{IsEither, Leaves, content}
 use Rattle.vms_base.specs.declared.ids.Serial.{Serial}
 use Rattle.vms_base.specs.declared.ids.Tid.{Tid}
 use Rattle.journal_model.specs.Entries.{Entry}
-use Rattle.commit_protocol.specs.Table as table
-use Rattle.run_model.specs.World.{Node, Act, Settlement, Tables, acted, fallen, settled_file}
+use Rattle.world_laws.specs.commit_protocol.Table as table
+use Rattle.world_laws.specs.run_model.World.{Node, Act, Settlement, Tables, acted, fallen, settled_file}
 use Rattle.file_base.specs.declared.head.Span.{Span}
-use Rattle.file_images.specs.Files.{SameRing}
-use Rattle.image_appends.specs.Settling.{content_from, heads_from}
+use Rattle.unit_undo.specs.file_images.Files.{SameRing}
+use Rattle.image_groups.specs.image_appends.Settling.{content_from, heads_from}
 use Rattle.image_groups.specs.Groups.{EntersLeft, outcome_of}
-use Rattle.directory_model.specs.Files.{Fit}
-use Rattle.directory_model.specs.Laws.{spelled_entry}
+use Rattle.unit_undo.specs.directory_model.Files.{Fit}
+use Rattle.unit_undo.specs.directory_model.Laws.{spelled_entry}
 use Rattle.volume.specs.Limits.{data_area}
 use Rattle.volume_format.specs.Home.{sizes_of}
-use Rattle.volume_laws.proofs.FollowLemmas.{follow}
+use Rattle.settlement_laws.proofs.volume_laws.FollowLemmas.{follow}
 use Rattle.volume.specs.declared.catalog.Catalog.{Catalog}
 use Rattle.volume.specs.Catalogs.{IsSound, TellsCatalog}
 use Rattle.volume.specs.State.{VolumeState}
 use Rattle.volume_format.specs.declared.home.Ending.{Ending}
-use Rattle.volume_model.specs.Homes.{HasHome}
-use Rattle.volume_model.specs.Volumes.{HasDisk, HasJournal, HasLog, LeavesVolume, IsEitherOf, IsLeftBy}
-use Rattle.volume_laws.proofs.ToldLemmas.{logs_follow}
+use Rattle.settlement_laws.specs.volume_model.Homes.{HasHome}
+use Rattle.settlement_laws.specs.volume_model.Volumes.{HasDisk, HasJournal, HasLog, LeavesVolume, IsEitherOf, IsLeftBy}
+use Rattle.settlement_laws.proofs.volume_laws.ToldLemmas.{logs_follow}
 use Rattle.unit_table.specs.Units.{OpenUnit}
 use Rattle.unit_undo.specs.Undoing.{GoesOn}
 use Rattle.unit_undo.specs.Way.{FailsOnTheWay, IsOnTheWay, IsUndone, Undoes}

@@ -1,24 +1,24 @@
 -- A branch of a node is committed on its volume.
 use Rattle.std.proofs.Common.{◌≡◌, ℕ, List, ◌++◌, Option, refl, sym, ◌∙◌, ap, subst}
-use Rattle.commit_protocol.specs.Table as table
+use Rattle.world_laws.specs.commit_protocol.Table as table
 use Rattle.file_base.specs.declared.head.FileHead.{FileHead}
 use Rattle.file_base.specs.declared.head.Span.{Span}
 use Rattle.journal_model.specs.Ring.{IsJournal}
-use Rattle.run_model.specs.World.{Node, Settlement, Tables, acted}
+use Rattle.world_laws.specs.run_model.World.{Node, Settlement, Tables, acted}
 use Rattle.world_laws.proofs.OrderedLemmas.{tables_keep_order}
 use Rattle.volume.specs.Catalogs.{IsSound}
 use Rattle.volume.specs.declared.catalog.Catalog.{Catalog}
-use Rattle.directory_model.specs.Files.{AreFiles, head_at}
-use Rattle.directory_model.specs.Laws.{settled_buckets}
-use Rattle.directory_model.specs.Restoring.{AreRestorable}
-use Rattle.directory_model.proofs.Acts.{keeps_files}
-use Rattle.directory_model.proofs.Standing.{stands_on_extents}
-use Rattle.restart_laws.proofs.StayLemmas.{keeps_restorable}
-use Rattle.restart_laws.proofs.UnitLemmas.{keeps_units}
-use Rattle.volume_model.specs.Laws.{KeepsNames}
-use Rattle.volume_model.specs.Volumes.{HasJournal, HasLog, HasVolume}
-use Rattle.volume_laws.proofs.FollowLemmas.{follow}
-use Rattle.volume_laws.specs.Journals.{settled_entries}
+use Rattle.unit_undo.specs.directory_model.Files.{AreFiles, head_at}
+use Rattle.unit_undo.specs.directory_model.Laws.{settled_buckets}
+use Rattle.unit_undo.specs.directory_model.Restoring.{AreRestorable}
+use Rattle.unit_undo.proofs.directory_model.Acts.{keeps_files}
+use Rattle.unit_undo.proofs.directory_model.Standing.{stands_on_extents}
+use Rattle.image_groups.proofs.restart_laws.StayLemmas.{keeps_restorable}
+use Rattle.image_groups.proofs.restart_laws.UnitLemmas.{keeps_units}
+use Rattle.settlement_laws.specs.volume_model.Laws.{KeepsNames}
+use Rattle.settlement_laws.specs.volume_model.Volumes.{HasJournal, HasLog, HasVolume}
+use Rattle.settlement_laws.proofs.volume_laws.FollowLemmas.{follow}
+use Rattle.settlement_laws.specs.volume_laws.Journals.{settled_entries}
 use Rattle.settlement_laws.specs.Settled.{IsSettled}
 use Rattle.undo_laws.specs.Committed.{CommitsSettle, IsCommit}
 use Rattle.undo_laws.specs.Undone.{AgreeOnFiles, IsTold, IsToldIn}

@@ -7,10 +7,10 @@ use Rattle.records_model.specs.History.{same_id}
 use Rattle.journal_model.specs.Entries.{Entry, spelling}
 use Rattle.journal_model.specs.Ring.{IsJournal}
 use Rattle.unit_laws.proofs.Tests.{and_first}
-use Rattle.unit_entries.specs.Collecting.{AreChangesAt}
-use Rattle.unit_entries.specs.Reading.{AreRead, changes_of, is_change_of, placed}
-use Rattle.unit_entries.proofs.KeyLemmas.{number_is}
-use Rattle.unit_entries.proofs.ReadLemmas.{begins_read, entry_is, entry_stands, read_on}
+use Rattle.unit_undo.specs.unit_entries.Collecting.{AreChangesAt}
+use Rattle.unit_undo.specs.unit_entries.Reading.{AreRead, changes_of, is_change_of, placed}
+use Rattle.unit_undo.proofs.unit_entries.KeyLemmas.{number_is}
+use Rattle.unit_undo.proofs.unit_entries.ReadLemmas.{begins_read, entry_is, entry_stands, read_on}
 
 module _ (c : List (List ℕ)) (s : Span) (es : List Entry) (journal : IsJournal c s es) (serial : Id) where
   abbrev Stand : List (ℕ × Entry) → Type 0

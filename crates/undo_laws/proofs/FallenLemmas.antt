@@ -2,12 +2,12 @@
 use Rattle.std.proofs.Common.{◌≡◌, ℕ, List, Option, None, refl, sym, subst, inl, arith}
 use Rattle.block_disk.specs.Disk.{DiskState}
 use Rattle.careful_write.specs.State.{Leaves}
-use Rattle.run_model.specs.World.{Node, Act, Volume, Sound, Faulty, Barred, Unknown, AreUnitsOf, fallen}
+use Rattle.world_laws.specs.run_model.World.{Node, Act, Volume, Sound, Faulty, Barred, Unknown, AreUnitsOf, fallen}
 use Rattle.volume.specs.declared.catalog.Catalog.{Catalog}
 use Rattle.volume_format.specs.declared.home.Home.{Home}
-use Rattle.volume_model.specs.Homes.{HasHome}
-use Rattle.volume_model.specs.Volumes.{BarsBoots, FailsFirst, HasDisk, LeavesVolume, IsEitherOf}
-use Rattle.volume_laws.proofs.ToldLemmas.{logs_follow}
+use Rattle.settlement_laws.specs.volume_model.Homes.{HasHome}
+use Rattle.settlement_laws.specs.volume_model.Volumes.{BarsBoots, FailsFirst, HasDisk, LeavesVolume, IsEitherOf}
+use Rattle.settlement_laws.proofs.volume_laws.ToldLemmas.{logs_follow}
 use Rattle.undo_laws.specs.Undone.{UndosFail}
 use Rattle.undo_laws.proofs.WayLemmas.{left_on_the_way}
 

@@ -5,7 +5,7 @@ use Rattle.std.proofs.lemmas.Bool.{both_ways}
 use Rattle.file_base.specs.declared.head.FileHead.{FileHead}
 use Rattle.file_base.specs.declared.head.Organization.{Organization as Kept}
 use Rattle.file_base.specs.declared.head.Organization.TheVariants as kept
-use Rattle.record_files.specs.Any.{map_of}
+use Rattle.unit_undo.specs.record_files.Any.{map_of}
 use Rattle.vms_model.specs.Ids.{Id}
 use Rattle.vms_model.specs.Keys.{Key}
 use Rattle.records_model.specs.Records.{Change}
@@ -13,28 +13,28 @@ use Rattle.vms_model.specs.Transactions.{Abort, Reason}
 use Rattle.records_model.specs.History.{LiveChanges, changes_by, changes_key, current, same_id}
 use Rattle.unit_laws.specs.Journal.{Journal, RecoveryUnit, find_unit, units_in}
 use Rattle.unit_laws.specs.Units.{HasLatest, IsOrderly, Map, earliest_before, latest_after, map_in}
-use Rattle.commit_protocol.specs.Messages.{LogRecord}
-use Rattle.commit_protocol.specs.Table as table
-use Rattle.commit_protocol.specs.Table.{Settles}
-use Rattle.run_model.specs.World.{Act, AreUnitsOf, File, IsHalfUndone, IsOnItsWay, IsPreparedUnit, Node, Sequential, Tables, TellsUnits, aborted_prepared, fallen, half_undone, with_half}
+use Rattle.world_laws.specs.commit_protocol.Messages.{LogRecord}
+use Rattle.world_laws.specs.commit_protocol.Table as table
+use Rattle.world_laws.specs.commit_protocol.Table.{Settles}
+use Rattle.world_laws.specs.run_model.World.{Act, AreUnitsOf, File, IsHalfUndone, IsOnItsWay, IsPreparedUnit, Node, Sequential, Tables, TellsUnits, aborted_prepared, fallen, half_undone, with_half}
 use Rattle.world_laws.proofs.HalfLemmas.{noted_half}
 use Rattle.world_laws.proofs.OrderedLemmas.{halves_keep_order}
 use Rattle.world_laws.proofs.PlainLemmas.{end_leaving}
-use Rattle.directory_model.specs.Files.{IsPlace, file_at, head_at, organized_by}
-use Rattle.directory_model.specs.Restoring.{AreLeft, IsPlaceGrouped}
-use Rattle.directory_model.proofs.Places.{file_mapped}
-use Rattle.restart_laws.specs.Halves.{AreHalfFiles, IsPlaceOnItsWay, standing_in}
-use Rattle.restart_laws.proofs.FallLemmas.{falls_leave, groups_leave}
-use Rattle.restart_laws.proofs.HalfLemmas.{directories_are_half}
-use Rattle.restart_laws.proofs.ListLemmas.{both_as}
-use Rattle.restart_laws.proofs.PreparedLemmas.{prepared_stand}
-use Rattle.restart_laws.proofs.RestorableLemmas.{of_one}
+use Rattle.unit_undo.specs.directory_model.Files.{IsPlace, file_at, head_at, organized_by}
+use Rattle.unit_undo.specs.directory_model.Restoring.{AreLeft, IsPlaceGrouped}
+use Rattle.unit_undo.proofs.directory_model.Places.{file_mapped}
+use Rattle.image_groups.specs.restart_laws.Halves.{AreHalfFiles, IsPlaceOnItsWay, standing_in}
+use Rattle.image_groups.proofs.restart_laws.FallLemmas.{falls_leave, groups_leave}
+use Rattle.image_groups.proofs.restart_laws.HalfLemmas.{directories_are_half}
+use Rattle.image_groups.proofs.restart_laws.ListLemmas.{both_as}
+use Rattle.image_groups.proofs.restart_laws.PreparedLemmas.{prepared_stand}
+use Rattle.image_groups.proofs.restart_laws.RestorableLemmas.{of_one}
 use Rattle.unit_undo.specs.Way.{IsOnTheWay, IsPlacePartly}
 use Rattle.volume.specs.declared.catalog.Catalog.{Catalog}
 use Rattle.volume.specs.Catalogs.{IsSound}
-use Rattle.volume_model.specs.Volumes.{HasVolume, IsEitherOf, IsLeftBy, LeavesVolume}
-use Rattle.volume_laws.proofs.FollowLemmas.{follow}
-use Rattle.volume_laws.proofs.ToldLemmas.{logs_follow}
+use Rattle.settlement_laws.specs.volume_model.Volumes.{HasVolume, IsEitherOf, IsLeftBy, LeavesVolume}
+use Rattle.settlement_laws.proofs.volume_laws.FollowLemmas.{follow}
+use Rattle.settlement_laws.proofs.volume_laws.ToldLemmas.{logs_follow}
 use Rattle.undo_laws.specs.Aborted.{AbortsLeave}
 use Rattle.undo_laws.proofs.FallenLemmas.{volume_left_fallen}
 use Rattle.undo_laws.proofs.SettledLemmas.{fell_of}

@@ -8,3 +8,7 @@ pub mod CommitLemmas
 pub mod FallenLemmas
 pub mod AbortLemmas
 pub mod HalfLemmas
+pub mod image_groups
+pub mod settlement_laws
+pub mod unit_entries
+pub mod unit_undo

@@ -17,14 +17,14 @@ use Rattle.journal_model.specs.Entries.{Entry, spelling}
 use Rattle.unit_laws.specs.Journal.{JournalEntry, ChangeEntry, PreparedEntry, SettledEntry, Note, note_of, notes_in, notes_of}
 use Rattle.unit_laws.proofs.Tests.{or_either}
 use Rattle.unit_laws.specs.Units.{is_of}
-use Rattle.run_model.specs.World.{File, Organization, find_file}
+use Rattle.world_laws.specs.run_model.World.{File, Organization, find_file}
 use Rattle.world_laws.specs.Ordered.{IsKeyOf, Suits}
-use Rattle.directory_model.specs.Files.{head_at, organized_by}
-use Rattle.file_images.specs.Images.{key_bytes}
-use Rattle.volume_model.specs.Entries.{AreEntries, IsFileOf, entry_for}
-use Rattle.unit_entries.specs.Keys.{key_by, key_in}
-use Rattle.unit_entries.specs.Reading.{changes_of, is_change_of, placed}
-use Rattle.unit_entries.specs.Told.{before_in, noted, noted_of, notes_of as notes_on}
+use Rattle.unit_undo.specs.directory_model.Files.{head_at, organized_by}
+use Rattle.unit_undo.specs.file_images.Images.{key_bytes}
+use Rattle.settlement_laws.specs.volume_model.Entries.{AreEntries, IsFileOf, entry_for}
+use Rattle.unit_undo.specs.unit_entries.Keys.{key_by, key_in}
+use Rattle.unit_undo.specs.unit_entries.Reading.{changes_of, is_change_of, placed}
+use Rattle.unit_undo.specs.unit_entries.Told.{before_in, noted, noted_of, notes_of as notes_on}
 
 -- a key is spelled so that it is read again
 pub key_read : (o : Kept) (h : FileHead) (key : Key) → IsKeyOf (organized_by o h) key → key_in o (key_bytes key) ≡ Some key

@@ -3,53 +3,53 @@ use Rattle.std.proofs.Common.{◌≡◌, ℕ, ◌+◌, ◌<◌, ◌≤◌, List,
 use Rattle.vms_model.specs.Transactions.{Abort, SegFail}
 use Rattle.journal_model.specs.Entries.{Entry}
 use Rattle.journal_model.specs.Ring.{IsJournal}
-use Rattle.commit_protocol.specs.Table as table
-use Rattle.log_laws.specs.Slots.{slots_after}
-use Rattle.log_laws.proofs.RowSlots.{length_slots}
-use Rattle.run_model.specs.World.{File, IsPreparedUnit, Node, Settlement, Tables, acted, settled_file, settlement, settlement_of, with_prepared, with_settlement}
+use Rattle.world_laws.specs.commit_protocol.Table as table
+use Rattle.world_laws.specs.log_laws.Slots.{slots_after}
+use Rattle.world_laws.proofs.log_laws.RowSlots.{length_slots}
+use Rattle.world_laws.specs.run_model.World.{File, IsPreparedUnit, Node, Settlement, Tables, acted, settled_file, settlement, settlement_of, with_prepared, with_settlement}
 use Rattle.world_laws.specs.Ordered.{MayTable}
 use Rattle.world_laws.proofs.OrderedLemmas.{tables_keep_order}
 use Rattle.file_base.specs.declared.head.Span.{Span}
 use Rattle.volume.specs.Catalogs.{IsSound, TellsCatalog}
 use Rattle.volume_format.specs.declared.home.Home.{Home}
-use Rattle.volume_model.specs.Homes.{HasHome}
+use Rattle.settlement_laws.specs.volume_model.Homes.{HasHome}
 use Rattle.volume.specs.declared.catalog.Catalog.{Catalog}
 use Rattle.volume.specs.State.{VolumeState}
 use Rattle.file_base.specs.declared.head.FileHead.{FileHead}
 use Rattle.block_disk.specs.Blocks.{block_at}
 use Rattle.careful_write.specs.State.{EachWhole}
-use Rattle.file_images.specs.Files.{SameRing}
-use Rattle.record_files.specs.Any.{map_of}
-use Rattle.record_files.specs.Local.{local_law}
-use Rattle.lmcp_log.specs.Keeping.{SameSlots}
+use Rattle.unit_undo.specs.file_images.Files.{SameRing}
+use Rattle.unit_undo.specs.record_files.Any.{map_of}
+use Rattle.unit_undo.specs.record_files.Local.{local_law}
+use Rattle.settlement_laws.specs.lmcp_log.Keeping.{SameSlots}
 use Rattle.records_model.specs.History.{LiveChanges}
 use Rattle.unit_laws.specs.Units.{HasLatest, Map}
 use Rattle.std.specs.List.{AllByRecursion}
 use Rattle.std.specs.Option.{option_map}
 use Rattle.volume.specs.Limits.{data_area}
 use Rattle.volume_format.specs.Home.{sizes_of}
-use Rattle.image_appends.specs.Settling.{content_from, heads_from}
+use Rattle.image_groups.specs.image_appends.Settling.{content_from, heads_from}
 use Rattle.image_groups.specs.Groups.{AllDressed, Enters, EntersLeft, outcome_of}
 use Rattle.image_groups.proofs.Left.{enters_outcome_left}
 use Rattle.image_groups.proofs.Outcomes.{enters_outcome}
-use Rattle.directory_model.specs.Files.{AgreesOnFile, AreFiles, file_at, head_at}
-use Rattle.directory_model.specs.Laws.{carrying, settled_buckets, spelled_entry}
-use Rattle.directory_model.specs.Restoring.{AreLeft, AreRestorable, CanRestore, IsPlaceLeft, IsPlacePrepared, IsPlaceRestorable, StandPrepared}
-use Rattle.directory_model.proofs.Acts.{keeps_files, settled_directory}
-use Rattle.directory_model.proofs.Places.{file_mapped}
-use Rattle.restart_laws.specs.Restorable.{IsDressed, SameLive}
-use Rattle.directory_model.proofs.Standing.{stands_on_extents}
-use Rattle.restart_laws.proofs.FallLemmas.{falls_leave}
-use Rattle.restart_laws.proofs.PreparedLemmas.{prepared_stand, undoes_keep_prepared}
-use Rattle.restart_laws.proofs.RestorableLemmas.{undoes_leave}
-use Rattle.restart_laws.proofs.StandLemmas.{left_stands, prepared_stays}
-use Rattle.restart_laws.proofs.StayLemmas.{keeps_restorable}
-use Rattle.restart_laws.proofs.UnitLemmas.{keeps_units}
-use Rattle.volume_model.specs.Laws.{KeepsNames}
-use Rattle.volume_model.specs.Volumes.{HasJournal, HasLog, HasVolume, LeavesVolume}
-use Rattle.volume_laws.specs.Journals.{settled_entries}
-use Rattle.volume_laws.proofs.FollowLemmas.{follow}
-use Rattle.volume_laws.proofs.ToldLemmas.{logs_follow}
+use Rattle.unit_undo.specs.directory_model.Files.{AgreesOnFile, AreFiles, file_at, head_at}
+use Rattle.unit_undo.specs.directory_model.Laws.{carrying, settled_buckets, spelled_entry}
+use Rattle.unit_undo.specs.directory_model.Restoring.{AreLeft, AreRestorable, CanRestore, IsPlaceLeft, IsPlacePrepared, IsPlaceRestorable, StandPrepared}
+use Rattle.unit_undo.proofs.directory_model.Acts.{keeps_files, settled_directory}
+use Rattle.unit_undo.proofs.directory_model.Places.{file_mapped}
+use Rattle.image_groups.specs.restart_laws.Restorable.{IsDressed, SameLive}
+use Rattle.unit_undo.proofs.directory_model.Standing.{stands_on_extents}
+use Rattle.image_groups.proofs.restart_laws.FallLemmas.{falls_leave}
+use Rattle.image_groups.proofs.restart_laws.PreparedLemmas.{prepared_stand, undoes_keep_prepared}
+use Rattle.image_groups.proofs.restart_laws.RestorableLemmas.{undoes_leave}
+use Rattle.image_groups.proofs.restart_laws.StandLemmas.{left_stands, prepared_stays}
+use Rattle.image_groups.proofs.restart_laws.StayLemmas.{keeps_restorable}
+use Rattle.image_groups.proofs.restart_laws.UnitLemmas.{keeps_units}
+use Rattle.settlement_laws.specs.volume_model.Laws.{KeepsNames}
+use Rattle.settlement_laws.specs.volume_model.Volumes.{HasJournal, HasLog, HasVolume, LeavesVolume}
+use Rattle.settlement_laws.specs.volume_laws.Journals.{settled_entries}
+use Rattle.settlement_laws.proofs.volume_laws.FollowLemmas.{follow}
+use Rattle.settlement_laws.proofs.volume_laws.ToldLemmas.{logs_follow}
 use Rattle.unit_undo.specs.Way.{IsUndone, KeepsJournal}
 use Rattle.settlement_laws.specs.Settled.{IsSettled, MaySettle, noted}
 use Rattle.undo_laws.specs.Undone.{AgreeOnFiles, IsAbort, IsTold, IsToldIn, UndoneSettle}

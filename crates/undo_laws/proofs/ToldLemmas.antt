@@ -3,31 +3,31 @@ use Rattle.std.proofs.Common.{◌≡◌, ℕ, ◌+◌, ◌-◌, ◌≤◌, ◌<�
 use Rattle.std.specs.Option.{option_map}
 use Rattle.block_disk.specs.Blocks.{block_at}
 use Rattle.careful_write.specs.State.{EachWhole}
-use Rattle.commit_protocol.specs.Table as table
+use Rattle.world_laws.specs.commit_protocol.Table as table
 use Rattle.journal_model.specs.Entries.{Entry}
 use Rattle.journal_model.specs.Ring.{IsJournal}
-use Rattle.run_model.specs.World.{File, Node, Settlement, Tables, acted, settled_file, settlement_of}
+use Rattle.world_laws.specs.run_model.World.{File, Node, Settlement, Tables, acted, settled_file, settlement_of}
 use Rattle.file_base.specs.declared.head.FileHead.{FileHead}
 use Rattle.file_base.specs.declared.head.Span.{Span}
-use Rattle.file_images.specs.Files.{SameRing}
-use Rattle.file_images.proofs.Rings.{journal_stands}
+use Rattle.unit_undo.specs.file_images.Files.{SameRing}
+use Rattle.unit_undo.proofs.file_images.Rings.{journal_stands}
 use Rattle.volume.specs.Catalogs.{IsSound, TellsCatalog}
 use Rattle.volume.specs.declared.catalog.Catalog.{Catalog}
 use Rattle.volume.specs.Limits.{data_area}
 use Rattle.volume_format.specs.Home.{sizes_of}
-use Rattle.volume_model.specs.Laws.{KeepsNames}
-use Rattle.volume_model.specs.Volumes.{HasJournal}
-use Rattle.volume_model.proofs.EntryLemmas.{entries_follow}
-use Rattle.image_appends.specs.Settling.{content_from, heads_from}
+use Rattle.settlement_laws.specs.volume_model.Laws.{KeepsNames}
+use Rattle.settlement_laws.specs.volume_model.Volumes.{HasJournal}
+use Rattle.settlement_laws.proofs.volume_model.EntryLemmas.{entries_follow}
+use Rattle.image_groups.specs.image_appends.Settling.{content_from, heads_from}
 use Rattle.image_groups.specs.Groups.{AllDressed, Enters, outcome_of}
 use Rattle.image_groups.proofs.Outcomes.{enters_outcome}
-use Rattle.directory_model.specs.Files.{AreFiles, file_at, head_at}
-use Rattle.directory_model.specs.Laws.{carrying, settled_buckets, spelled_entry}
-use Rattle.directory_model.specs.Restoring.{AreRestorable, CanRestore, IsPlaceRestorable}
-use Rattle.directory_model.proofs.Acts.{settled_directory}
-use Rattle.directory_model.proofs.Places.{file_mapped}
-use Rattle.restart_laws.specs.Restorable.{IsDressed, SameLive}
-use Rattle.restart_laws.proofs.StayLemmas.{keeps_restorable}
+use Rattle.unit_undo.specs.directory_model.Files.{AreFiles, file_at, head_at}
+use Rattle.unit_undo.specs.directory_model.Laws.{carrying, settled_buckets, spelled_entry}
+use Rattle.unit_undo.specs.directory_model.Restoring.{AreRestorable, CanRestore, IsPlaceRestorable}
+use Rattle.unit_undo.proofs.directory_model.Acts.{settled_directory}
+use Rattle.unit_undo.proofs.directory_model.Places.{file_mapped}
+use Rattle.image_groups.specs.restart_laws.Restorable.{IsDressed, SameLive}
+use Rattle.image_groups.proofs.restart_laws.StayLemmas.{keeps_restorable}
 use Rattle.undo_laws.specs.Undone.{IsTold, IsToldIn}
 
 -- the journal of recovery units stands, where its blocks do and files keep their names

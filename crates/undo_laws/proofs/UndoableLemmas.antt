@@ -17,15 +17,15 @@ use Rattle.unit_laws.proofs.LiveLemmas.{id_is}
 use Rattle.unit_laws.specs.Journal.{Journal, note_of}
 use Rattle.unit_laws.specs.JournalLaws.{is_unit}
 use Rattle.unit_laws.specs.Units.{OneMovesEnd}
-use Rattle.run_model.specs.World.{Node, File, Organization, Sequential, OneMovesEndOf, find_file}
+use Rattle.world_laws.specs.run_model.World.{Node, File, Organization, Sequential, OneMovesEndOf, find_file}
 use Rattle.world_laws.specs.Ordered.{IsKeyOf}
 use Rattle.volume.specs.State.{VolumeState, Holds}
-use Rattle.directory_model.specs.Files.{head_at, file_at, organized_by}
-use Rattle.directory_model.specs.Restoring.{IsLeft, IsPlaceLeft}
-use Rattle.directory_model.proofs.Finding.{found_at}
-use Rattle.volume_model.specs.Volumes.{LeavesVolume}
-use Rattle.unit_entries.specs.Told.{notes_of as notes_on}
-use Rattle.unit_entries.proofs.KeyLemmas.{number_is, number_itself}
+use Rattle.unit_undo.specs.directory_model.Files.{head_at, file_at, organized_by}
+use Rattle.unit_undo.specs.directory_model.Restoring.{IsLeft, IsPlaceLeft}
+use Rattle.unit_undo.proofs.directory_model.Finding.{found_at}
+use Rattle.settlement_laws.specs.volume_model.Volumes.{LeavesVolume}
+use Rattle.unit_undo.specs.unit_entries.Told.{notes_of as notes_on}
+use Rattle.unit_undo.proofs.unit_entries.KeyLemmas.{number_is, number_itself}
 use Rattle.unit_undo.specs.Steps.{ArePositions}
 use Rattle.unit_undo.specs.Way.{IsUndoable}
 use Rattle.undo_laws.specs.Undoable.{UnitsAreUndoable, entered_at, entered_by}

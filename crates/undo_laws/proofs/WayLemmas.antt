@@ -4,8 +4,8 @@ use Rattle.std.specs.List.{AllByRecursion}
 use Rattle.std.proofs.lemmas.Bool.{both_ways, false_from_ne_true}
 use Rattle.file_base.specs.declared.head.FileHead.{FileHead}
 use Rattle.file_base.specs.declared.head.Span.{Span}
-use Rattle.lmcp_log.specs.Keeping.{SameSlots}
-use Rattle.record_files.specs.Any.{map_of}
+use Rattle.settlement_laws.specs.lmcp_log.Keeping.{SameSlots}
+use Rattle.unit_undo.specs.record_files.Any.{map_of}
 use Rattle.vms_model.specs.Ids.{Id}
 use Rattle.vms_model.specs.Keys.{Key}
 use Rattle.records_model.specs.Records.{Change}
@@ -15,21 +15,21 @@ use Rattle.unit_laws.proofs.LiveLemmas.{id_is}
 use Rattle.unit_laws.proofs.Tests.{or_one, or_other}
 use Rattle.unit_undo.proofs.BranchLemmas.{not_by}
 use Rattle.unit_laws.specs.Journal.{Journal}
-use Rattle.run_model.specs.World.{Node, File, IsPreparedUnit}
+use Rattle.world_laws.specs.run_model.World.{Node, File, IsPreparedUnit}
 use Rattle.volume.specs.declared.catalog.Catalog.{Catalog}
 use Rattle.volume.specs.Catalogs.{IsSound}
-use Rattle.directory_model.specs.Files.{head_at, file_at}
-use Rattle.directory_model.specs.Restoring.{AreGrouped, IsPlaceGrouped, IsPlaceLeft, IsPlacePrepared}
-use Rattle.restart_laws.proofs.FallLemmas.{groups_leave}
-use Rattle.restart_laws.proofs.ListLemmas.{all_as, both_as}
+use Rattle.unit_undo.specs.directory_model.Files.{head_at, file_at}
+use Rattle.unit_undo.specs.directory_model.Restoring.{AreGrouped, IsPlaceGrouped, IsPlaceLeft, IsPlacePrepared}
+use Rattle.image_groups.proofs.restart_laws.FallLemmas.{groups_leave}
+use Rattle.image_groups.proofs.restart_laws.ListLemmas.{all_as, both_as}
 use Rattle.journal_model.specs.Ring.{IsJournal}
-use Rattle.volume_model.specs.Laws.{KeepsNames}
-use Rattle.volume_model.proofs.EntryLemmas.{entries_follow}
-use Rattle.volume_model.specs.Volumes.{LeavesVolume, IsLeftBy}
-use Rattle.file_images.specs.Files.{SameRing}
-use Rattle.volume_laws.proofs.FollowLemmas.{follow}
-use Rattle.volume_laws.proofs.ToldLemmas.{logs_follow}
-use Rattle.file_images.proofs.Rings.{journal_stands}
+use Rattle.settlement_laws.specs.volume_model.Laws.{KeepsNames}
+use Rattle.settlement_laws.proofs.volume_model.EntryLemmas.{entries_follow}
+use Rattle.settlement_laws.specs.volume_model.Volumes.{LeavesVolume, IsLeftBy}
+use Rattle.unit_undo.specs.file_images.Files.{SameRing}
+use Rattle.settlement_laws.proofs.volume_laws.FollowLemmas.{follow}
+use Rattle.settlement_laws.proofs.volume_laws.ToldLemmas.{logs_follow}
+use Rattle.unit_undo.proofs.file_images.Rings.{journal_stands}
 use Rattle.unit_undo.specs.Way.{IsOnTheWay, IsPlacePartly, KeepsJournal}
 use Rattle.undo_laws.specs.Undone.{UndosLeave, UndosKeepJournal, WaysKeepOthers, WaysKeepPrepared}
 

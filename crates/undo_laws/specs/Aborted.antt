@@ -6,18 +6,18 @@ use Rattle.careful_write.specs.State.{IsEither, Leaves, content}
 use Rattle.vms_base.specs.declared.ids.Serial.{Serial}
 use Rattle.vms_base.specs.declared.ids.Tid.{Tid}
 use Rattle.vms_model.specs.Transactions.{Abort, Reason}
-use Rattle.commit_protocol.specs.Messages.{LogRecord}
-use Rattle.commit_protocol.specs.Table as table
-use Rattle.commit_protocol.specs.Table.{Key, Settles}
-use Rattle.run_model.specs.World.{Node, Act, Settlement, Tables, acted, fallen}
+use Rattle.world_laws.specs.commit_protocol.Messages.{LogRecord}
+use Rattle.world_laws.specs.commit_protocol.Table as table
+use Rattle.world_laws.specs.commit_protocol.Table.{Key, Settles}
+use Rattle.world_laws.specs.run_model.World.{Node, Act, Settlement, Tables, acted, fallen}
 use Rattle.volume.specs.declared.catalog.Catalog.{Catalog}
-use Rattle.directory_model.specs.Laws.{spelled_entry}
-use Rattle.image_appends.specs.Settling.{content_from, heads_from}
+use Rattle.unit_undo.specs.directory_model.Laws.{spelled_entry}
+use Rattle.image_groups.specs.image_appends.Settling.{content_from, heads_from}
 use Rattle.image_groups.specs.Groups.{AreToldBy, HaveRoom, outcome_of}
 use Rattle.volume.specs.Catalogs.{IsSound}
 use Rattle.volume.specs.State.{VolumeState, Holds}
 use Rattle.volume_format.specs.declared.home.Ending.{Ending}
-use Rattle.volume_model.specs.Volumes.{HasDisk, HasVolume, IsEitherOf, LeavesVolume}
+use Rattle.settlement_laws.specs.volume_model.Volumes.{HasDisk, HasVolume, IsEitherOf, LeavesVolume}
 use Rattle.unit_table.specs.Units.{OpenUnit}
 use Rattle.unit_undo.specs.Undoing.{GoesOn}
 use Rattle.unit_undo.specs.Way.{Undoes, FailsOnTheWay, IsOnTheWay}

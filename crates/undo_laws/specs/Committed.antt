@@ -1,11 +1,11 @@
 -- A branch of a node is committed on its volume.
 use Rattle.std.specs.Prelude.{◌≡◌, ℕ, List, Some}
 use Rattle.vms_model.specs.Transactions.{Commit}
-use Rattle.commit_protocol.specs.Table as table
-use Rattle.run_model.specs.World.{Node, IsLogInOrder, Settlement, Tables, acted, settlement_of}
+use Rattle.world_laws.specs.commit_protocol.Table as table
+use Rattle.world_laws.specs.run_model.World.{Node, IsLogInOrder, Settlement, Tables, acted, settlement_of}
 use Rattle.volume.specs.declared.catalog.Catalog.{Catalog}
 use Rattle.volume.specs.Catalogs.{IsSound}
-use Rattle.volume_model.specs.Volumes.{HasJournal, HasLog, HasVolume}
+use Rattle.settlement_laws.specs.volume_model.Volumes.{HasJournal, HasLog, HasVolume}
 use Rattle.settlement_laws.specs.Settled.{IsSettled, MaySettle}
 use Rattle.undo_laws.specs.Undone.{AgreeOnFiles, IsTold, IsToldIn}
 

@@ -3,11 +3,11 @@ use Rattle.std.specs.Prelude.{◌≡◌, ℕ, List, [], Some, map, if◌then◌e
 use Rattle.vms_model.specs.Ids.{Id}
 use Rattle.journal_model.specs.Entries.{Entry}
 use Rattle.unit_laws.specs.JournalLaws.{is_unit}
-use Rattle.run_model.specs.World.{Node}
+use Rattle.world_laws.specs.run_model.World.{Node}
 use Rattle.volume.specs.declared.catalog.Catalog.{Catalog}
 use Rattle.volume.specs.State.{VolumeState, Holds}
-use Rattle.volume_model.specs.Volumes.{LeavesVolume}
-use Rattle.unit_entries.specs.Reading.{changes_of, placed, positions_of}
+use Rattle.settlement_laws.specs.volume_model.Volumes.{LeavesVolume}
+use Rattle.unit_undo.specs.unit_entries.Reading.{changes_of, placed, positions_of}
 use Rattle.unit_undo.specs.Way.{IsUndoable}
 
 -- where the changes of a branch begin in the journal of a volume, the oldest first

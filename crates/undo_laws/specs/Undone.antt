@@ -8,21 +8,21 @@ use Rattle.vms_model.specs.Blocks.{log_start}
 use Rattle.careful_write.specs.State.{EachWhole, Leaves}
 use Rattle.vms_model.specs.Ids.{Id}
 use Rattle.vms_model.specs.Transactions.{Abort}
-use Rattle.commit_protocol.specs.Table as table
-use Rattle.run_model.specs.World.{Node, Act, File, IsLogInOrder, IsPreparedUnit, Settlement, Tables, acted, fallen, settlement_of}
+use Rattle.world_laws.specs.commit_protocol.Table as table
+use Rattle.world_laws.specs.run_model.World.{Node, Act, File, IsLogInOrder, IsPreparedUnit, Settlement, Tables, acted, fallen, settlement_of}
 use Rattle.volume.specs.declared.catalog.Catalog.{Catalog}
 use Rattle.volume.specs.Catalogs.{IsSound, TellsCatalog}
 use Rattle.volume.specs.State.{VolumeState}
-use Rattle.directory_model.specs.Restoring.{StandPrepared}
+use Rattle.unit_undo.specs.directory_model.Restoring.{StandPrepared}
 use Rattle.file_base.specs.declared.head.FileHead.{FileHead}
-use Rattle.directory_model.specs.Files.{AgreesOnFile, Fit, head_at}
-use Rattle.directory_model.specs.Laws.{spelled_entry}
-use Rattle.image_appends.specs.Settling.{content_from, heads_from}
+use Rattle.unit_undo.specs.directory_model.Files.{AgreesOnFile, Fit, head_at}
+use Rattle.unit_undo.specs.directory_model.Laws.{spelled_entry}
+use Rattle.image_groups.specs.image_appends.Settling.{content_from, heads_from}
 use Rattle.image_groups.specs.Groups.{AreToldBy, HaveRoom, outcome_of}
 use Rattle.volume.specs.Limits.{data_area}
 use Rattle.volume_format.specs.Home.{sizes_of}
-use Rattle.volume_model.specs.Laws.{KeepsNames}
-use Rattle.volume_model.specs.Volumes.{HasDisk, HasJournal, HasLog, HasVolume, LeavesVolume, IsLeftBy}
+use Rattle.settlement_laws.specs.volume_model.Laws.{KeepsNames}
+use Rattle.settlement_laws.specs.volume_model.Volumes.{HasDisk, HasJournal, HasLog, HasVolume, LeavesVolume, IsLeftBy}
 use Rattle.settlement_laws.specs.Settled.{IsSettled, MaySettle}
 use Rattle.unit_undo.specs.Way.{IsOnTheWay, IsUndone}
 

@@ -4,8 +4,8 @@ use Rattle.std.specs.Prelude.{◌&&◌, ◌||◌, IsSome, slice_index_or}
 use Rattle.block_disk.specs.Disk.{DiskState}
 use Rattle.file_base.specs.declared.head.FileHead.{FileHead}
 use Rattle.file_base.specs.declared.head.Span.{Span}
-use Rattle.journal_model.specs.Entries.{Entry, spelling}
-use Rattle.journal_model.specs.Ring.{ring_size}
+use Rattle.journal_format.specs.journal_model.Entries.{Entry, spelling}
+use Rattle.journal_format.specs.journal_model.Ring.{ring_size}
 use Rattle.unit_journal.specs.Settling.{span_with}
 use Rattle.unit_table.specs.Places.{AreInOrder}
 use Rattle.unit_table.specs.Units.{OpenUnit, Units, begun, changers}
@@ -14,11 +14,11 @@ use Rattle.volume.specs.Catalogs.{IsSound, head_at}
 use Rattle.volume.specs.declared.catalog.Catalog.{Catalog}
 use Rattle.volume.specs.State.{VolumeState}
 use Rattle.unit_undo.specs.Undoing.{GoesOn, Journals, journals_at, journals_of}
-use Rattle.image_appends.specs.declared.side.Side.{Side}
-use Rattle.image_appends.specs.declared.side.Side.TheVariants.{After, Before}
-use Rattle.image_appends.specs.Images.{FileHasRoom, HasRoom, is_kept, span_of}
-use Rattle.image_appends.specs.Settling.{AllHaveRoom, one_if}
-use Rattle.file_settlements.specs.Settling.{heads_settled}
+use Rattle.image_room.specs.image_appends.declared.side.Side.{Side}
+use Rattle.image_room.specs.image_appends.declared.side.Side.TheVariants.{After, Before}
+use Rattle.image_room.specs.image_appends.Images.{FileHasRoom, HasRoom, is_kept, span_of}
+use Rattle.image_room.specs.image_appends.Settling.{AllHaveRoom, one_if}
+use Rattle.kept_files.specs.file_settlements.Settling.{heads_settled}
 use Rattle.image_room.specs.Room.{AllSettlementsFit, ImagesAreLow, IsTooFull, SettlementsFit}
 use Rattle.image_room.proofs.Entered.{Counts, all_less, all_settled_by, long_from, low_settled}
 use Rattle.image_room.proofs.Keeping.{fits_less}

@@ -9,12 +9,12 @@ use Rattle.block_disk.specs.Disk.{DiskState}
 use Rattle.careful_write.specs.State.{IsIdle}
 use Rattle.careful_write.specs.Steps.{Quiet}
 use Rattle.careful_write.proofs.Reading.{idle_read}
-use Rattle.change_set.specs.Files.{free_frames}
+use Rattle.unit_journal.specs.change_set.Files.{free_frames}
 use Rattle.file_base.specs.declared.head.FileHead.{FileHead}
 use Rattle.file_base.specs.declared.head.Span.{Span}
-use Rattle.journal_model.specs.Entries.{Entry}
-use Rattle.journal_model.specs.Ring.{IsJournal, ring_size}
-use Rattle.journal_store.specs.Rings.{IsRing}
+use Rattle.journal_format.specs.journal_model.Entries.{Entry}
+use Rattle.journal_format.specs.journal_model.Ring.{IsJournal, ring_size}
+use Rattle.unit_journal.specs.journal_store.Rings.{IsRing}
 use Rattle.ru_journal.specs.Told.{UnitTold}
 use Rattle.unit_entries.specs.Opening.{AreAlike, AreChangesIn, AreFiledIn, AreFiledOf, AreFilesOf, AscendWithin, BeginWithin, IsAlike}
 use Rattle.unit_entries.specs.Reading.{placed, positions_of}
@@ -35,10 +35,10 @@ use Rattle.volume.proofs.Reading.{store_of_same}
 use Rattle.volume_format.specs.declared.home.Ending.{Ending}
 use Rattle.volume_format.specs.declared.home.Ending.TheVariants as ending
 use Rattle.volume_format.specs.declared.home.Home.{Home}
-use Rattle.file_settlements.specs.Settling.{SettlesFiles, heads_settled}
-use Rattle.image_appends.specs.declared.side.Side.{Side}
-use Rattle.image_appends.specs.declared.side.Side.TheVariants.{After, Before}
-use Rattle.image_appends.specs.Images.{FileHasRoom}
+use Rattle.kept_files.specs.file_settlements.Settling.{SettlesFiles, heads_settled}
+use Rattle.image_room.specs.image_appends.declared.side.Side.{Side}
+use Rattle.image_room.specs.image_appends.declared.side.Side.TheVariants.{After, Before}
+use Rattle.image_room.specs.image_appends.Images.{FileHasRoom}
 use Rattle.image_room.proofs.Entered.{Counts}
 use Rattle.image_room.proofs.Rings.{ring_in}
 use Rattle.image_room.specs.Room.{AllSettlementsFit, ImagesAreLow, SettlementsFit}

@@ -2,10 +2,10 @@
 use Rattle.std.specs.Prelude.{◌≡◌, ◌⊎◌, ◌≤◌, ◌+◌, ◌-◌, ℕ, Bool, true, false, List, [], ◌∷◌, Option}
 use Rattle.block_disk.specs.Sizes.{greatest_disk_size, least_disk_size}
 use Rattle.careful_write.specs.State.{IsIdle}
-use Rattle.change_set.specs.Files.{free_frames}
-use Rattle.journal_model.specs.Entries.{Entry}
-use Rattle.journal_model.specs.Ring.{ring_size}
-use Rattle.journal_store.specs.Rings.{IsRing}
+use Rattle.unit_journal.specs.change_set.Files.{free_frames}
+use Rattle.journal_format.specs.journal_model.Entries.{Entry}
+use Rattle.journal_format.specs.journal_model.Ring.{ring_size}
+use Rattle.unit_journal.specs.journal_store.Rings.{IsRing}
 use Rattle.unit_table.specs.Units.{OpenUnit}
 use Rattle.vms_base.specs.Ids.{serial_of, tid_of}
 use Rattle.vms_base.specs.declared.ids.Serial.{Serial}
@@ -18,8 +18,8 @@ use Rattle.volume_format.specs.declared.home.Ending.TheVariants as ending
 use Rattle.unit_journal.specs.Entries.{settled_entry}
 use Rattle.unit_journal.specs.Groups.{Breaks}
 use Rattle.unit_journal.specs.Settling.{entry_if}
-use Rattle.image_appends.specs.Settling.{AllHaveRoom}
-use Rattle.file_settlements.specs.Settling.{SettlesFiles}
+use Rattle.image_room.specs.image_appends.Settling.{AllHaveRoom}
+use Rattle.kept_files.specs.file_settlements.Settling.{SettlesFiles}
 use Rattle.unit_undo.specs.Undoing.{GoesOn}
 use Rattle.unit_undo.specs.Way.{Undoes, FailsOnTheWay}
 

@@ -4,9 +4,9 @@ use Rattle.std.specs.List.{All, AllByRecursion}
 use Rattle.vms_model.specs.Limits.{branch_limit, entry_limit, file_limit, moment_ceiling}
 use Rattle.block_disk.specs.Sizes.{greatest_disk_size, least_disk_size}
 use Rattle.careful_write.specs.State.{IsIdle}
-use Rattle.change_set.specs.Files.{free_frames}
-use Rattle.journal_model.specs.Entries.{Entry}
-use Rattle.journal_model.specs.Ring.{IsJournal, ring_size}
+use Rattle.unit_journal.specs.change_set.Files.{free_frames}
+use Rattle.journal_format.specs.journal_model.Entries.{Entry}
+use Rattle.journal_format.specs.journal_model.Ring.{IsJournal, ring_size}
 use Rattle.ru_journal.specs.Told.{UnitTold, nothing_told, told_by}
 use Rattle.image_room.specs.Room as room
 use Rattle.image_room.specs.Room.{AllSettlementsFit, ImagesAreLow}

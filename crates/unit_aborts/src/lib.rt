@@ -7,3 +7,4 @@ mod reopening;
 
 pub use aborting::{abort_unit, keys_beside};
 pub use reopening::{AbortedUnit, reopen_units};
+pub use unit_undo::undo_unit;

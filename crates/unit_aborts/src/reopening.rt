@@ -3,11 +3,11 @@ ghost use Rattle.std.specs.Prelude.{◌≡◌, ◌≤◌, ◌<◌, ◌+◌, ◌-
 ghost use Rattle.vms_model.specs.Limits.{branch_limit};
 ghost use Rattle.careful_write.specs.Down.{Counts};
 ghost use Rattle.careful_write.specs.State.{IsReady};
-ghost use Rattle.journal_store.specs.Rings.{IsRing};
+ghost use Rattle.unit_journal.specs.journal_store.Rings.{IsRing};
 ghost use Rattle.image_room.specs.Room.{AllSettlementsFit};
 ghost use Rattle.unit_journal.specs.Groups.{LeavesOld};
-ghost use Rattle.journal_model.specs.Ring.{ring_size};
-ghost use Rattle.tm_types.specs.Parts.{log_record_of};
+ghost use Rattle.journal_format.specs.journal_model.Ring.{ring_size};
+ghost use Rattle.unit_entries.specs.tm_types.Parts.{log_record_of};
 ghost use Rattle.unit_entries.specs.Opening.{AreAlike, AreFiledIn, AscendWithin, BeginWithin};
 ghost use Rattle.unit_entries.specs.Voting.{IsVoted};
 ghost use Rattle.unit_table.specs.Units.{IsFirst, OpenUnit, begun, first_that, is_active, without_first};

@@ -14,8 +14,8 @@ use Rattle.journal_model.specs.Entries.{Entry, IsEntry, spelling}
 use Rattle.journal_model.specs.Ring.{IsJournal, put_byte, put_stream, ring_size}
 use Rattle.journal_store.proofs.Journals.{appended, keeps_others, written_behind}
 use Rattle.journal_store.proofs.Streams.{put_stream-append}
-use Rattle.record_files.specs.Any.{Begins, IsFile, IsLaidOut, layout_of, map_of}
-use Rattle.record_files.specs.Local.{layout_local_law, local_law, valid_local_law}
+use Rattle.volume_files.specs.record_files.Any.{Begins, IsFile, IsLaidOut, layout_of, map_of}
+use Rattle.volume_files.specs.record_files.Local.{layout_local_law, local_law, valid_local_law}
 use Rattle.unit_journal.specs.Entries.{change_entry}
 use Rattle.unit_journal.specs.Spans.{longer}
 use Rattle.vms_model.specs.Ids.{Id}

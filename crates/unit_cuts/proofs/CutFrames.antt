@@ -10,8 +10,8 @@ use Rattle.file_base.specs.declared.head.Organization.TheVariants.{Sequential}
 use Rattle.file_base.specs.declared.head.Span.{Span}
 use Rattle.journal_model.specs.Entries.{Entry, spelling}
 use Rattle.journal_store.proofs.Journals.{keeps_others}
-use Rattle.record_files.specs.Any.{Begins, IsFile, IsLaidOut, map_of}
-use Rattle.seq_file.specs.Records.{cut_from}
+use Rattle.volume_files.specs.record_files.Any.{Begins, IsFile, IsLaidOut, map_of}
+use Rattle.volume_files.specs.seq_file.Records.{cut_from}
 use Rattle.unit_journal.proofs.Entered.{still_tells}
 use Rattle.vms_model.specs.Keys.{Key}
 use Rattle.volume.specs.Catalogs.{StandsOnTheFront, TellsCatalog}

@@ -10,8 +10,8 @@ use Rattle.file_base.specs.declared.head.FileHead.{FileHead}
 use Rattle.file_base.specs.declared.head.Span.{Span}
 use Rattle.journal_model.specs.Entries.{Entry, IsEntry, spelling}
 use Rattle.journal_model.specs.Ring.{ring_size}
-use Rattle.record_files.specs.Any.{IsFile, IsLaidOut}
-use Rattle.record_files.specs.Local.{begins_first_law}
+use Rattle.volume_files.specs.record_files.Any.{IsFile, IsLaidOut}
+use Rattle.volume_files.specs.record_files.Local.{begins_first_law}
 use Rattle.unit_journal.specs.Groups.{Breaks}
 use Rattle.unit_journal.specs.Spans.{longer}
 use Rattle.unit_table.specs.Units.{OpenUnit}
@@ -25,7 +25,7 @@ use Rattle.volume_format.specs.Head.{head_block_of}
 use Rattle.volume_format.specs.Home.{ru_block_of}
 use Rattle.image_appends.specs.declared.side.Side.TheVariants.{After, Before}
 use Rattle.image_appends.specs.Images.{FileHasRoom, HasRoom}
-use Rattle.file_settlements.specs.Settling.{EntersSettled}
+use Rattle.kept_files.specs.file_settlements.Settling.{EntersSettled}
 use Rattle.kept_files.specs.Own.{only}
 use Rattle.unit_journal.specs.Entries.{settled_entry}
 use Rattle.unit_journal.specs.Settling.{content_with, from_earliest, settled_home}

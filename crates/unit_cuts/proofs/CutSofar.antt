@@ -16,7 +16,7 @@ use Rattle.file_base.specs.declared.head.Span.{Span}
 use Rattle.journal_model.specs.Entries.{Entry, IsEntry, spelling}
 use Rattle.journal_model.specs.Ring.{put_stream, ring_size}
 use Rattle.journal_store.specs.Rings.{IsRing}
-use Rattle.record_files.specs.Any.{IsFile, IsLaidOut, map_of}
+use Rattle.volume_files.specs.record_files.Any.{IsFile, IsLaidOut, map_of}
 use Rattle.unit_journal.specs.Entries.{change_entry}
 use Rattle.unit_journal.specs.Leaving.{FellIn}
 use Rattle.unit_journal.proofs.Breaking.{fell_old}

@@ -18,7 +18,7 @@ use Rattle.volume_format.specs.declared.home.Ending.TheVariants as ending
 use Rattle.volume_format.specs.Head.{head_block_of}
 use Rattle.volume_format.specs.Home.{ru_block_of}
 use Rattle.image_appends.specs.Images.{HasRoom}
-use Rattle.file_settlements.specs.Settling.{EntersSettled}
+use Rattle.kept_files.specs.file_settlements.Settling.{EntersSettled}
 use Rattle.kept_files.specs.Own.{only}
 use Rattle.unit_journal.specs.Entries.{settled_entry}
 use Rattle.unit_cuts.specs.declared.cutting.ImageSpans.{ImageSpans}

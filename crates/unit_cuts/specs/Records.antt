@@ -2,7 +2,7 @@
 use Rattle.std.specs.Prelude.{◌≡◌, ℕ, List, Some}
 use Rattle.change_set.specs.Maps.{Map}
 use Rattle.file_base.specs.declared.head.FileHead.{FileHead}
-use Rattle.record_files.specs.Any.{IsFile, IsLaidOut, map_of}
+use Rattle.volume_files.specs.record_files.Any.{IsFile, IsLaidOut, map_of}
 use Rattle.volume.specs.State.{VolumeState}
 
 -- this holds of the records of a file, where the disk tells them and they are laid out as the file's

@@ -13,7 +13,7 @@ use Rattle.file_base.specs.declared.head.FileHead.{FileHead}
 use Rattle.file_base.specs.declared.head.Span.{Span}
 use Rattle.journal_model.specs.Entries.{Entry, IsEntry, spelling}
 use Rattle.journal_model.specs.Ring.{IsJournal, KeepsOthers, put_stream, ring_size}
-use Rattle.record_files.specs.Any.{Begins, IsFile, IsLaidOut}
+use Rattle.volume_files.specs.record_files.Any.{Begins, IsFile, IsLaidOut}
 use Rattle.unit_journal.specs.Entries.{change_entry}
 use Rattle.unit_journal.specs.Room.{entry_size}
 use Rattle.unit_journal.specs.Settling.{MakesSettlement}
@@ -29,7 +29,7 @@ use Rattle.volume_format.specs.declared.home.Ending.TheVariants as ending
 use Rattle.volume_format.specs.Head.{head_block_of}
 use Rattle.volume_format.specs.Home.{ru_block_of}
 use Rattle.image_appends.specs.Images.{HasRoom}
-use Rattle.file_settlements.specs.Settling.{EntersSettled}
+use Rattle.kept_files.specs.file_settlements.Settling.{EntersSettled}
 use Rattle.kept_files.specs.Own.{only, own_settled}
 use Rattle.unit_cuts.specs.Records.{OfRecords}
 

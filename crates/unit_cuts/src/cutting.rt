@@ -9,7 +9,7 @@ ghost use Rattle.careful_write.specs.Sizes.{staged_limit};
 ghost use Rattle.change_set.specs.Files.{IsPlaced, free_frames};
 ghost use Rattle.change_set.specs.Maps.{empty_map};
 ghost use Rattle.file_base.specs.declared.head.Organization.TheVariants as organization;
-ghost use Rattle.record_files.specs.Any.{Begins, IsFile, IsLaidOut};
+ghost use Rattle.volume_files.specs.record_files.Any.{Begins, IsFile, IsLaidOut};
 ghost use Rattle.unit_journal.specs.Groups.{Breaks, Grows};
 ghost use Rattle.vms_base.specs.Ids.{serial_of, tid_of};
 ghost use Rattle.vms_model.specs.Keys.{Number};

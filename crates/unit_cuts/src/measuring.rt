@@ -7,7 +7,7 @@ ghost use Rattle.change_set.specs.declared.walk.Place.{Place as PlaceSaid};
 ghost use Rattle.change_set.specs.Maps.{empty_map};
 ghost use Rattle.file_base.specs.declared.head.FileHead.{FileHead as HeadSaid};
 ghost use Rattle.file_base.specs.declared.head.Organization.TheVariants as organization;
-ghost use Rattle.record_files.specs.Any.{Begins, IsFile, IsLaidOut};
+ghost use Rattle.volume_files.specs.record_files.Any.{Begins, IsFile, IsLaidOut};
 ghost use Rattle.unit_journal.specs.Leaving.{FellIn};
 ghost use Rattle.unit_journal.specs.Room.{entry_size as size_said};
 ghost use Rattle.volume.specs.State.{SameVolume};

@@ -6,7 +6,7 @@ ghost use Rattle.careful_write.specs.Reads.{SameButReads};
 ghost use Rattle.careful_write.specs.State.{IsReady};
 ghost use Rattle.journal_model.specs.Entries.{IsEntry};
 ghost use Rattle.volume.specs.State.{Holds};
-ghost use Rattle.file_settlements.specs.Settling.{EntersSettled};
+ghost use Rattle.kept_files.specs.file_settlements.Settling.{EntersSettled};
 ghost use Rattle.image_appends.specs.declared.side.Side.TheVariants as sides;
 ghost use Rattle.image_appends.specs.Images.{FellPast, FileHasRoom};
 ghost use Rattle.kept_files.specs.Own.{only};

@@ -3,11 +3,11 @@ use Rattle.std.proofs.Common.{◌≡◌, ℕ, zero, suc, ◌+◌, ◌≤◌, ◌
 use Rattle.std.proofs.lemmas.Bool.Decides.{nat_tests}
 use Rattle.file_base.specs.declared.head.FileHead.{FileHead}
 use Rattle.file_base.specs.declared.head.Span.{Span}
-use Rattle.vms_model.specs.Keys.{Key}
+use Rattle.vms_base.specs.vms_model.Keys.{Key}
 use Rattle.journal_format.specs.Heads.{entry_of}
 use Rattle.journal_format.specs.declared.head.EntryHead.{EntryHead}
-use Rattle.journal_model.specs.Entries.{Entry, IsEntry, is_key}
-use Rattle.journal_model.specs.Ring.{StandsAt}
+use Rattle.journal_format.specs.journal_model.Entries.{Entry, IsEntry, is_key}
+use Rattle.journal_format.specs.journal_model.Ring.{StandsAt}
 use Rattle.journal_store.specs.Reading.{Stands}
 use Rattle.unit_entries.specs.Collecting.{IsChangeAt, AreChangesAt}
 use Rattle.unit_entries.specs.Keys.{KeyTold, keys_with, keys_onto, keys_told, key_told}

@@ -7,17 +7,17 @@ use Rattle.std.specs.Ordering.{is_eq}
 use Rattle.std.proofs.lemmas.Bool.Decides.{nat_tests}
 use Rattle.file_base.specs.declared.head.FileHead.{FileHead}
 use Rattle.file_base.specs.declared.head.Span.{Span}
-use Rattle.vms_model.specs.Keys.{Key, Number, Text, End}
-use Rattle.records_model.specs.Records.{Change}
-use Rattle.records_model.specs.History.{changes_key}
-use Rattle.records_model.proofs.KeyLemmas.{key_cmp_total}
-use Rattle.records_model.proofs.RecordsLemmas as records
-use Rattle.change_set.specs.Maps.{same_key}
-use Rattle.unit_laws.specs.Units.{is_of}
-use Rattle.unit_laws.specs.Journal.{Note, note_of}
-use Rattle.unit_laws.proofs.Tests.{never, or_either, or_one, or_other, and_first, and_second, picked, passed}
+use Rattle.vms_base.specs.vms_model.Keys.{Key, Number, Text, End}
+use Rattle.table_keys.specs.records_model.Records.{Change}
+use Rattle.table_keys.specs.records_model.History.{changes_key}
+use Rattle.run_model.proofs.records_model.KeyLemmas.{key_cmp_total}
+use Rattle.run_model.proofs.records_model.RecordsLemmas as records
+use Rattle.sequence_laws.specs.change_set.Maps.{same_key}
+use Rattle.run_model.specs.unit_laws.Units.{is_of}
+use Rattle.run_model.specs.unit_laws.Journal.{Note, note_of}
+use Rattle.run_model.proofs.unit_laws.Tests.{never, or_either, or_one, or_other, and_first, and_second, picked, passed}
 use Rattle.sequence_laws.specs.Undoing.{lowest_absent, absent_at, lower}
-use Rattle.journal_model.specs.Entries.{Entry, has_image}
+use Rattle.journal_format.specs.journal_model.Entries.{Entry, has_image}
 use Rattle.unit_entries.specs.Collecting.{IsChangeAt, AreChangesAt}
 use Rattle.unit_entries.specs.Keys.{KeyTold, told_at, is_same, with_later, keys_after, keys_with, keys_onto, keys_told, key_told, number_for, number_of, lowest_in, lowest_with}
 use Rattle.unit_entries.specs.Told.{before_in, noted, noted_of, notes_of, TellsKey, TellsKeys}

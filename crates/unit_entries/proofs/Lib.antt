@@ -7,3 +7,8 @@ pub mod CollectLemmas
 pub mod OpenLemmas
 pub mod FiledLemmas
 pub mod VoteLemmas
+pub mod journal_format
+pub mod journal_store
+pub mod seq_file
+pub mod sequence_laws
+pub mod unit_laws

@@ -5,11 +5,11 @@ use Rattle.std.proofs.lemmas.Bool.{and_from, leb-false, or_parts}
 use Rattle.std.proofs.lemmas.List.Elements.{All-head, All-nil, All-push, All-tail, All-weaker}
 use Rattle.std.proofs.lemmas.List.Folds.{list_any-append}
 use Rattle.file_base.specs.declared.head.Span.{Span}
-use Rattle.vms_model.specs.Ids.{Id}
-use Rattle.records_model.specs.History.{same_id}
-use Rattle.journal_model.specs.Entries.{Entry}
+use Rattle.vms_base.specs.vms_model.Ids.{Id}
+use Rattle.table_keys.specs.records_model.History.{same_id}
+use Rattle.journal_format.specs.journal_model.Entries.{Entry}
 use Rattle.ru_journal.specs.Told.{JournalScan, UnitTold, file_bit, find_unit, first_told, is_out_of_order, more_told, unit_refuses, units_after, with_unit, without_unit}
-use Rattle.unit_laws.proofs.LiveLemmas.{id_is, id_itself, turned}
+use Rattle.run_model.proofs.unit_laws.LiveLemmas.{id_is, id_itself, turned}
 use Rattle.unit_table.specs.Units.{Ascend, OpenUnit, first_of, first_that, is_of, new_unit, with_first, with_position, without_first}
 use Rattle.unit_entries.specs.Opening.{AreAlike, AscendWithin, BeginWithin, Differ, IsAlike, more_open, opened_after}
 use Rattle.unit_entries.specs.Reading.{is_change_of}

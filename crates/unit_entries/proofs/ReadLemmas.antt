@@ -2,16 +2,16 @@
 use Rattle.std.proofs.Common.{◌≡◌, ℕ, ◌+◌, ◌-◌, ◌<◌, ◌≤◌, ◌==◌, Bool, true, false, List, [], ◌∷◌, ◌++◌, length, map, None, if◌then◌else◌, refl, sym, ◌∙◌, ap, subst, arith, append_assoc, append-nil, length-append}
 use Rattle.std.specs.List.{flat_map}
 use Rattle.file_base.specs.declared.head.Span.{Span}
-use Rattle.vms_model.specs.Ids.{Id}
-use Rattle.journal_model.specs.Entries.{Entry, IsEntry, spelling}
-use Rattle.journal_model.specs.Ring.{StandsAt, IsJournal}
+use Rattle.vms_base.specs.vms_model.Ids.{Id}
+use Rattle.journal_format.specs.journal_model.Entries.{Entry, IsEntry, spelling}
+use Rattle.journal_format.specs.journal_model.Ring.{StandsAt, IsJournal}
 use Rattle.journal_format.specs.Heads.{entry_of, kind_code}
 use Rattle.journal_format.specs.declared.head.EntryKind.{EntryKind}
 use Rattle.journal_format.specs.declared.head.EntryKind.TheVariants as kind
 use Rattle.journal_format.specs.declared.head.EntryHead.{EntryHead}
 use Rattle.journal_store.specs.Reading.{Stands, ReadsAt}
 use Rattle.journal_store.proofs.EntriesAt.{stands_in, length-stream}
-use Rattle.records_model.specs.History.{same_id}
+use Rattle.table_keys.specs.records_model.History.{same_id}
 use Rattle.ru_journal.specs.Told.{JournalScan, after, is_out_of_order, nothing_told, told_by, told_onto}
 use Rattle.std.specs.List.{AllByRecursion, list_any}
 use Rattle.std.proofs.lemmas.Bool.{or_parts}

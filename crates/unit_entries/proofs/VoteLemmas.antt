@@ -1,14 +1,14 @@
 -- Records move behind others, one after another.
 use Rattle.std.proofs.Common.{◌≡◌, ℕ, zero, suc, ◌+◌, ◌<◌, ◌≤◌, ◌==◌, Bool, true, false, List, [], ◌∷◌, ◌++◌, Option, Some, None, IfSome, if◌then◌else◌, map, remove, get_or, slice_get, refl, sym, ap, subst, ◌∙◌, arith, append-nil, append_assoc}
 use Rattle.std.proofs.lemmas.List.{map-append}
-use Rattle.commit_protocol.specs.Messages.{LogRecord}
+use Rattle.run_model.specs.commit_protocol.Messages.{LogRecord}
 use Rattle.file_base.specs.declared.head.Span.{Span}
 use Rattle.journal_format.specs.Heads.{entry_of}
 use Rattle.journal_format.specs.declared.head.EntryHead.{EntryHead}
-use Rattle.journal_model.specs.Entries.{Entry}
-use Rattle.journal_model.specs.Ring.{IsJournal}
+use Rattle.journal_format.specs.journal_model.Entries.{Entry}
+use Rattle.journal_format.specs.journal_model.Ring.{IsJournal}
 use Rattle.journal_store.specs.Reading.{ReadsAt}
-use Rattle.records_model.specs.History.{same_id}
+use Rattle.table_keys.specs.records_model.History.{same_id}
 use Rattle.run_model.specs.World.{find_record, records_by, without_record}
 use Rattle.tm_types.specs.Parts.{log_record_of}
 use Rattle.unit_entries.specs.Reading.{AreRead}
@@ -16,7 +16,7 @@ use Rattle.unit_entries.proofs.ReadLemmas.{all_read, begins_read, entry_is, entr
 use Rattle.unit_entries.proofs.StoreLemmas.{of_any, of_both, of_content}
 use Rattle.vms_base.specs.Ids.{serial_of}
 use Rattle.vms_base.specs.declared.protocol.LogRec.{LogRec}
-use Rattle.vms_model.specs.Ids.{Id}
+use Rattle.vms_base.specs.vms_model.Ids.{Id}
 use Rattle.unit_entries.specs.Voting.{IsPlaceOf, IsVoted, votes_in}
 
 abbrev said : List LogRec → List LogRecord

@@ -1,8 +1,8 @@
 -- Entries at positions of a journal.
 use Rattle.std.specs.Prelude.{◌≡◌, ℕ, List, [], ◌∷◌}
 use Rattle.file_base.specs.declared.head.Span.{Span}
-use Rattle.journal_model.specs.Entries.{Entry, IsEntry}
-use Rattle.journal_model.specs.Ring.{StandsAt}
+use Rattle.journal_format.specs.journal_model.Entries.{Entry, IsEntry}
+use Rattle.journal_format.specs.journal_model.Ring.{StandsAt}
 
 -- a change that is entered at a position
 pub record IsChangeAt (s : Span) (p : ℕ) (e : Entry) (c : List (List ℕ)) : Type 0 where

@@ -4,10 +4,10 @@ use Rattle.std.specs.Int.{w32, from_le_bytes}
 use Rattle.file_base.specs.declared.head.FileHead.{FileHead}
 use Rattle.file_base.specs.declared.head.Organization.{Organization}
 use Rattle.file_base.specs.declared.head.Organization.TheVariants.{Sequential, Relative, Indexed}
-use Rattle.vms_model.specs.Keys.{Key, Number, Text, End}
-use Rattle.change_set.specs.Maps.{same_key}
+use Rattle.vms_base.specs.vms_model.Keys.{Key, Number, Text, End}
+use Rattle.sequence_laws.specs.change_set.Maps.{same_key}
 use Rattle.volume.specs.Catalogs.{head_at}
-use Rattle.journal_model.specs.Entries.{Entry, has_image}
+use Rattle.journal_format.specs.journal_model.Entries.{Entry, has_image}
 use Rattle.sequence_laws.specs.Undoing.{lower}
 
 -- A key of a file: where the earliest entry of it begins, whether that has an image, and whether any entry of it has none.

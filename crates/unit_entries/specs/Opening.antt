@@ -2,9 +2,9 @@
 use Rattle.std.specs.Prelude.{◌≡◌, ℕ, ◌<◌, ◌≤◌, ◌==◌, Bool, true, false, List, [], ◌∷◌, ◌++◌, Some, None, IfSome, length, slice_set, if◌then◌else◌}
 use Rattle.std.specs.List.{All, AllByRecursion, list_any}
 use Rattle.file_base.specs.declared.head.Span.{Span}
-use Rattle.vms_model.specs.Ids.{Id}
-use Rattle.records_model.specs.History.{same_id}
-use Rattle.journal_model.specs.Entries.{Entry}
+use Rattle.vms_base.specs.vms_model.Ids.{Id}
+use Rattle.table_keys.specs.records_model.History.{same_id}
+use Rattle.journal_format.specs.journal_model.Entries.{Entry}
 use Rattle.ru_journal.specs.Told.{JournalScan, UnitTold}
 use Rattle.unit_table.specs.Units.{Ascend, OpenUnit, first_of, first_that, is_of, new_unit, no_files, prepared_unit, with_first, with_position, without_first}
 use Rattle.volume.specs.State.{VolumeState}

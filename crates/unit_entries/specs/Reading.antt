@@ -1,11 +1,11 @@
 -- Entries of a journal with the positions at which they begin, and those of one branch.
 use Rattle.std.specs.Prelude.{◌≡◌, ℕ, ◌+◌, ◌<◌, ◌==◌, ◌&&◌, Bool, false, List, [], ◌∷◌, ◌++◌, length, map, if◌then◌else◌}
 use Rattle.std.specs.List.{flat_map}
-use Rattle.vms_model.specs.Limits.{file_limit}
+use Rattle.vms_base.specs.vms_model.Limits.{file_limit}
 use Rattle.file_base.specs.declared.head.Span.{Span}
-use Rattle.vms_model.specs.Ids.{Id}
-use Rattle.records_model.specs.History.{same_id}
-use Rattle.journal_model.specs.Entries.{Entry, spelling}
+use Rattle.vms_base.specs.vms_model.Ids.{Id}
+use Rattle.table_keys.specs.records_model.History.{same_id}
+use Rattle.journal_format.specs.journal_model.Entries.{Entry, spelling}
 use Rattle.ru_journal.specs.Told.{JournalScan, after, is_out_of_order, nothing_told, told_by}
 
 -- each entry with its position, of which the first has this one

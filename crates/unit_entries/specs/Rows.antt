@@ -2,7 +2,7 @@
 use Rattle.std.specs.Prelude.{◌≡◌, ℕ, ◌<◌, ◌≤◌, ◌+◌, ◌^◌, true, List, Some, None, Vec, length, map, take, slice_get, vec_capacity}
 use Rattle.std.specs.List.{AllByRecursion}
 use Rattle.indexmap.specs.IndexSet.{IndexSet, spare}
-use Rattle.vms_model.specs.Limits.{change_limit}
+use Rattle.vms_base.specs.vms_model.Limits.{change_limit}
 use Rattle.table_keys.specs.declared.place.Place.{Place}
 use Rattle.vms_base.specs.Keys.{key_of}
 use Rattle.unit_entries.specs.declared.keys.ChangedKey.{ChangedKey}

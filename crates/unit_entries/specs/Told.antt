@@ -3,14 +3,14 @@ use Rattle.std.specs.Prelude.{◌≡◌, ℕ, ◌==◌, ◌&&◌, true, List, []
 use Rattle.std.specs.List.{list_any, AllByRecursion}
 use Rattle.file_base.specs.declared.head.FileHead.{FileHead}
 use Rattle.file_base.specs.declared.head.Span.{Span}
-use Rattle.vms_model.specs.Keys.{Key}
-use Rattle.records_model.specs.Records.{Change}
-use Rattle.records_model.specs.History.{changes_key}
-use Rattle.change_set.specs.Maps.{same_key}
-use Rattle.unit_laws.specs.Units.{earliest_before}
-use Rattle.unit_laws.specs.Journal.{Note}
+use Rattle.vms_base.specs.vms_model.Keys.{Key}
+use Rattle.table_keys.specs.records_model.Records.{Change}
+use Rattle.table_keys.specs.records_model.History.{changes_key}
+use Rattle.sequence_laws.specs.change_set.Maps.{same_key}
+use Rattle.run_model.specs.unit_laws.Units.{earliest_before}
+use Rattle.run_model.specs.unit_laws.Journal.{Note}
 use Rattle.sequence_laws.specs.Undoing.{lowest_absent}
-use Rattle.journal_model.specs.Entries.{Entry, has_image}
+use Rattle.journal_format.specs.journal_model.Entries.{Entry, has_image}
 use Rattle.unit_entries.specs.Collecting.{IsChangeAt}
 use Rattle.unit_entries.specs.Keys.{KeyTold, key_told, lowest_in}
 

@@ -1,13 +1,13 @@
 -- The prepared branches of a log, in the order in which they were prepared.
 use Rattle.std.specs.Prelude.{◌≡◌, ◌<◌, ◌==◌, ◌++◌, ℕ, List, [], ◌∷◌, Option, Some, IfSome, length, map, remove, slice_get, if◌then◌else◌}
-use Rattle.commit_protocol.specs.Messages.{LogRecord}
+use Rattle.run_model.specs.commit_protocol.Messages.{LogRecord}
 use Rattle.file_base.specs.declared.head.Span.{Span}
-use Rattle.journal_model.specs.Entries.{Entry}
-use Rattle.journal_model.specs.Ring.{IsJournal}
+use Rattle.journal_format.specs.journal_model.Entries.{Entry}
+use Rattle.journal_format.specs.journal_model.Ring.{IsJournal}
 use Rattle.run_model.specs.World.{find_record, records_by, without_record}
 use Rattle.tm_types.specs.Parts.{log_record_of}
 use Rattle.vms_base.specs.declared.protocol.LogRec.{LogRec}
-use Rattle.vms_model.specs.Ids.{Id}
+use Rattle.vms_base.specs.vms_model.Ids.{Id}
 
 -- the branches of Prepared entries, the oldest first
 abbrev pub votes_in : List Entry → List Id

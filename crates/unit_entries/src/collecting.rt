@@ -2,10 +2,10 @@
 ghost use Rattle.std.specs.Prelude.{◌≡◌, ◌≤◌, ◌<◌, ◌+◌, ◌^◌, ℕ, List, [], Option, Some, None, OnOk, IfOk, IfErr, IfSome, IfNone, length, option_map};
 ghost use Rattle.std.specs.List.{All};
 ghost use Rattle.std.specs.Option.{option_copied};
-ghost use Rattle.vms_model.specs.Limits.{change_limit};
+ghost use Rattle.vms_base.specs.vms_model.Limits.{change_limit};
 ghost use Rattle.vms_base.specs.Keys.{key_of};
 ghost use Rattle.journal_format.specs.Heads.{entry_of};
-ghost use Rattle.journal_model.specs.Entries.{Entry};
+ghost use Rattle.journal_format.specs.journal_model.Entries.{Entry};
 ghost use Rattle.journal_store.specs.Leaving.{OnlyReads, Fell};
 ghost use Rattle.journal_store.specs.Rings.{IsRing};
 ghost use Rattle.unit_entries.specs.Collecting.{AreChangesAt};

@@ -2,7 +2,7 @@
 ghost use Rattle.std.specs.Prelude.{◌≡◌, ◌≤◌, ◌<◌, ◌+◌, ◌^◌, ℕ, List, [], Option, Some, None, length, map, IfOk, IfSome, IfNone, slice_get, position, is_some};
 ghost use Rattle.std.specs.List.{list_any};
 ghost use Rattle.indexmap.specs.IndexSet.{insert_key, spare};
-ghost use Rattle.vms_model.specs.Limits.{change_limit};
+ghost use Rattle.vms_base.specs.vms_model.Limits.{change_limit};
 ghost use Rattle.table_keys.specs.Places.{same_place};
 ghost use Rattle.sequence_laws.specs.Undoing.{lower};
 ghost use Rattle.unit_entries.specs.Keys.{KeyTold, keys_after, number_for, lowest_in, lowest_with, lesser, IsLeast, NoneFrom};

@@ -1,10 +1,10 @@
 // The journal of recovery units as a restart reads it.
 ghost use Rattle.std.specs.Prelude.{◌≡◌, ◌≤◌, ◌<◌, ◌+◌, ◌^◌, ◌∷◌, ◌++◌, ◌==◌, ℕ, List, [], None, true, false, OnOk, OnErr, IfOk, IfErr, IfSome, IsSome, length, is_err, map, vec_capacity};
-ghost use Rattle.vms_model.specs.Limits.{branch_limit, change_limit, entry_limit, file_limit};
+ghost use Rattle.vms_base.specs.vms_model.Limits.{branch_limit, change_limit, entry_limit, file_limit};
 ghost use Rattle.vms_base.specs.Ids.{serial_of, tid_of};
 ghost use Rattle.journal_format.specs.Heads.{entry_of, kind_code};
-ghost use Rattle.journal_model.specs.Entries.{Entry};
-ghost use Rattle.journal_model.specs.Ring.{IsJournal};
+ghost use Rattle.journal_format.specs.journal_model.Entries.{Entry};
+ghost use Rattle.journal_format.specs.journal_model.Ring.{IsJournal};
 ghost use Rattle.journal_store.specs.Leaving.{OnlyReads, Fell};
 ghost use Rattle.journal_store.specs.Rings.{IsRing};
 ghost use Rattle.ru_journal.specs.Told.{after, is_out_of_order, nothing_told, told_by};

@@ -1,11 +1,11 @@
 // The prepared records of a log, in the order in which their branches were prepared.
 ghost use Rattle.std.specs.Prelude.{◌≡◌, ◌≤◌, ◌+◌, ◌++◌, ◌∷◌, List, [], None, IfSome, IfNone, length, map, vec_capacity};
 ghost use Rattle.journal_format.specs.Heads.{entry_of};
-ghost use Rattle.records_model.specs.History.{same_id};
+ghost use Rattle.table_keys.specs.records_model.History.{same_id};
 ghost use Rattle.run_model.specs.World.{find_record, records_by};
 ghost use Rattle.tm_types.specs.Parts.{log_record_of};
 ghost use Rattle.vms_base.specs.Ids.{serial_of};
-ghost use Rattle.vms_model.specs.Ids.{Id};
+ghost use Rattle.vms_base.specs.vms_model.Ids.{Id};
 ghost use Rattle.unit_entries.specs.Voting.{IsPlaceOf, votes_in};
 
 use journal_format::{EntryHead, EntryKind};

@@ -3,7 +3,7 @@ use Rattle.std.proofs.Common.{◌≡◌, ℕ, ◌<◌, ◌≤◌, List, Option, 
 use Rattle.careful_write.specs.State.{StoreState}
 use Rattle.careful_write.specs.declared.down.Down.{Down}
 use Rattle.file_base.specs.declared.head.Span.{Span}
-use Rattle.journal_model.specs.Ring.{KeepsOthers, put_stream}
+use Rattle.journal_format.specs.journal_model.Ring.{KeepsOthers, put_stream}
 use Rattle.journal_store.specs.Leaving.{Fell}
 use Rattle.volume.specs.declared.catalog.Catalog.{Catalog}
 use Rattle.volume.specs.Catalogs.{StandsOnTheFront, TellsCatalog}

@@ -2,10 +2,10 @@
 use Rattle.std.proofs.Common.{◌≡◌, ℕ, ◌<◌, ◌≤◌, ◌^◌, Bool, true, false, List, [], length, Option, refl, arith, nat_le, lit<}
 use Rattle.std.specs.Prelude.{unwrap_or, if◌then◌else◌}
 use Rattle.std.proofs.lemmas.Bool.Decides.{nat_tests}
-use Rattle.journal_model.specs.Entries.{IsEntry, has_image, is_flag, is_image, is_key}
-use Rattle.vms_model.specs.Ids.{Id, IsId}
-use Rattle.vms_model.specs.Keys.{Key}
-use Rattle.vms_model.specs.Transactions.{Outcome, Commit, Abort}
+use Rattle.journal_format.specs.journal_model.Entries.{IsEntry, has_image, is_flag, is_image, is_key}
+use Rattle.vms_base.specs.vms_model.Ids.{Id, IsId}
+use Rattle.vms_base.specs.vms_model.Keys.{Key}
+use Rattle.vms_base.specs.vms_model.Transactions.{Outcome, Commit, Abort}
 use Rattle.unit_journal.specs.Entries.{change_entry, key_bytes, outcome_code, prepared_entry, settled_entry}
 
 flag_fits : (b : Bool) → is_flag 1 (if b then 1 else 0) ≡ true

@@ -1,7 +1,7 @@
 -- How numbers that only grow have grown in a call.
 use Rattle.std.proofs.Common.{◌≡◌, ℕ, ◌+◌, ◌*◌, ◌<◌, ◌≤◌, ◌^◌, List, Option, Some, None, length, ap, arith, subst, sym, inl, inr}
 use Rattle.std.specs.Prelude.{max}
-use Rattle.journal_model.specs.Entries.{Entry, spelling}
+use Rattle.journal_format.specs.journal_model.Entries.{Entry, spelling}
 use Rattle.unit_table.specs.Units.{OpenUnit, earliest}
 use Rattle.vms_base.specs.declared.ids.Serial.{Serial}
 use Rattle.vms_base.specs.declared.ids.Tid.{Tid}

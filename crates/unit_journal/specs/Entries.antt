@@ -1,10 +1,10 @@
 -- The entries of a unit.
 use Rattle.std.specs.Prelude.{ℕ, List, [], Option, length, nat_le, if◌then◌else◌, unwrap_or}
 use Rattle.std.specs.Int.{w32, to_le_bytes}
-use Rattle.journal_model.specs.Entries.{Entry}
-use Rattle.vms_model.specs.Ids.{Id}
-use Rattle.vms_model.specs.Keys.{Key, Number, Text, End}
-use Rattle.vms_model.specs.Transactions.{Outcome, Commit, Abort}
+use Rattle.journal_format.specs.journal_model.Entries.{Entry}
+use Rattle.vms_base.specs.vms_model.Ids.{Id}
+use Rattle.vms_base.specs.vms_model.Keys.{Key, Number, Text, End}
+use Rattle.vms_base.specs.vms_model.Transactions.{Outcome, Commit, Abort}
 
 -- a key as an entry has it
 abbrev pub key_bytes : Key → List ℕ

@@ -1,10 +1,10 @@
 -- The room that the journal has for entries of units.
 use Rattle.std.specs.Prelude.{ℕ, ◌+◌, ◌-◌, List, [], ◌∷◌, Option, length, nat_lt, unwrap_or}
 use Rattle.file_base.specs.declared.head.Span.{Span}
-use Rattle.journal_model.specs.Ring.{ring_size}
+use Rattle.journal_format.specs.journal_model.Ring.{ring_size}
 use Rattle.record_operations.specs.Causes.{Cause, JournalFull, cause_if}
 use Rattle.unit_table.specs.Units.{OpenUnit, owed}
-use Rattle.vms_model.specs.Keys.{Key}
+use Rattle.vms_base.specs.vms_model.Keys.{Key}
 use Rattle.unit_journal.specs.Entries.{key_bytes}
 
 -- the bytes of the journal that no entry has and no unit is owed

@@ -1,7 +1,7 @@
 -- What the settlement of a branch makes of a volume.
 use Rattle.std.specs.Prelude.{◌≡◌, ℕ, ◌+◌, Bool, true, false, List, Option, Some, None, length, option_map, slice_set, unwrap_or, nat_le, if◌then◌else◌}
 use Rattle.file_base.specs.declared.head.Span.{Span}
-use Rattle.journal_model.specs.Entries.{Entry, spelling}
+use Rattle.journal_format.specs.journal_model.Entries.{Entry, spelling}
 use Rattle.unit_table.specs.Units.{OpenUnit, earliest}
 use Rattle.vms_base.specs.declared.ids.Serial.{Serial}
 use Rattle.vms_base.specs.declared.ids.Tid.{Tid}

@@ -1,7 +1,7 @@
 -- The journal's span, and a content with more in the journal.
 use Rattle.std.specs.Prelude.{ℕ, ◌+◌, List, length, slice_set}
 use Rattle.file_base.specs.declared.head.Span.{Span}
-use Rattle.journal_model.specs.Ring.{put_stream}
+use Rattle.journal_format.specs.journal_model.Ring.{put_stream}
 use Rattle.volume_format.specs.Home.{ru_block_of}
 
 -- the journal's span once its end moved by so many bytes

@@ -2,11 +2,11 @@
 ghost use Rattle.std.specs.Prelude.{◌≡◌, ◌≤◌, ◌<◌, ◌+◌, ◌-◌, ◌^◌, OnOk, IfErr, IfSome, IsSome, length, option_map};
 ghost use Rattle.std.specs.Option.{option_and_then};
 ghost use Rattle.block_disk.specs.Sizes.{least_disk_size};
-ghost use Rattle.vms_model.specs.Limits.{branch_limit};
-ghost use Rattle.vms_model.specs.Blocks.{log_start};
+ghost use Rattle.vms_base.specs.vms_model.Limits.{branch_limit};
+ghost use Rattle.vms_base.specs.vms_model.Blocks.{log_start};
 ghost use Rattle.careful_write.specs.Reads.{SameButReads};
 ghost use Rattle.careful_write.specs.State.{IsReady};
-ghost use Rattle.journal_model.specs.Ring.{ring_size};
+ghost use Rattle.journal_format.specs.journal_model.Ring.{ring_size};
 ghost use Rattle.journal_store.specs.Rings.{IsRing};
 ghost use Rattle.unit_table.specs.Units.{owed, unit_at};
 ghost use Rattle.volume.specs.State.{Holds};

@@ -1,9 +1,9 @@
 // The entries of units.
 ghost use Rattle.std.specs.Prelude.{◌≡◌, ◌≤◌, ◌<◌, ◌+◌, [], length, unwrap_or};
 ghost use Rattle.std.specs.Option.{option_copied};
-ghost use Rattle.vms_model.specs.Limits.{key_limit, record_limit};
-ghost use Rattle.journal_model.specs.Entries.{IsEntry, spelling};
-ghost use Rattle.vms_model.specs.Ids.{IsId};
+ghost use Rattle.vms_base.specs.vms_model.Limits.{key_limit, record_limit};
+ghost use Rattle.journal_format.specs.journal_model.Entries.{IsEntry, spelling};
+ghost use Rattle.vms_base.specs.vms_model.Ids.{IsId};
 ghost use Rattle.vms_base.specs.Ids.{id_of, serial_of, tid_of};
 ghost use Rattle.vms_base.specs.Keys.{key_of};
 ghost use Rattle.vms_base.specs.Outcomes.{outcome_of};

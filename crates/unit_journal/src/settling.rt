@@ -1,12 +1,12 @@
 // Settlements.
 ghost use Rattle.std.specs.Prelude.{◌≡◌, ◌≤◌, ◌<◌, ◌+◌, ◌-◌, true, List, Option, OnOk, OnErr, IfErr, length, option_map, if◌then◌else◌};
 ghost use Rattle.block_disk.specs.Sizes.{least_disk_size};
-ghost use Rattle.vms_model.specs.Limits.{moment_ceiling};
-ghost use Rattle.vms_model.specs.Blocks.{home_block, journal_block, log_start};
+ghost use Rattle.vms_base.specs.vms_model.Limits.{moment_ceiling};
+ghost use Rattle.vms_base.specs.vms_model.Blocks.{home_block, journal_block, log_start};
 ghost use Rattle.careful_write.specs.Down.{Counts};
 ghost use Rattle.careful_write.specs.Reads.{SameButReads};
 ghost use Rattle.careful_write.specs.State.{IsIdle, IsReady, OneContent};
-ghost use Rattle.journal_model.specs.Ring.{ring_size};
+ghost use Rattle.journal_format.specs.journal_model.Ring.{ring_size};
 ghost use Rattle.journal_store.specs.Rings.{IsRing};
 ghost use Rattle.vms_base.specs.Ids.{serial_of, tid_of};
 ghost use Rattle.vms_base.specs.Outcomes.{outcome_of};

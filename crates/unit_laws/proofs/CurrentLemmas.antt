@@ -1,12 +1,12 @@
 -- The records of a history as they stand, where several branches are unsettled.
 use Rattle.std.proofs.Common.{◌≡◌, ℕ, Bool, true, false, cond, List, [], ◌∷◌, Option, None, refl, sym, ◌∙◌, ap, ◌||◌, ◌&&◌, not}
 use Rattle.std.specs.FinMap.{get}
-use Rattle.vms_model.specs.Ids.{Id}
-use Rattle.vms_model.specs.Keys.{Key}
-use Rattle.records_model.specs.Records.{Records, Change, applied}
-use Rattle.records_model.specs.History.{LiveChanges, same_id, changes_key, with_change, without, changes_by, on_top}
+use Rattle.tree_model.specs.vms_model.Ids.{Id}
+use Rattle.tree_model.specs.vms_model.Keys.{Key}
+use Rattle.tree_model.specs.records_model.Records.{Records, Change, applied}
+use Rattle.tree_model.specs.records_model.History.{LiveChanges, same_id, changes_key, with_change, without, changes_by, on_top}
 use Rattle.unit_laws.specs.Units.{map_in, is_of, earliest_before, latest_after, with_after_images, is_changed, restored, Apart, is_free}
-use Rattle.records_model.proofs.RecordsLemmas.{get-set_key}
+use Rattle.tree_model.proofs.records_model.RecordsLemmas.{get-set_key}
 use Rattle.unit_laws.proofs.RestoredLemmas.{changed_of}
 use Rattle.unit_laws.proofs.Tests.{never}
 

@@ -3,9 +3,9 @@ use Rattle.std.proofs.Common.{◌≡◌, Bool, true, false, cond, not, ◌||◌,
 use Rattle.std.specs.Option.{is_none}
 use Rattle.std.specs.List.{AllByRecursion}
 use Rattle.std.proofs.lemmas.Bool.{false_from_ne_true}
-use Rattle.vms_model.specs.Ids.{Id}
-use Rattle.records_model.specs.Records.{Change}
-use Rattle.records_model.specs.History.{LiveChanges, same_id, with_change, with_changes, without}
+use Rattle.tree_model.specs.vms_model.Ids.{Id}
+use Rattle.tree_model.specs.records_model.Records.{Change}
+use Rattle.tree_model.specs.records_model.History.{LiveChanges, same_id, with_change, with_changes, without}
 use Rattle.unit_laws.specs.Units.{SerialsDiffer, moves_end, OneMovesEnd, end_is_free}
 use Rattle.unit_laws.specs.Laws.{ChangesKeepEnd, SettlesKeepEnd}
 use Rattle.unit_laws.proofs.Tests.{and_first, and_second, or_neither, or_one, or_other}

@@ -2,13 +2,13 @@
 use Rattle.std.proofs.Common.{◌≡◌, ℕ, Bool, true, false, cond, List, [], ◌∷◌, Option, refl, sym, ◌∙◌, ap, subst, inl, inr, ◌||◌, ◌&&◌, not}
 use Rattle.std.specs.List.{AllByRecursion}
 use Rattle.std.specs.FinMap.{get}
-use Rattle.vms_model.specs.Ids.{Id}
-use Rattle.vms_model.specs.Keys.{Key}
-use Rattle.vms_model.specs.Transactions.{Commit, Abort}
-use Rattle.records_model.specs.Records.{Change, applied}
-use Rattle.records_model.specs.History.{LiveChanges, same_id, changes_key, with_change, without, changes_by, on_top, current, records, changed_with, settled_with}
+use Rattle.tree_model.specs.vms_model.Ids.{Id}
+use Rattle.tree_model.specs.vms_model.Keys.{Key}
+use Rattle.tree_model.specs.vms_model.Transactions.{Commit, Abort}
+use Rattle.tree_model.specs.records_model.Records.{Change, applied}
+use Rattle.tree_model.specs.records_model.History.{LiveChanges, same_id, changes_key, with_change, without, changes_by, on_top, current, records, changed_with, settled_with}
 use Rattle.unit_laws.specs.Units.{Map, map_in, is_of, with_key, earliest_before, latest_after, with_after_images, with_before_images, is_changed, Apart, is_free, HasLatest, Represents}
-use Rattle.records_model.proofs.RecordsLemmas.{get-set_key, same_key}
+use Rattle.tree_model.proofs.records_model.RecordsLemmas.{get-set_key, same_key}
 use Rattle.unit_laws.specs.Laws.{AbortsOne, CommitsOne, ChangesOne, ChangesMore, UndoesOne, Aborted, Committed, UndoneOf}
 use Rattle.unit_laws.proofs.Tests.{both_ways, never, or_one, or_other, and_first, and_second, not_true, passed}
 use Rattle.unit_laws.proofs.LiveLemmas.{free_changes}

@@ -9,3 +9,4 @@ pub mod UnitLemmas
 pub mod TrimLemmas
 pub mod NoteLemmas
 pub mod EndLemmas
+pub mod records_model

@@ -6,11 +6,11 @@ use Rattle.std.specs.Str.{bytes_eq}
 use Rattle.std.proofs.lemmas.Bool.{and_from, false_from_ne_true}
 use Rattle.std.proofs.lemmas.Slice.Eq.{bytes_eq-Decides}
 use Rattle.std.proofs.lemmas.List.{map-append}
-use Rattle.vms_model.specs.Ids.{Id}
-use Rattle.vms_model.specs.Keys.{Key}
-use Rattle.vms_model.specs.Transactions.{Outcome, Commit, Abort}
-use Rattle.records_model.specs.Records.{Records, Change}
-use Rattle.records_model.specs.History.{History, LiveChanges, same_id, changes_key, changes_by, with_changes, without, records, on_top, settled_at, settled_with}
+use Rattle.tree_model.specs.vms_model.Ids.{Id}
+use Rattle.tree_model.specs.vms_model.Keys.{Key}
+use Rattle.tree_model.specs.vms_model.Transactions.{Outcome, Commit, Abort}
+use Rattle.tree_model.specs.records_model.Records.{Records, Change}
+use Rattle.tree_model.specs.records_model.History.{History, LiveChanges, same_id, changes_key, changes_by, with_changes, without, records, on_top, settled_at, settled_with}
 use Rattle.unit_laws.specs.Units.{Map, map_in, is_of, with_key, earliest_before, with_before_images, has_changes, SerialsDiffer, Represents, IsOrderly, IsUndoGroup, UndoGroups, none, more}
 use Rattle.unit_laws.specs.Journal.{Journal, JournalEntry, ChangeEntry, PreparedEntry, SettledEntry, RecoveryUnit, Note, find_unit, units_in, entries_for, with_entries, trimmed, is_settled_in, is_of_file, note_of, notes_of, notes_in, put_back}
 use Rattle.unit_laws.specs.JournalLaws.{HasNotes, is_unit, UnchangedHasNotes, ChangesKeepNotes, ChangesElsewhereKeepNotes, PreparesKeepNotes, SettlesKeepNotes, NotesRestore, NotesCutShort}

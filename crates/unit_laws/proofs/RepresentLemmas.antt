@@ -1,10 +1,10 @@
 -- What keeps a file representing what has been committed.
 use Rattle.std.proofs.Common.{◌≡◌, ℕ, Bool, true, false, cond, List, [], ◌∷◌, Option, refl, sym, ◌∙◌, ap, subst, inl, inr, ◌||◌, ◌&&◌, not}
 use Rattle.std.specs.List.{AllByRecursion}
-use Rattle.vms_model.specs.Ids.{Id}
-use Rattle.vms_model.specs.Keys.{Key}
-use Rattle.records_model.specs.Records.{Change}
-use Rattle.records_model.specs.History.{LiveChanges, same_id, changes_key, with_change, without, changes_by}
+use Rattle.tree_model.specs.vms_model.Ids.{Id}
+use Rattle.tree_model.specs.vms_model.Keys.{Key}
+use Rattle.tree_model.specs.records_model.Records.{Change}
+use Rattle.tree_model.specs.records_model.History.{LiveChanges, same_id, changes_key, with_change, without, changes_by}
 use Rattle.unit_laws.specs.Units.{Map, is_of, with_key, latest_after, with_after_images, with_before_images, is_changed, restored, Apart, is_free, HasImages, IsImage, HasLatest, Represents}
 use Rattle.unit_laws.proofs.Tests.{or_first, or_second, or_either, or_one, or_other, or_neither, or_passed, and_first, and_second, not_true, both_ways, never, passed}
 use Rattle.unit_laws.proofs.RestoredLemmas.{restored_change, restored_commit, restored_abort, restored_changed, changed_of}

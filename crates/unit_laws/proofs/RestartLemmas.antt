@@ -3,9 +3,9 @@ use Rattle.std.proofs.Common.{◌≡◌, ◌⊎◌, ℕ, Bool, true, false, cond
 use Rattle.std.specs.List.{AllByRecursion}
 use Rattle.std.proofs.lemmas.List.Elements.{All-from_recursion, recursion_from_All}
 use Rattle.std.proofs.lemmas.List.Sorted.{All-permutation, list_any-IsPermutation}
-use Rattle.vms_model.specs.Keys.{Key}
-use Rattle.records_model.specs.Records.{Change}
-use Rattle.records_model.specs.History.{LiveChanges, changes_key}
+use Rattle.tree_model.specs.vms_model.Keys.{Key}
+use Rattle.tree_model.specs.records_model.Records.{Change}
+use Rattle.tree_model.specs.records_model.History.{LiveChanges, changes_key}
 use Rattle.unit_laws.specs.Units.{Map, is_of, with_key, earliest_before, with_before_images, is_changed, restored, Apart, HasImages, IsImage, Represents, all_undone, IsUndoGroup, UndoGroups, none, more}
 use Rattle.unit_laws.specs.Laws.{RestartsRestore, BeforeImageIsGroup}
 use Rattle.unit_laws.proofs.Tests.{both_ways, never, or_one, or_other, or_first, or_second, or_either, picked, passed}

@@ -1,9 +1,9 @@
 -- What a change, an undo and a settlement of one branch do to what is restored.
 use Rattle.std.proofs.Common.{◌≡◌, ℕ, Bool, true, false, cond, List, [], ◌∷◌, Option, refl, sym, ◌∙◌, ◌||◌, ◌&&◌, not}
-use Rattle.vms_model.specs.Ids.{Id}
-use Rattle.vms_model.specs.Keys.{Key}
-use Rattle.records_model.specs.Records.{Change}
-use Rattle.records_model.specs.History.{LiveChanges, same_id, changes_key, with_change, without, changes_by}
+use Rattle.tree_model.specs.vms_model.Ids.{Id}
+use Rattle.tree_model.specs.vms_model.Keys.{Key}
+use Rattle.tree_model.specs.records_model.Records.{Change}
+use Rattle.tree_model.specs.records_model.History.{LiveChanges, same_id, changes_key, with_change, without, changes_by}
 use Rattle.unit_laws.proofs.Tests.{and_second, not_true}
 use Rattle.unit_laws.specs.Units.{Map, is_of, with_key, earliest_before, latest_after, is_changed, restored, Apart, is_free}
 

@@ -4,8 +4,8 @@ use Rattle.std.specs.Prelude.{is_some}
 use Rattle.std.specs.Option.{option_map}
 use Rattle.std.specs.Str.{bytes_eq}
 use Rattle.std.proofs.lemmas.Bool.{false_from_ne_true}
-use Rattle.vms_model.specs.Ids.{Id}
-use Rattle.records_model.specs.History.{same_id}
+use Rattle.tree_model.specs.vms_model.Ids.{Id}
+use Rattle.tree_model.specs.records_model.History.{same_id}
 use Rattle.unit_laws.specs.Journal.{JournalEntry, ChangeEntry, PreparedEntry, SettledEntry, RecoveryUnit, Note, find_unit, units_after, units_onto, units_in, with_one_change, with_prepared, without_unit, is_of_units, entries_from, entry_size, entries_size, end_of, with_entries, trimmed, notes_of, notes_in, owed}
 use Rattle.unit_laws.specs.JournalLaws.{TrimKeepsUnits, SettlesUnit, HasSettled, BeginsUnsettled, is_unit, with_more}
 use Rattle.unit_laws.proofs.Tests.{both_ways, picked, passed}

@@ -3,9 +3,9 @@ use Rattle.std.proofs.Common.{◌≡◌, ◌≤◌, ℕ, ◌+◌, Bool, true, fa
 use Rattle.std.specs.Prelude.{is_some}
 use Rattle.std.specs.Option.{option_map}
 use Rattle.std.proofs.lemmas.Bool.{false_from_ne_true}
-use Rattle.vms_model.specs.Ids.{Id}
-use Rattle.records_model.specs.Records.{Change}
-use Rattle.records_model.specs.History.{same_id}
+use Rattle.tree_model.specs.vms_model.Ids.{Id}
+use Rattle.tree_model.specs.records_model.Records.{Change}
+use Rattle.tree_model.specs.records_model.History.{same_id}
 use Rattle.unit_laws.specs.Journal.{JournalEntry, ChangeEntry, PreparedEntry, RecoveryUnit, find_unit, units_after, units_onto, units_in, with_one_change, with_prepared, without_unit, owed, owed_to, entries_for}
 use Rattle.unit_laws.specs.JournalLaws.{UnitsFollow, ChangesMakeUnit, PreparesUnit, HasEntered, unit_or_new, with_more}
 use Rattle.unit_laws.proofs.Tests.{picked, passed}

@@ -2,12 +2,12 @@
 use Rattle.std.specs.Prelude.{ℕ, ◌+◌, ◌-◌, List, [], ◌∷◌, ◌++◌, Bool, true, false, Option, Some, None, is_some, ◌&&◌, length, if◌then◌else◌}
 use Rattle.std.specs.List.{list_any}
 use Rattle.std.specs.Str.{bytes_eq}
-use Rattle.vms_model.specs.Ids.{Id}
-use Rattle.vms_model.specs.Keys.{Key, Number, Text, End}
-use Rattle.vms_model.specs.Transactions.{Outcome}
-use Rattle.records_model.specs.Records.{Change}
-use Rattle.records_model.specs.Slots.{size_of}
-use Rattle.records_model.specs.History.{same_id}
+use Rattle.tree_model.specs.vms_model.Ids.{Id}
+use Rattle.tree_model.specs.vms_model.Keys.{Key, Number, Text, End}
+use Rattle.tree_model.specs.vms_model.Transactions.{Outcome}
+use Rattle.tree_model.specs.records_model.Records.{Change}
+use Rattle.tree_model.specs.records_model.Slots.{size_of}
+use Rattle.tree_model.specs.records_model.History.{same_id}
 use Rattle.unit_laws.specs.Units.{Map, with_key}
 
 -- Entries.

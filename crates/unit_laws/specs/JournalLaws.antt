@@ -1,11 +1,11 @@
 -- What holds of the journal of recovery units, whatever is entered, and what can be restored by it.
 use Rattle.std.specs.Prelude.{◌≡◌, ◌≢◌, ◌≤◌, ℕ, ◌+◌, List, [], ◌∷◌, ◌++◌, Bool, true, false, Option, Some, None, is_some, map, length, if◌then◌else◌}
 use Rattle.std.specs.List.{list_any, AllByRecursion}
-use Rattle.vms_model.specs.Ids.{Id}
-use Rattle.vms_model.specs.Keys.{Key}
-use Rattle.vms_model.specs.Transactions.{Outcome}
-use Rattle.records_model.specs.Records.{Change, Found}
-use Rattle.records_model.specs.History.{History, LiveChanges, same_id, changes_by, changed_with, settled_at, current, records}
+use Rattle.tree_model.specs.vms_model.Ids.{Id}
+use Rattle.tree_model.specs.vms_model.Keys.{Key}
+use Rattle.tree_model.specs.vms_model.Transactions.{Outcome}
+use Rattle.tree_model.specs.records_model.Records.{Change, Found}
+use Rattle.tree_model.specs.records_model.History.{History, LiveChanges, same_id, changes_by, changed_with, settled_at, current, records}
 use Rattle.unit_laws.specs.Units.{Map, map_in, is_free, with_before_images, has_changes, SerialsDiffer, Represents, IsOrderly, UndoGroups}
 use Rattle.unit_laws.specs.Journal.{Journal, JournalEntry, PreparedEntry, RecoveryUnit, Note, find_unit, units_in, units_onto, owed, entries_size, end_of, entries_for, is_of_units, with_entries, trimmed, with_settled, is_settled_in, is_of_file, note_of, notes_in, put_back}
 

@@ -2,11 +2,11 @@
 use Rattle.std.specs.Prelude.{◌≡◌, ℕ, true, List, [], ◌∷◌, ◌++◌, IsPermutation}
 use Rattle.std.specs.List.{AllByRecursion}
 use Rattle.std.specs.FinMap.{get}
-use Rattle.vms_model.specs.Ids.{Id}
-use Rattle.vms_model.specs.Keys.{Key}
-use Rattle.vms_model.specs.Transactions.{Commit, Abort}
-use Rattle.records_model.specs.Records.{Change, Found, applied}
-use Rattle.records_model.specs.History.{History, LiveChanges, changes_by, current, records, settled_at, changed_with, with_changes, without}
+use Rattle.tree_model.specs.vms_model.Ids.{Id}
+use Rattle.tree_model.specs.vms_model.Keys.{Key}
+use Rattle.tree_model.specs.vms_model.Transactions.{Commit, Abort}
+use Rattle.tree_model.specs.records_model.Records.{Change, Found, applied}
+use Rattle.tree_model.specs.records_model.History.{History, LiveChanges, changes_by, current, records, settled_at, changed_with, with_changes, without}
 use Rattle.unit_laws.specs.Units.{Map, map_in, is_of, with_key, with_after_images, with_before_images, Represents, IsOrderly, is_free, all_undone, IsUndoGroup, UndoGroups, SerialsDiffer, moves_end, OneMovesEnd, end_is_free}
 
 -- One of several branches changes a key that is free for it, and notes what it found: that key alone is set, and nothing is committed.

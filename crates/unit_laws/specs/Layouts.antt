@@ -1,10 +1,10 @@
 -- What becomes of the layout of an indexed file where a branch that changed it is undone.
 use Rattle.std.specs.Prelude.{List, map, if◌then◌else◌}
-use Rattle.vms_model.specs.Keys.{Text}
-use Rattle.records_model.specs.Records.{Change}
-use Rattle.records_model.specs.Slots.{Slot, with_value}
+use Rattle.tree_model.specs.vms_model.Keys.{Text}
+use Rattle.tree_model.specs.records_model.Records.{Change}
+use Rattle.tree_model.specs.records_model.Slots.{Slot, with_value}
 use Rattle.tree_model.specs.Layouts.{Leaf, Layout}
-use Rattle.records_model.specs.History.{changes_key}
+use Rattle.tree_model.specs.records_model.History.{changes_key}
 use Rattle.unit_laws.specs.Units.{earliest_before}
 
 -- a slot after the branch that made these changes was undone: where its key is one of theirs, it has again the key's earliest before image

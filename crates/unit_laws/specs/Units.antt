@@ -4,10 +4,10 @@ use Rattle.std.specs.List.{list_any, AllByRecursion}
 use Rattle.std.specs.Option.{is_none}
 use Rattle.std.specs.Ordering.{eq_by_cmp}
 use Rattle.std.specs.FinMap.{get}
-use Rattle.vms_model.specs.Ids.{Id}
-use Rattle.vms_model.specs.Keys.{Key}
-use Rattle.records_model.specs.Records.{Change, Records, key_cmp}
-use Rattle.records_model.specs.History.{History, LiveChanges, same_id, changes_key, current, records}
+use Rattle.tree_model.specs.vms_model.Ids.{Id}
+use Rattle.tree_model.specs.vms_model.Keys.{Key}
+use Rattle.tree_model.specs.records_model.Records.{Change, Records, key_cmp}
+use Rattle.tree_model.specs.records_model.History.{History, LiveChanges, same_id, changes_key, current, records}
 
 -- what each key has: the bytes of its record, or none
 abbrev pub Map : Type 0

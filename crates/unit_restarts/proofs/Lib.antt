@@ -1,2 +1,3 @@
 pub mod RestartLemmas
 pub mod RoomLemmas
+pub mod unit_aborts

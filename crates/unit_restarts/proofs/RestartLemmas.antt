@@ -3,15 +3,15 @@ use Rattle.std.proofs.Common.{◌≡◌, ℕ, zero, suc, ◌+◌, ◌-◌, ◌*�
 use Rattle.std.specs.Prelude.{IsSome, replicate, slice_index_or}
 use Rattle.std.specs.List.{AllByRecursion}
 use Rattle.std.proofs.lemmas.Bool.{cases_eq, cases_Bool}
-use Rattle.commit_protocol.specs.Agreement.{Distinct}
-use Rattle.commit_protocol.specs.Messages.{LogRecord}
-use Rattle.commit_protocol.specs.Table.{record_serials}
-use Rattle.commit_protocol.specs.World.{In}
+use Rattle.unit_entries.specs.commit_protocol.Agreement.{Distinct}
+use Rattle.unit_entries.specs.commit_protocol.Messages.{LogRecord}
+use Rattle.unit_entries.specs.commit_protocol.Table.{record_serials}
+use Rattle.unit_entries.specs.commit_protocol.World.{In}
 use Rattle.records_model.specs.History.{same_id}
 use Rattle.unit_aborts.proofs.TakeLemmas.{changers_without, one_fewer}
 use Rattle.unit_entries.specs.Opening.{AscendWithin}
 use Rattle.unit_entries.proofs.OpenLemmas.{all_less, first_holds, less_none}
-use Rattle.unit_laws.proofs.LiveLemmas.{clash, id_is, id_itself}
+use Rattle.unit_entries.proofs.unit_laws.LiveLemmas.{clash, id_is, id_itself}
 use Rattle.unit_returns.specs.Returning.{AreLow, AreOfRecords, HaveChanges, TakeChanges}
 use Rattle.unit_table.specs.Places.{count_at, occurrences}
 use Rattle.unit_table.specs.Units as table

@@ -4,14 +4,14 @@ use Rattle.std.specs.Prelude.{max, nat_le}
 use Rattle.std.specs.List.{AllByRecursion}
 use Rattle.std.proofs.lemmas.Bool.{leb-false}
 use Rattle.std.proofs.lemmas.Bool.Decides.{nat_tests}
-use Rattle.commit_protocol.specs.Messages.{LogRecord}
-use Rattle.log_laws.specs.Slots.{Slots, is_prepared_record}
+use Rattle.unit_entries.specs.commit_protocol.Messages.{LogRecord}
+use Rattle.unit_entries.specs.log_laws.Slots.{Slots, is_prepared_record}
 use Rattle.lmcp_log.specs.Log.{with_few_prepared}
 use Rattle.ru_journal.specs.Told.{UnitTold}
 use Rattle.unit_aborts.specs.Growing.{AreTold, GrowsBy}
 use Rattle.unit_aborts.specs.Reopening.{HasTaken, Reopens, broken, full, taken}
 use Rattle.unit_aborts.specs.declared.reopening.AbortedUnit.{AbortedUnit}
-use Rattle.unit_journal.specs.Settling.{next_moment}
+use Rattle.unit_returns.specs.unit_journal.Settling.{next_moment}
 use Rattle.unit_table.specs.Units.{OpenUnit}
 use Rattle.volume.specs.State.{VolumeState}
 use Rattle.volume.specs.declared.catalog.Catalog.{Catalog}

@@ -1,18 +1,18 @@
 -- What a restart makes of the units of a volume, with the log of that volume.
 use Rattle.std.specs.Prelude.{◌≡◌, ◌≤◌, ◌+◌, ℕ, List, [], IfSome, length, map}
 use Rattle.vms_model.specs.Limits.{branch_limit, lock_limit}
-use Rattle.commit_protocol.specs.Agreement.{Distinct}
-use Rattle.commit_protocol.specs.Table.{record_serials}
+use Rattle.unit_entries.specs.commit_protocol.Agreement.{Distinct}
+use Rattle.unit_entries.specs.commit_protocol.Table.{record_serials}
 use Rattle.journal_model.specs.Entries.{Entry}
 use Rattle.journal_model.specs.Ring.{IsJournal}
-use Rattle.log_laws.specs.Slots.{Slots, committed_of, prepared_of, records_in}
+use Rattle.unit_entries.specs.log_laws.Slots.{Slots, committed_of, prepared_of, records_in}
 use Rattle.record_locks.specs.Locks.{Lock}
-use Rattle.run_model.specs.World.{records_by}
-use Rattle.tm_types.specs.Parts.{log_record_of}
+use Rattle.unit_entries.specs.run_model.World.{records_by}
+use Rattle.lmcp_log.specs.tm_types.Parts.{log_record_of}
 use Rattle.unit_aborts.specs.Reopening.{Reopens, ReopensNot}
 use Rattle.unit_aborts.specs.declared.reopening.AbortedUnit.{AbortedUnit}
 use Rattle.unit_entries.specs.Voting.{votes_in}
-use Rattle.unit_journal.specs.Groups.{LeavesOld}
+use Rattle.unit_returns.specs.unit_journal.Groups.{LeavesOld}
 use Rattle.unit_returns.specs.Returning.{AreAllChangesAt, AreOfRecords, HaveChanges, HoldChanges}
 use Rattle.unit_table.specs.Units.{OpenUnit, Units, begun}
 use Rattle.vms_base.specs.declared.protocol.LogRec.{LogRec}

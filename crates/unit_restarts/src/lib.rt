@@ -6,4 +6,4 @@ mod restarting;
 
 pub use restarted::Restarted;
 pub use restarting::{RestartRoom, restart};
-pub use unit_aborts::AbortedUnit;
+pub use unit_aborts::{AbortedUnit, abort_unit};

@@ -2,11 +2,11 @@
 ghost use Rattle.std.specs.Prelude.{◌≡◌, ◌≤◌, ◌<◌, ◌+◌, ◌-◌, ◌++◌, [], OnOk, OnErr, length, map, max, vec_capacity};
 ghost use Rattle.vms_model.specs.Limits.{branch_limit, lock_limit, slot_limit};
 ghost use Rattle.careful_write.specs.Down.{Counts};
-ghost use Rattle.image_room.specs.Room.{AllSettlementsFit};
+ghost use Rattle.unit_aborts.specs.image_room.Room.{AllSettlementsFit};
 ghost use Rattle.journal_model.specs.Ring.{ring_size};
 ghost use Rattle.lmcp_log.specs.Log.{with_few_prepared};
-ghost use Rattle.log_laws.specs.Slots.{committed_of, prepared_of, records_in};
-ghost use Rattle.tm_types.specs.Parts.{log_record_of};
+ghost use Rattle.unit_entries.specs.log_laws.Slots.{committed_of, prepared_of, records_in};
+ghost use Rattle.lmcp_log.specs.tm_types.Parts.{log_record_of};
 ghost use Rattle.unit_aborts.specs.Aborting.{MayAbort};
 ghost use Rattle.unit_aborts.specs.Growing.{AreTold, GrowsBy};
 ghost use Rattle.unit_aborts.specs.Reopening.{MayReopen};

@@ -4,7 +4,7 @@ use Rattle.std.specs.Prelude.{IfSome}
 use Rattle.std.specs.List.{AllByRecursion}
 use Rattle.std.proofs.lemmas.Bool.Decides.{nat_tests}
 use Rattle.std.proofs.lemmas.List.{take_all}
-use Rattle.commit_protocol.specs.Messages.{LogRecord}
+use Rattle.unit_entries.specs.commit_protocol.Messages.{LogRecord}
 use Rattle.file_base.specs.declared.head.FileHead.{FileHead}
 use Rattle.journal_format.specs.Heads.{entry_of}
 use Rattle.journal_format.specs.declared.head.EntryHead.{EntryHead}

@@ -1,7 +1,7 @@
 -- What a restart makes of the prepared branches of its log: they are units again.
 use Rattle.std.specs.Prelude.{◌≡◌, ◌≤◌, ◌^◌, ◌++◌, ℕ, true, Bool, List, [], ◌∷◌, Option, Some, None, IfSome, length}
 use Rattle.std.specs.List.{AllByRecursion}
-use Rattle.commit_protocol.specs.Messages.{LogRecord}
+use Rattle.unit_entries.specs.commit_protocol.Messages.{LogRecord}
 use Rattle.file_base.specs.declared.head.FileHead.{FileHead}
 use Rattle.file_base.specs.declared.head.Span.{Span}
 use Rattle.journal_model.specs.Entries.{Entry}

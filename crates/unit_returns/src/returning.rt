@@ -5,7 +5,7 @@ ghost use Rattle.vms_model.specs.Limits.{branch_limit};
 ghost use Rattle.careful_write.specs.Down.{Counts};
 ghost use Rattle.careful_write.specs.State.{IsReady};
 ghost use Rattle.journal_store.specs.Rings.{IsRing};
-ghost use Rattle.tm_types.specs.Parts.{log_record_of};
+ghost use Rattle.unit_entries.specs.tm_types.Parts.{log_record_of};
 ghost use Rattle.unit_journal.specs.Groups.{LeavesOld};
 ghost use Rattle.unit_table.specs.Units.{begun, is_of, without_first};
 ghost use Rattle.vms_base.specs.Ids.{serial_of};

@@ -1,6 +1,6 @@
 -- How the places and the order of a table of units hang together.
 use Rattle.std.specs.Prelude.{◌≡◌, ℕ, suc, ◌==◌, Bool, true, List, [], ◌∷◌, ◌++◌, Option, Some, None, length, if◌then◌else◌}
-use Rattle.vms_model.specs.Limits.{branch_limit}
+use Rattle.vms_base.specs.vms_model.Limits.{branch_limit}
 use Rattle.unit_table.specs.Units.{OpenUnit, first_that, unit_at, units_of}
 
 -- how often a number stands in a list

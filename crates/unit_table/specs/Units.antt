@@ -1,8 +1,8 @@
 -- The unsettled units of a node, as its memory has them.
 use Rattle.std.specs.Prelude.{◌≡◌, ℕ, ◌+◌, ◌≤◌, ◌==◌, List, [], ◌∷◌, ◌++◌, Bool, true, false, not, Option, Some, None, min, replicate, slice_set, slice_index_or, if◌then◌else◌}
 use Rattle.std.specs.List.{filter}
-use Rattle.vms_model.specs.Ids.{Id}
-use Rattle.vms_model.specs.Limits.{branch_limit, file_limit}
+use Rattle.vms_base.specs.vms_model.Ids.{Id}
+use Rattle.vms_base.specs.vms_model.Limits.{branch_limit, file_limit}
 use Rattle.records_model.specs.History.{same_id}
 
 -- A unit that is not settled: its branch, where its changes begin in the journal, the oldest first, of each file number whether it changed the file, and

@@ -1,7 +1,7 @@
 // A place of a table, for one unit.
 ghost use Rattle.std.specs.Prelude.{◌≡◌, ◌≤◌, ◌<◌, IfOk, IfSome, IsSome, None, Some, is_some, length, option_map, true, vec_capacity};
 ghost use Rattle.std.specs.Option.{option_and_then};
-ghost use Rattle.vms_model.specs.Limits.{change_limit, file_limit};
+ghost use Rattle.vms_base.specs.vms_model.Limits.{change_limit, file_limit};
 ghost use Rattle.vms_base.specs.Ids.{id_of, serial_of, tid_of};
 ghost use Rattle.records_model.specs.History.{same_id};
 ghost use Rattle.unit_table.specs.declared.place.Branch.{Branch};
@@ -40,7 +40,7 @@ pub(crate) struct Place {
 
 impl Model for Place {
     ghost use Rattle.std.specs.Prelude.{◌≡◌, ◌≤◌, Option, length, option_map, vec_capacity};
-    ghost use Rattle.vms_model.specs.Limits.{change_limit, file_limit};
+    ghost use Rattle.vms_base.specs.vms_model.Limits.{change_limit, file_limit};
     ghost use Rattle.vms_base.specs.Ids.{serial_of, tid_of};
     ghost use Rattle.unit_table.specs.Units.{OpenUnit};
     ghost use Rattle.unit_table.specs.declared.place.Branch.{Branch};

@@ -1,7 +1,7 @@
 // A table of units.
 ghost use Rattle.std.specs.Prelude.{◌≡◌, ◌++◌, ◌∷◌, [], ℕ, ◌≤◌, ◌<◌, ◌*◌, IfOk, IfSome, IfNone, IsSome, None, length, option_map, true};
 ghost use Rattle.std.specs.List.{AllByRecursion};
-ghost use Rattle.vms_model.specs.Limits.{branch_limit, change_limit, file_limit};
+ghost use Rattle.vms_base.specs.vms_model.Limits.{branch_limit, change_limit, file_limit};
 ghost use Rattle.vms_base.specs.Ids.{serial_of, tid_of};
 ghost use Rattle.unit_table.specs.declared.place.Branch.{Branch as BranchSaid};
 ghost use Rattle.unit_table.specs.Places.{AreInOrder, IsFirstPlace};
@@ -25,7 +25,7 @@ pub struct UnitTable {
 
 impl Model for UnitTable {
     ghost use Rattle.std.specs.Prelude.{◌≤◌, vec_capacity};
-    ghost use Rattle.vms_model.specs.Limits.{branch_limit};
+    ghost use Rattle.vms_base.specs.vms_model.Limits.{branch_limit};
     ghost use Rattle.unit_table.specs.Units.{Units};
     ghost use Rattle.unit_table.specs.Places.{AreInOrder};
 

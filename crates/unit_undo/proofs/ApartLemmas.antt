@@ -8,14 +8,14 @@ use Rattle.block_disk.specs.Blocks.{block_at}
 use Rattle.careful_write.specs.State.{EachWhole}
 use Rattle.careful_write.specs.Steps.{AgreesOff}
 use Rattle.file_base.specs.declared.head.Span.{Span}
-use Rattle.file_images.specs.Files.{SameRing}
+use Rattle.directory_model.specs.file_images.Files.{SameRing}
 use Rattle.file_base.specs.declared.head.FileHead.{FileHead}
-use Rattle.change_set.specs.Files.{AgreesOn, in_extent}
-use Rattle.extents.specs.declared.extent.Extent.{Extent as Area}
+use Rattle.unit_entries.specs.change_set.Files.{AgreesOn, in_extent}
+use Rattle.volume.specs.extents.declared.extent.Extent.{Extent as Area}
 use Rattle.volume.specs.declared.catalog.Catalog.{Catalog}
 use Rattle.volume.specs.Catalogs.{IsSound, head_at}
 use Rattle.volume.specs.Limits.{data_area}
-use Rattle.volume_format.specs.Home.{sizes_of}
+use Rattle.volume.specs.volume_format.Home.{sizes_of}
 use Rattle.directory_model.specs.Files.{AgreesOnCarried, AgreesOnFile, Fit}
 use Rattle.directory_model.proofs.Apart.{lie_apart, writes_apart}
 use Rattle.volume_files.specs.Staging.{is_of_file}

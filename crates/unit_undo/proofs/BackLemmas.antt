@@ -7,18 +7,18 @@ use Rattle.vms_model.specs.Keys.{Key, Number, Text, End}
 use Rattle.records_model.specs.Records.{Change}
 use Rattle.records_model.specs.Slots.{Slot, same_bytes, size_of, with_value}
 use Rattle.records_model.specs.Chain as chain
-use Rattle.tree_model.specs.Layouts.{Leaf, Layout}
-use Rattle.tree_model.specs.Setting as setting
+use Rattle.unit_entries.specs.tree_model.Layouts.{Leaf, Layout}
+use Rattle.unit_entries.specs.tree_model.Setting as setting
 use Rattle.records_model.specs.History.{changes_key}
 use Rattle.records_model.proofs.RecordsLemmas as records
 use Rattle.records_model.proofs.SlotLaws.{same_bytes_are}
-use Rattle.change_set.specs.Files.{SameFile}
-use Rattle.change_set.specs.Maps.{same_key, set_key}
-use Rattle.record_files.specs.Any as any
-use Rattle.record_files.specs.Any.{map_of, layout_of, room_at, IsLaidOut}
-use Rattle.unit_laws.specs.Units.{earliest_before, with_before_images}
-use Rattle.unit_laws.specs.Layouts.{slot_restored, layout_restored}
-use Rattle.unit_laws.proofs.Tests.{never, or_either}
+use Rattle.unit_entries.specs.change_set.Files.{SameFile}
+use Rattle.unit_entries.specs.change_set.Maps.{same_key, set_key}
+use Rattle.directory_model.specs.record_files.Any as any
+use Rattle.directory_model.specs.record_files.Any.{map_of, layout_of, room_at, IsLaidOut}
+use Rattle.unit_entries.specs.unit_laws.Units.{earliest_before, with_before_images}
+use Rattle.unit_entries.specs.unit_laws.Layouts.{slot_restored, layout_restored}
+use Rattle.unit_entries.proofs.unit_laws.Tests.{never, or_either}
 use Rattle.unit_undo.specs.Steps.{has_key, slot_back, slots_back, AreSetBack}
 use Rattle.unit_entries.proofs.KeyLemmas.{itself}
 

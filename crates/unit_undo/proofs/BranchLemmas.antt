@@ -6,9 +6,9 @@ use Rattle.vms_model.specs.Ids.{Id}
 use Rattle.vms_model.specs.Keys.{Key}
 use Rattle.records_model.specs.Records.{Change}
 use Rattle.records_model.specs.History.{LiveChanges, same_id, changes_key, changes_by}
-use Rattle.unit_laws.specs.Units.{Map, HasImages, is_changed, Apart, OneMovesEnd, moves_end}
-use Rattle.unit_laws.proofs.Tests.{never, or_first, or_second, or_one, or_other}
-use Rattle.unit_laws.proofs.RepresentLemmas.{images_one_kept}
+use Rattle.unit_entries.specs.unit_laws.Units.{Map, HasImages, is_changed, Apart, OneMovesEnd, moves_end}
+use Rattle.unit_entries.proofs.unit_laws.Tests.{never, or_first, or_second, or_one, or_other}
+use Rattle.unit_entries.proofs.unit_laws.RepresentLemmas.{images_one_kept}
 use Rattle.unit_undo.specs.Steps.{IsBeside}
 
 -- what a branch changed is changed

@@ -12,26 +12,26 @@ use Rattle.records_model.specs.Slots.{Slot, AllBehind, IsOrdered, room_in, room_
 use Rattle.records_model.proofs.RecordsLemmas as record_lemmas
 use Rattle.records_model.proofs.SlotLaws.{behind_not_same}
 use Rattle.std.specs.Prelude.{max}
-use Rattle.change_set.specs.Maps.{same_key}
+use Rattle.unit_entries.specs.change_set.Maps.{same_key}
 use Rattle.unit_entries.proofs.KeyLemmas.{itself}
 use Rattle.records_model.specs.History.{LiveChanges, same_id, changes_key, changes_by}
-use Rattle.change_set.specs.Files.{SameFile}
-use Rattle.record_files.specs.Any as any
-use Rattle.record_files.specs.Any.{map_of, map_by, layout_of, layout_by, room_at, room_by}
-use Rattle.seq_file.specs.Layout.{records_in}
-use Rattle.seq_file.specs.Records.{map_of_list}
-use Rattle.indexed_file.specs.Chain as leaf
-use Rattle.indexed_tree.specs.Files as indexed
-use Rattle.indexed_tree.specs.Maps.{all_slots}
-use Rattle.relative_file.specs.Cells as relative
-use Rattle.tree_model.specs.Layouts.{Leaf, Layout, no_layout, slots_along}
-use Rattle.unit_laws.specs.Layouts.{layout_restored}
-use Rattle.unit_laws.specs.Units.{Map, IsImage, Represents, HasImages, earliest_before, with_before_images}
-use Rattle.unit_laws.proofs.Tests.{never, or_either, passed}
-use Rattle.sequence_laws.specs.Undoing.{GoesBack}
-use Rattle.sequence_laws.proofs.SequenceLemmas.{earliest_is_one}
+use Rattle.unit_entries.specs.change_set.Files.{SameFile}
+use Rattle.directory_model.specs.record_files.Any as any
+use Rattle.directory_model.specs.record_files.Any.{map_of, map_by, layout_of, layout_by, room_at, room_by}
+use Rattle.directory_model.specs.seq_file.Layout.{records_in}
+use Rattle.directory_model.specs.seq_file.Records.{map_of_list}
+use Rattle.directory_model.specs.indexed_file.Chain as leaf
+use Rattle.directory_model.specs.indexed_tree.Files as indexed
+use Rattle.directory_model.specs.indexed_tree.Maps.{all_slots}
+use Rattle.directory_model.specs.relative_file.Cells as relative
+use Rattle.unit_entries.specs.tree_model.Layouts.{Leaf, Layout, no_layout, slots_along}
+use Rattle.unit_entries.specs.unit_laws.Layouts.{layout_restored}
+use Rattle.unit_entries.specs.unit_laws.Units.{Map, IsImage, Represents, HasImages, earliest_before, with_before_images}
+use Rattle.unit_entries.proofs.unit_laws.Tests.{never, or_either, passed}
+use Rattle.unit_entries.specs.sequence_laws.Undoing.{GoesBack}
+use Rattle.unit_entries.proofs.sequence_laws.SequenceLemmas.{earliest_is_one}
 use Rattle.directory_model.specs.Restoring.{bare, bare_leaf, bare_layout, CanRestoreBy, CanRestore, IsGrouped, IsRestored}
-use Rattle.run_model.specs.World.{IsOnItsWay}
+use Rattle.unit_entries.specs.run_model.World.{IsOnItsWay}
 use Rattle.unit_undo.specs.Steps.{has_key, slot_back, leaf_back, slots_back, AreSetBack, ArePositionsBack, ArePositions, IsPartlyUndone}
 use Rattle.unit_undo.proofs.BackLemmas.{map_back, layout_is_back, owned}
 use Rattle.unit_undo.proofs.PositionLemmas.{sizes_alike, goes_as, positions_back}

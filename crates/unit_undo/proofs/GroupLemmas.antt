@@ -12,19 +12,19 @@ use Rattle.records_model.specs.Slots.{size_of}
 use Rattle.records_model.specs.History.{LiveChanges, changes_by}
 use Rattle.careful_write.specs.State.{EachWhole}
 use Rattle.file_base.specs.declared.head.Span.{Span}
-use Rattle.file_images.specs.Files.{SameRing}
-use Rattle.change_set.specs.Files.{AgreesOn}
-use Rattle.record_files.specs.Any.{map_of, FormBy, LaidOutBy}
-use Rattle.record_files.specs.Local as local
-use Rattle.seq_file.specs.Layout.{records_in}
-use Rattle.seq_file.specs.Local as sequential_local
-use Rattle.seq_file.proofs.RecordLaws.{one_list}
-use Rattle.indexed_file.specs.Chain as leaf
-use Rattle.indexed_tree.specs.Files as indexed
-use Rattle.record_files.specs.Indexed as indexed_local
-use Rattle.unit_laws.specs.Units.{Map, IsUndoGroup, earliest_before}
-use Rattle.sequence_laws.specs.Undoing.{GoesBack}
-use Rattle.run_model.specs.World.{File}
+use Rattle.directory_model.specs.file_images.Files.{SameRing}
+use Rattle.unit_entries.specs.change_set.Files.{AgreesOn}
+use Rattle.directory_model.specs.record_files.Any.{map_of, FormBy, LaidOutBy}
+use Rattle.directory_model.specs.record_files.Local as local
+use Rattle.directory_model.specs.seq_file.Layout.{records_in}
+use Rattle.directory_model.specs.seq_file.Local as sequential_local
+use Rattle.unit_entries.proofs.seq_file.RecordLaws.{one_list}
+use Rattle.directory_model.specs.indexed_file.Chain as leaf
+use Rattle.directory_model.specs.indexed_tree.Files as indexed
+use Rattle.directory_model.specs.record_files.Indexed as indexed_local
+use Rattle.unit_entries.specs.unit_laws.Units.{Map, IsUndoGroup, earliest_before}
+use Rattle.unit_entries.specs.sequence_laws.Undoing.{GoesBack}
+use Rattle.unit_entries.specs.run_model.World.{File}
 use Rattle.directory_model.specs.Files.{AgreesOnCarried, head_at, file_at}
 use Rattle.directory_model.specs.Restoring.{bare_layout, CanRestoreBy, IsLeft, IsPlaceLeft, AreLeft, IsGrouped, IsPlaceGrouped, AreGrouped}
 use Rattle.unit_undo.specs.Steps.{IsPartlyUndone}

@@ -14,3 +14,6 @@ pub mod UnitLemmas
 pub mod LoopLemmas
 pub mod NumberLemmas
 pub mod LastLemmas
+pub mod directory_model
+pub mod file_images
+pub mod unit_entries

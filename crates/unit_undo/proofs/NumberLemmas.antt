@@ -1,12 +1,12 @@
 -- The files of a volume one after another, from what the calls promise.
 use Rattle.std.proofs.Common.{◌≡◌, ℕ, ◌+◌, ◌≤◌, List, length, Option, Some, IfSome, refl, sym, ◌∙◌, ap, subst, arith}
 use Rattle.careful_write.specs.State.{EachWhole, IsEither, IsIdle, Leaves, content}
-use Rattle.change_set.specs.Files.{free_frames}
+use Rattle.unit_entries.specs.change_set.Files.{free_frames}
 use Rattle.file_base.specs.declared.head.FileHead.{FileHead}
 use Rattle.journal_store.specs.Rings.{IsRing}
 use Rattle.vms_model.specs.Ids.{Id}
-use Rattle.journal_model.specs.Entries.{Entry}
-use Rattle.run_model.specs.World.{File}
+use Rattle.journal_format.specs.journal_model.Entries.{Entry}
+use Rattle.unit_entries.specs.run_model.World.{File}
 use Rattle.volume.specs.declared.catalog.Catalog.{Catalog}
 use Rattle.volume.specs.Catalogs.{IsSound}
 use Rattle.volume.specs.State.{VolumeState}

@@ -11,28 +11,28 @@ use Rattle.vms_model.specs.Keys.{Key, Number, Text, End}
 use Rattle.records_model.specs.Records.{Change}
 use Rattle.records_model.specs.History.{LiveChanges, same_id, changes_key, changes_by, records}
 use Rattle.records_model.proofs.RecordsLemmas as record_lemmas
-use Rattle.change_set.specs.Maps.{same_key, set_key}
-use Rattle.record_files.specs.Any as any
-use Rattle.record_files.specs.Any.{map_of, Suits, Restores, IsLaidOut}
-use Rattle.record_files.specs.Local as local
-use Rattle.seq_file.specs.Layout as layout
-use Rattle.seq_file.specs.Layout.{IsSequential, IsRecord, records_in, capacity}
-use Rattle.seq_file.specs.Placing.{buckets_for}
-use Rattle.seq_file.specs.Records.{record_at, map_of_list, cut_from, slot_sizes}
-use Rattle.seq_file.proofs.FileLaws.{used_is}
-use Rattle.seq_file.proofs.RecordLaws.{one_list, record_at_past}
-use Rattle.journal_model.specs.Entries.{has_image}
-use Rattle.unit_laws.specs.Units.{Map, map_in, HasImages, earliest_before}
-use Rattle.unit_laws.proofs.Tests.{and_first, and_second, picked, passed}
-use Rattle.unit_laws.proofs.LiveLemmas.{clash}
-use Rattle.sequence_laws.specs.Undoing.{GoesBack, AllInPlace, goes_in_place, lowest_absent, is_taken_away}
-use Rattle.sequence_laws.specs.Laws.{IsFirstOff}
-use Rattle.sequence_laws.proofs.SequenceLemmas.{behind, in_place_none, is_there, none_is_not, off_is_some, some_is_one, taken}
-use Rattle.sequence_laws.proofs.OthersLemmas.{quiet_goes, replaced}
-use Rattle.sequence_laws.proofs.ChangeLemmas.{nothing_goes_back}
+use Rattle.unit_entries.specs.change_set.Maps.{same_key, set_key}
+use Rattle.directory_model.specs.record_files.Any as any
+use Rattle.directory_model.specs.record_files.Any.{map_of, Suits, Restores, IsLaidOut}
+use Rattle.directory_model.specs.record_files.Local as local
+use Rattle.directory_model.specs.seq_file.Layout as layout
+use Rattle.directory_model.specs.seq_file.Layout.{IsSequential, IsRecord, records_in, capacity}
+use Rattle.directory_model.specs.seq_file.Placing.{buckets_for}
+use Rattle.directory_model.specs.seq_file.Records.{record_at, map_of_list, cut_from, slot_sizes}
+use Rattle.unit_entries.proofs.seq_file.FileLaws.{used_is}
+use Rattle.unit_entries.proofs.seq_file.RecordLaws.{one_list, record_at_past}
+use Rattle.journal_format.specs.journal_model.Entries.{has_image}
+use Rattle.unit_entries.specs.unit_laws.Units.{Map, map_in, HasImages, earliest_before}
+use Rattle.unit_entries.proofs.unit_laws.Tests.{and_first, and_second, picked, passed}
+use Rattle.unit_entries.proofs.unit_laws.LiveLemmas.{clash}
+use Rattle.unit_entries.specs.sequence_laws.Undoing.{GoesBack, AllInPlace, goes_in_place, lowest_absent, is_taken_away}
+use Rattle.unit_entries.specs.sequence_laws.Laws.{IsFirstOff}
+use Rattle.unit_entries.proofs.sequence_laws.SequenceLemmas.{behind, in_place_none, is_there, none_is_not, off_is_some, some_is_one, taken}
+use Rattle.unit_entries.proofs.sequence_laws.OthersLemmas.{quiet_goes, replaced}
+use Rattle.unit_entries.proofs.sequence_laws.ChangeLemmas.{nothing_goes_back}
 use Rattle.volume.specs.Catalogs.{IsSound}
 use Rattle.volume.specs.State.{SameVolume, VolumeState}
-use Rattle.run_model.specs.World.{File, IsOnItsWay}
+use Rattle.unit_entries.specs.run_model.World.{File, IsOnItsWay}
 use Rattle.directory_model.specs.Files.{head_at}
 use Rattle.directory_model.specs.Restoring.{CanRestoreBy}
 use Rattle.volume_files.specs.Staging.{SetsBack, CutsFile}

@@ -6,26 +6,26 @@ use Rattle.std.specs.Option.{is_none}
 use Rattle.std.proofs.lemmas.Bool.{false_from_ne_true}
 use Rattle.std.proofs.lemmas.List.Elements.{All-head, All-tail}
 use Rattle.file_base.specs.declared.head.FileHead.{FileHead}
-use Rattle.change_set.specs.Files.{SameFile}
-use Rattle.change_set.specs.Maps.{same_key, set_key}
+use Rattle.unit_entries.specs.change_set.Files.{SameFile}
+use Rattle.unit_entries.specs.change_set.Maps.{same_key, set_key}
 use Rattle.vms_model.specs.Keys.{Key, Number, Text, End}
 use Rattle.records_model.specs.Records.{Change}
 use Rattle.records_model.specs.History.{changes_key}
 use Rattle.records_model.proofs.RecordsLemmas as records
-use Rattle.seq_file.specs.Layout as sequential
-use Rattle.seq_file.specs.Layout.{IsSequential, IsRecord, records_in, capacity}
-use Rattle.seq_file.specs.Placing.{buckets_for}
-use Rattle.seq_file.specs.Records.{record_at, map_of_list, list_set, cut_from, slot_sizes, MaySet}
-use Rattle.seq_file.proofs.RecordLaws.{one_list, record_at_past}
-use Rattle.seq_file.proofs.MapLaws.{map_set, map_cut}
-use Rattle.seq_file.proofs.FileLaws.{append_takes, used_is}
-use Rattle.unit_laws.specs.Units.{Map, HasImages, IsImage, is_of, earliest_before, with_before_images, moves_end}
-use Rattle.unit_laws.proofs.Tests.{both_ways, never, or_either, or_one, or_other, picked, passed}
-use Rattle.sequence_laws.specs.Undoing.{GoesBack, AllInPlace, lowest_absent, absent_at, lower, is_taken_away}
-use Rattle.sequence_laws.specs.Laws.{IsStep, IsFirstOff, IsSetBefore, IsChangeOf}
-use Rattle.sequence_laws.proofs.SequenceLemmas.{all_set_is_back, before, behind, cut_goes_back, in_place_gone, none_is_not, off_is_some, same_or_other, set_at, set_goes_back, set_may, some_before, some_is_one, some_of, some_same}
-use Rattle.sequence_laws.proofs.ChangeLemmas.{change_beside_goes_back}
-use Rattle.run_model.specs.World.{IsOnItsWay}
+use Rattle.directory_model.specs.seq_file.Layout as sequential
+use Rattle.directory_model.specs.seq_file.Layout.{IsSequential, IsRecord, records_in, capacity}
+use Rattle.directory_model.specs.seq_file.Placing.{buckets_for}
+use Rattle.directory_model.specs.seq_file.Records.{record_at, map_of_list, list_set, cut_from, slot_sizes, MaySet}
+use Rattle.unit_entries.proofs.seq_file.RecordLaws.{one_list, record_at_past}
+use Rattle.unit_entries.proofs.seq_file.MapLaws.{map_set, map_cut}
+use Rattle.unit_entries.proofs.seq_file.FileLaws.{append_takes, used_is}
+use Rattle.unit_entries.specs.unit_laws.Units.{Map, HasImages, IsImage, is_of, earliest_before, with_before_images, moves_end}
+use Rattle.unit_entries.proofs.unit_laws.Tests.{both_ways, never, or_either, or_one, or_other, picked, passed}
+use Rattle.unit_entries.specs.sequence_laws.Undoing.{GoesBack, AllInPlace, lowest_absent, absent_at, lower, is_taken_away}
+use Rattle.unit_entries.specs.sequence_laws.Laws.{IsStep, IsFirstOff, IsSetBefore, IsChangeOf}
+use Rattle.unit_entries.proofs.sequence_laws.SequenceLemmas.{all_set_is_back, before, behind, cut_goes_back, in_place_gone, none_is_not, off_is_some, same_or_other, set_at, set_goes_back, set_may, some_before, some_is_one, some_of, some_same}
+use Rattle.unit_entries.proofs.sequence_laws.ChangeLemmas.{change_beside_goes_back}
+use Rattle.unit_entries.specs.run_model.World.{IsOnItsWay}
 use Rattle.unit_undo.specs.Steps.{ArePositionsBack, ArePositions, IsBeside}
 use Rattle.unit_undo.proofs.BackLemmas.{same_through}
 

@@ -4,12 +4,12 @@ use Rattle.std.specs.Prelude.{◌⊎◌}
 use Rattle.careful_write.specs.State.{content}
 use Rattle.careful_write.specs.Steps.{Quiet}
 use Rattle.careful_write.proofs.Reading.{ready_read}
-use Rattle.change_set.specs.Files.{AgreesOut, free_frames}
+use Rattle.unit_entries.specs.change_set.Files.{AgreesOut, free_frames}
 use Rattle.file_base.specs.declared.head.FileHead.{FileHead}
 use Rattle.directory_model.specs.Files.{head_at, file_at}
 use Rattle.directory_model.specs.Restoring.{AreGrouped, IsPlaceRestored}
 use Rattle.journal_store.specs.Rings.{IsRing}
-use Rattle.run_model.specs.World.{File}
+use Rattle.unit_entries.specs.run_model.World.{File}
 use Rattle.vms_model.specs.Ids.{Id}
 use Rattle.volume.specs.Catalogs as volume
 use Rattle.volume.specs.Catalogs.{IsSound, TellsCatalog}

@@ -15,20 +15,20 @@ use Rattle.records_model.specs.Records.{Change}
 use Rattle.records_model.specs.Slots.{size_of}
 use Rattle.records_model.specs.History.{LiveChanges, same_id, changes_key, changes_by, records}
 use Rattle.records_model.proofs.RecordsLemmas as record_lemmas
-use Rattle.change_set.specs.Files.{SameFile}
-use Rattle.change_set.specs.Maps.{same_key}
-use Rattle.record_files.specs.Any.{layout_of, room_by, SuitsBy, RestoresBy, Suits, Restores}
-use Rattle.record_files.specs.Local as local
-use Rattle.indexed_file.specs.Chain as leaf
-use Rattle.indexed_tree.specs.Files as indexed
-use Rattle.relative_file.specs.Cells as relative
-use Rattle.journal_model.specs.Entries.{Entry, spelling}
-use Rattle.journal_model.specs.Ring.{block_of, place_of, byte_at, stream}
-use Rattle.unit_laws.specs.Units.{Map, map_in, earliest_before}
-use Rattle.unit_laws.proofs.Tests.{never, or_either, or_one, or_other, and_first, and_second}
+use Rattle.unit_entries.specs.change_set.Files.{SameFile}
+use Rattle.unit_entries.specs.change_set.Maps.{same_key}
+use Rattle.directory_model.specs.record_files.Any.{layout_of, room_by, SuitsBy, RestoresBy, Suits, Restores}
+use Rattle.directory_model.specs.record_files.Local as local
+use Rattle.directory_model.specs.indexed_file.Chain as leaf
+use Rattle.directory_model.specs.indexed_tree.Files as indexed
+use Rattle.directory_model.specs.relative_file.Cells as relative
+use Rattle.journal_format.specs.journal_model.Entries.{Entry, spelling}
+use Rattle.journal_format.specs.journal_model.Ring.{block_of, place_of, byte_at, stream}
+use Rattle.unit_entries.specs.unit_laws.Units.{Map, map_in, earliest_before}
+use Rattle.unit_entries.proofs.unit_laws.Tests.{never, or_either, or_one, or_other, and_first, and_second}
 use Rattle.volume.specs.Catalogs.{IsSound}
 use Rattle.volume.specs.State.{VolumeState}
-use Rattle.run_model.specs.World.{File}
+use Rattle.unit_entries.specs.run_model.World.{File}
 use Rattle.directory_model.specs.Files.{head_at}
 use Rattle.directory_model.specs.Restoring.{CanRestoreBy}
 use Rattle.volume_files.specs.Staging.{SetsBack}

@@ -3,14 +3,14 @@ use Rattle.std.proofs.Common.{◌≡◌, ⊎_elim, ℕ, ◌+◌, ◌*◌, ◌≤
 use Rattle.block_disk.specs.Disk.{DiskState}
 use Rattle.careful_write.specs.declared.down.Down.{Down}
 use Rattle.careful_write.specs.State.{EachWhole, content}
-use Rattle.change_set.specs.Files.{AgreesOut, IsPlaced}
+use Rattle.unit_entries.specs.change_set.Files.{AgreesOut, IsPlaced}
 use Rattle.file_base.specs.declared.head.FileHead.{FileHead}
 use Rattle.file_base.specs.declared.head.Span.{Span}
 use Rattle.journal_store.specs.Reading.{ReadsAt}
 use Rattle.journal_format.specs.Heads.{entry_of}
 use Rattle.journal_format.specs.declared.head.EntryHead.{EntryHead}
-use Rattle.journal_model.specs.Entries.{Entry}
-use Rattle.record_files.specs.Any as any
+use Rattle.journal_format.specs.journal_model.Entries.{Entry}
+use Rattle.directory_model.specs.record_files.Any as any
 use Rattle.vms_model.specs.Keys.{Key}
 use Rattle.volume.specs.declared.catalog.Catalog.{Catalog}
 use Rattle.volume.specs.Catalogs.{head_at}

@@ -6,15 +6,15 @@ use Rattle.block_disk.specs.Disk.{DiskState}
 use Rattle.block_disk.specs.Counts.{counted}
 use Rattle.careful_write.specs.State.{StoreState, EachWhole, IsEither, IsReady, Leaves, content}
 use Rattle.careful_write.specs.Steps.{AgreesOff, CountsOnce, Quiet}
-use Rattle.change_set.specs.Files.{AgreesOn, AgreesOut, SameFile, free_frames}
+use Rattle.unit_entries.specs.change_set.Files.{AgreesOn, AgreesOut, SameFile, free_frames}
 use Rattle.file_base.specs.declared.head.FileHead.{FileHead}
 use Rattle.file_base.specs.declared.head.Organization.TheVariants.{Sequential}
-use Rattle.record_files.specs.Any.{map_of}
+use Rattle.directory_model.specs.record_files.Any.{map_of}
 use Rattle.journal_store.specs.Rings.{IsRing}
 use Rattle.volume.specs.declared.catalog.Catalog.{Catalog}
 use Rattle.volume.specs.Catalogs.{IsSound, TellsCatalog}
 use Rattle.volume.specs.State.{VolumeState}
-use Rattle.run_model.specs.World.{File}
+use Rattle.unit_entries.specs.run_model.World.{File}
 use Rattle.directory_model.specs.Files.{AgreesOnCarried, head_at, file_at}
 use Rattle.directory_model.specs.Restoring.{AreGrouped, IsGrouped, IsPlaceGrouped}
 use Rattle.volume_files.specs.Staging.{StagesFile, is_of_file}

@@ -8,12 +8,12 @@ use Rattle.file_base.specs.declared.head.FileHead.{FileHead}
 use Rattle.vms_model.specs.Ids.{Id}
 use Rattle.records_model.specs.Records.{Change}
 use Rattle.records_model.specs.History.{changes_by}
-use Rattle.change_set.specs.Files.{AgreesOn, AgreesOut}
-use Rattle.record_files.specs.Local as local
-use Rattle.run_model.specs.World.{File}
+use Rattle.unit_entries.specs.change_set.Files.{AgreesOn, AgreesOut}
+use Rattle.directory_model.specs.record_files.Local as local
+use Rattle.unit_entries.specs.run_model.World.{File}
 use Rattle.directory_model.specs.Files.{head_at, file_at}
 use Rattle.directory_model.specs.Restoring.{IsLeft, IsPlaceLeft, IsRestored, IsPlaceRestored, AreGrouped}
-use Rattle.journal_model.specs.Entries.{Entry}
+use Rattle.journal_format.specs.journal_model.Entries.{Entry}
 use Rattle.volume.specs.declared.catalog.Catalog.{Catalog}
 use Rattle.volume.specs.Catalogs.{IsSound, TellsCatalog}
 use Rattle.volume.specs.State.{VolumeState}

@@ -4,15 +4,15 @@ use Rattle.std.specs.List.{AllByRecursion}
 use Rattle.careful_write.specs.State.{Leaves}
 use Rattle.file_base.specs.declared.head.FileHead.{FileHead}
 use Rattle.file_base.specs.declared.head.Organization.TheVariants.{Sequential}
-use Rattle.change_set.specs.Files.{AgreesOn, AgreesOut, SameFile}
-use Rattle.seq_file.specs.Layout.{records_in}
+use Rattle.unit_entries.specs.change_set.Files.{AgreesOn, AgreesOut, SameFile}
+use Rattle.directory_model.specs.seq_file.Layout.{records_in}
 use Rattle.vms_model.specs.Ids.{Id}
 use Rattle.vms_model.specs.Keys.{Key}
 use Rattle.records_model.specs.Records.{Change}
 use Rattle.records_model.specs.History.{LiveChanges, changes_by}
-use Rattle.sequence_laws.specs.Undoing.{GoesBack}
-use Rattle.unit_laws.specs.Units.{OneMovesEnd}
-use Rattle.run_model.specs.World.{File}
+use Rattle.unit_entries.specs.sequence_laws.Undoing.{GoesBack}
+use Rattle.unit_entries.specs.unit_laws.Units.{OneMovesEnd}
+use Rattle.unit_entries.specs.run_model.World.{File}
 use Rattle.directory_model.specs.Files.{head_at, file_at}
 use Rattle.directory_model.specs.Restoring.{IsLeft, IsRestored}
 use Rattle.volume.specs.State.{SameVolume, VolumeState}

@@ -5,18 +5,18 @@ use Rattle.file_base.specs.declared.head.FileHead.{FileHead}
 use Rattle.vms_model.specs.Keys.{Key, Number, Text}
 use Rattle.records_model.specs.Records.{Change}
 use Rattle.records_model.specs.Slots.{Slot, with_value}
-use Rattle.tree_model.specs.Layouts.{Leaf, Layout}
+use Rattle.unit_entries.specs.tree_model.Layouts.{Leaf, Layout}
 use Rattle.records_model.specs.History.{changes_key}
-use Rattle.change_set.specs.Files.{SameFile}
-use Rattle.change_set.specs.Maps.{same_key}
-use Rattle.record_files.specs.Any as any
-use Rattle.record_files.specs.Any.{map_of, layout_of, room_at, IsLaidOut}
-use Rattle.seq_file.specs.Layout as sequential
-use Rattle.seq_file.specs.Layout.{IsSequential, records_in}
-use Rattle.seq_file.specs.Records.{record_at, map_of_list}
-use Rattle.unit_laws.specs.Units.{Map, earliest_before, HasImages, moves_end}
-use Rattle.sequence_laws.specs.Undoing.{GoesBack, AllInPlace}
-use Rattle.run_model.specs.World.{IsOnItsWay}
+use Rattle.unit_entries.specs.change_set.Files.{SameFile}
+use Rattle.unit_entries.specs.change_set.Maps.{same_key}
+use Rattle.directory_model.specs.record_files.Any as any
+use Rattle.directory_model.specs.record_files.Any.{map_of, layout_of, room_at, IsLaidOut}
+use Rattle.directory_model.specs.seq_file.Layout as sequential
+use Rattle.directory_model.specs.seq_file.Layout.{IsSequential, records_in}
+use Rattle.directory_model.specs.seq_file.Records.{record_at, map_of_list}
+use Rattle.unit_entries.specs.unit_laws.Units.{Map, earliest_before, HasImages, moves_end}
+use Rattle.unit_entries.specs.sequence_laws.Undoing.{GoesBack, AllInPlace}
+use Rattle.unit_entries.specs.run_model.World.{IsOnItsWay}
 
 -- whether a key is one of these
 abbrev pub has_key : Key → List Key → Bool

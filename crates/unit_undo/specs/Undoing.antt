@@ -6,13 +6,13 @@ use Rattle.careful_write.specs.State.{EachWhole, IsReady, content}
 use Rattle.careful_write.specs.Steps.{Quiet}
 use Rattle.file_base.specs.declared.head.FileHead.{FileHead}
 use Rattle.file_base.specs.declared.head.Marks.{Marks}
-use Rattle.change_set.specs.Files.{AgreesOut, SameFile, free_frames}
+use Rattle.unit_entries.specs.change_set.Files.{AgreesOut, SameFile, free_frames}
 use Rattle.journal_store.specs.Rings.{IsRing}
-use Rattle.record_files.specs.Any as any
-use Rattle.record_files.specs.Any.{IsLaidOut, Restores, Suits, map_of}
+use Rattle.directory_model.specs.record_files.Any as any
+use Rattle.directory_model.specs.record_files.Any.{IsLaidOut, Restores, Suits, map_of}
 use Rattle.vms_model.specs.Keys.{Key}
-use Rattle.sequence_laws.specs.Undoing.{goes_in_place}
-use Rattle.journal_model.specs.Entries.{Entry}
+use Rattle.unit_entries.specs.sequence_laws.Undoing.{goes_in_place}
+use Rattle.journal_format.specs.journal_model.Entries.{Entry}
 use Rattle.journal_format.specs.Heads.{entry_of}
 use Rattle.journal_format.specs.declared.head.EntryHead.{EntryHead}
 use Rattle.file_base.specs.declared.head.Span.{Span}

@@ -2,11 +2,11 @@
 use Rattle.std.specs.Prelude.{◌≡◌, ℕ, ◌<◌, ◌≤◌, List, Option, Some}
 use Rattle.file_base.specs.declared.head.FileHead.{FileHead}
 use Rattle.vms_model.specs.Ids.{Id}
-use Rattle.change_set.specs.Files.{AgreesOn}
-use Rattle.run_model.specs.World.{File}
+use Rattle.unit_entries.specs.change_set.Files.{AgreesOn}
+use Rattle.unit_entries.specs.run_model.World.{File}
 use Rattle.directory_model.specs.Files.{head_at, file_at}
 use Rattle.directory_model.specs.Restoring.{IsPlaceRestored}
-use Rattle.journal_model.specs.Entries.{Entry}
+use Rattle.journal_format.specs.journal_model.Entries.{Entry}
 use Rattle.volume.specs.State.{VolumeState}
 use Rattle.unit_entries.specs.Collecting.{AreChangesAt}
 use Rattle.unit_entries.specs.Keys.{KeyTold, keys_told}

@@ -6,15 +6,15 @@ use Rattle.careful_write.specs.State.{EachWhole, Leaves, content}
 use Rattle.file_base.specs.declared.head.FileHead.{FileHead}
 use Rattle.file_base.specs.declared.head.Organization.TheVariants.{Sequential}
 use Rattle.file_base.specs.declared.head.Span.{Span}
-use Rattle.record_files.specs.Any.{map_of}
+use Rattle.directory_model.specs.record_files.Any.{map_of}
 use Rattle.vms_model.specs.Ids.{Id}
 use Rattle.records_model.specs.History.{changes_by}
-use Rattle.unit_laws.specs.Journal.{note_of}
-use Rattle.unit_laws.specs.Units.{OneMovesEnd}
-use Rattle.run_model.specs.World.{File}
+use Rattle.unit_entries.specs.unit_laws.Journal.{note_of}
+use Rattle.unit_entries.specs.unit_laws.Units.{OneMovesEnd}
+use Rattle.unit_entries.specs.run_model.World.{File}
 use Rattle.directory_model.specs.Files.{head_at, file_at}
 use Rattle.directory_model.specs.Restoring.{AreLeft, AreGrouped, AreRestored}
-use Rattle.journal_model.specs.Entries.{Entry}
+use Rattle.journal_format.specs.journal_model.Entries.{Entry}
 use Rattle.volume.specs.declared.catalog.Catalog.{Catalog}
 use Rattle.volume.specs.Catalogs.{IsSound, TellsCatalog}
 use Rattle.volume.specs.State.{VolumeState, Holds}

@@ -3,8 +3,8 @@ use Rattle.std.proofs.Common.{◌≡◌, ℕ, ◌+◌, ◌<◌, ◌≤◌, Bool,
 use Rattle.block_disk.specs.Disk.{DiskState}
 use Rattle.file_base.specs.declared.head.FileHead.{FileHead}
 use Rattle.file_base.specs.declared.head.Span.{Span}
-use Rattle.file_settlements.specs.Settling.{SettlesFiles, content_settled}
-use Rattle.image_appends.specs.Settling.{AllHaveRoom}
+use Rattle.kept_files.specs.file_settlements.Settling.{SettlesFiles, content_settled}
+use Rattle.unit_aborts.specs.image_appends.Settling.{AllHaveRoom}
 use Rattle.kept_files.specs.Keeping.{StandBehind}
 use Rattle.kept_files.proofs.Frames.{stays_settled}
 use Rattle.unit_aborts.specs.Aborting.{ImagesHaveRoom, has_changes}
@@ -13,14 +13,14 @@ use Rattle.journal_model.specs.Entries.{Entry, spelling}
 use Rattle.journal_model.specs.Ring.{put_stream}
 use Rattle.lmcp_log.specs.Keeping.{Keeps, SameSlots}
 use Rattle.lmcp_log.specs.Log.{block_of_slot}
-use Rattle.log_laws.specs.Slots.{Slots}
+use Rattle.unit_entries.specs.log_laws.Slots.{Slots}
 use Rattle.unit_journal.proofs.Entered.{OthersStay}
 use Rattle.unit_journal.specs.Settling.{MakesSettlement, content_with, entry_if, from_earliest, settled_home, span_with, with_front}
 use Rattle.unit_journal.specs.Spans.{longer}
 use Rattle.volume.specs.State.{VolumeState}
-use Rattle.run_model.specs.World.{File}
-use Rattle.unit_undo.specs.Undoing.{GoesOn}
-use Rattle.unit_undo.specs.Way.{IsUndoable, Undoes}
+use Rattle.unit_entries.specs.run_model.World.{File}
+use Rattle.unit_aborts.specs.unit_undo.Undoing.{GoesOn}
+use Rattle.unit_aborts.specs.unit_undo.Way.{IsUndoable, Undoes}
 use Rattle.unit_votes.specs.Logging.{HasLog}
 use Rattle.unit_table.specs.Units.{OpenUnit}
 use Rattle.vms_base.specs.declared.ids.Serial.{Serial}

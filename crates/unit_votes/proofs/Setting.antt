@@ -6,7 +6,7 @@ use Rattle.commit_protocol.specs.Messages.{LogRecord}
 use Rattle.lmcp_log.specs.Keeping.{Keeps}
 use Rattle.lmcp_log.specs.Log.{StagesSlot, block_of}
 use Rattle.lmcp_log.proofs.SlotLemmas.{none_forgotten}
-use Rattle.log_laws.specs.Slots.{Slots, forgotten, has_slot, settled_in}
+use Rattle.unit_entries.specs.log_laws.Slots.{Slots, forgotten, has_slot, settled_in}
 use Rattle.vms_model.specs.Ids.{Id}
 use Rattle.volume.specs.Catalogs.{StandsOnTheFront, TellsCatalog}
 use Rattle.volume.specs.State.{Holds, VolumeState}

@@ -10,7 +10,7 @@ use Rattle.commit_protocol.proofs.Lists.{told_id}
 use Rattle.lmcp_log.specs.Log.{record_with}
 use Rattle.lmcp_log.proofs.Apart.{apart_ids, other_ids, same_ids}
 use Rattle.lmcp_log.proofs.SlotLemmas.{clash}
-use Rattle.log_laws.specs.Slots.{Slots, filled, forgotten, has_free, has_slot, put_in, records_in, replaced, settled_in}
+use Rattle.unit_entries.specs.log_laws.Slots.{Slots, filled, forgotten, has_free, has_slot, put_in, records_in, replaced, settled_in}
 use Rattle.unit_table.specs.Units.{OpenUnit, new_unit, prepared_unit, unit_at}
 use Rattle.unit_table.proofs.OrderLemmas.{at_below}
 use Rattle.vms_model.specs.Ids.{Id}

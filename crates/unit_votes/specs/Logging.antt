@@ -2,7 +2,7 @@
 use Rattle.std.specs.Prelude.{◌≡◌, ℕ, ◌+◌, ◌<◌, ◌≤◌, ◌⊎◌, true, false, Option, None, IfSome, length, option_map, slice_set}
 use Rattle.vms_model.specs.Blocks.{log_start}
 use Rattle.commit_protocol.specs.Messages.{LogRecord}
-use Rattle.log_laws.specs.Slots.{Slots, has_free, has_slot, settled_in}
+use Rattle.unit_entries.specs.log_laws.Slots.{Slots, has_free, has_slot, settled_in}
 use Rattle.lmcp_log.specs.Keeping.{Keeps}
 use Rattle.lmcp_log.specs.Log.{block_of}
 use Rattle.lmcp_log.specs.Slot.{HasForm}

@@ -4,7 +4,7 @@ use Rattle.commit_protocol.specs.Agreement.{Distinct}
 use Rattle.commit_protocol.specs.Messages.{CommittedRecord, LogRecord, Name, PreparedRecord}
 use Rattle.commit_protocol.specs.Table.{record_serials}
 use Rattle.lmcp_log.specs.Log.{record_with}
-use Rattle.log_laws.specs.Slots.{Slots, has_free, has_slot, records_in}
+use Rattle.unit_entries.specs.log_laws.Slots.{Slots, has_free, has_slot, records_in}
 use Rattle.unit_table.specs.Units.{OpenUnit, unit_at}
 use Rattle.vms_model.specs.Ids.{Id}
 use Rattle.unit_votes.specs.Voting.{vote_record}

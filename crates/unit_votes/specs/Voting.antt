@@ -2,15 +2,15 @@
 use Rattle.std.specs.Prelude.{◌≡◌, ◌⊎◌, ℕ, Bool, List, [], Option, Some, None, option_map}
 use Rattle.commit_protocol.specs.Messages.{LogRecord, Name, PreparedRecord}
 use Rattle.journal_model.specs.Entries.{Entry}
-use Rattle.log_laws.specs.Slots.{Slots}
+use Rattle.unit_entries.specs.log_laws.Slots.{Slots}
 use Rattle.unit_aborts.specs.Aborting.{Abortion, abort_entry}
 use Rattle.unit_journal.specs.Entries.{prepared_entry}
 use Rattle.unit_journal.specs.Groups.{Breaks}
 use Rattle.unit_journal.specs.Settling.{content_with, entry_if, span_with}
-use Rattle.file_settlements.specs.Settling.{SettlesFiles}
+use Rattle.kept_files.specs.file_settlements.Settling.{SettlesFiles}
 use Rattle.unit_table.specs.Units.{OpenUnit}
-use Rattle.unit_undo.specs.Undoing.{GoesOn}
-use Rattle.unit_undo.specs.Way.{FailsOnTheWay, Undoes}
+use Rattle.unit_aborts.specs.unit_undo.Undoing.{GoesOn}
+use Rattle.unit_aborts.specs.unit_undo.Way.{FailsOnTheWay, Undoes}
 use Rattle.vms_base.specs.Ids.{serial_of}
 use Rattle.vms_base.specs.declared.ids.Serial.{Serial}
 use Rattle.vms_base.specs.declared.ids.Tid.{Tid}

@@ -2,13 +2,13 @@
 ghost use Rattle.std.specs.Prelude.{◌≡◌, ◌<◌, ℕ, true, false, List, Option, Some, None, length, slice_set};
 ghost use Rattle.commit_protocol.specs.Messages.{LogRecord, Name};
 ghost use Rattle.lmcp_log.specs.Log.{record_with};
-ghost use Rattle.log_laws.specs.Slots.{Slots, has_free, put_in, settled_in};
+ghost use Rattle.unit_entries.specs.log_laws.Slots.{Slots, has_free, put_in, settled_in};
 ghost use Rattle.unit_table.specs.Units.{OpenUnit, new_unit, prepared_unit, unit_at};
 ghost use Rattle.vms_model.specs.Ids.{Id};
 ghost use Rattle.journal_model.specs.Entries.{Entry};
-ghost use Rattle.run_model.specs.World.{File};
-ghost use Rattle.unit_undo.specs.Undoing.{GoesOn};
-ghost use Rattle.unit_undo.specs.Way.{IsUndoable, Undoes};
+ghost use Rattle.unit_entries.specs.run_model.World.{File};
+ghost use Rattle.unit_aborts.specs.unit_undo.Undoing.{GoesOn};
+ghost use Rattle.unit_aborts.specs.unit_undo.Way.{IsUndoable, Undoes};
 ghost use Rattle.unit_votes.specs.Logging.{HasLog};
 ghost use Rattle.volume.specs.State.{VolumeState};
 ghost use Rattle.unit_votes.specs.Tied.{AreTied, IsOfNone, IsOutcome, IsSameUnit};

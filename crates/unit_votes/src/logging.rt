@@ -5,7 +5,7 @@ ghost use Rattle.careful_write.specs.Down.{Counts};
 ghost use Rattle.careful_write.specs.State.{IsIdle, IsReady};
 ghost use Rattle.lmcp_log.specs.Keeping.{Keeps};
 ghost use Rattle.lmcp_log.specs.Log.{slot_of};
-ghost use Rattle.log_laws.specs.Slots.{settled_in};
+ghost use Rattle.unit_entries.specs.log_laws.Slots.{settled_in};
 ghost use Rattle.unit_journal.specs.Groups.{Breaks};
 ghost use Rattle.vms_base.specs.Ids.{serial_of};
 ghost use Rattle.volume.specs.State.{Holds};

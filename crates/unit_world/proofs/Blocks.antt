@@ -2,18 +2,18 @@
 use Rattle.std.proofs.Common.{◌≡◌, ℕ, ◌<◌, List, [], Option, Some, refl, sym, ◌∙◌, ap, subst, arith, length, slice_set, inl, inr, length-set, get_or-set_same, get_or-set_other}
 use Rattle.std.proofs.lemmas.Bool.{cases_eq}
 use Rattle.block_disk.specs.Blocks.{block_at}
-use Rattle.careful_write.specs.State.{EachWhole}
-use Rattle.file_base.specs.declared.head.FileHead.{FileHead}
-use Rattle.volume.specs.declared.catalog.Catalog.{Catalog}
-use Rattle.volume.specs.Catalogs.{IsSound}
-use Rattle.volume.specs.Limits.{data_area}
+use Rattle.change_set.specs.careful_write.State.{EachWhole}
+use Rattle.extents.specs.file_base.declared.head.FileHead.{FileHead}
+use Rattle.recovery_units.specs.volume.declared.catalog.Catalog.{Catalog}
+use Rattle.recovery_units.specs.volume.Catalogs.{IsSound}
+use Rattle.recovery_units.specs.volume.Limits.{data_area}
 use Rattle.volume_format.specs.Home.{sizes_of}
-use Rattle.directory_model.specs.Files.{AgreesOnFile, Fit, head_at}
-use Rattle.directory_model.proofs.Apart.{writes_apart}
-use Rattle.run_model.specs.World.{Node}
-use Rattle.volume_model.specs.Laws.{KeepsNames}
-use Rattle.volume_model.specs.Volumes.{HasJournal}
-use Rattle.file_images.specs.Files.{SameRing}
+use Rattle.volume_laws.specs.directory_model.Files.{AgreesOnFile, Fit, head_at}
+use Rattle.volume_laws.proofs.directory_model.Apart.{writes_apart}
+use Rattle.recovery_units.specs.run_model.World.{Node}
+use Rattle.recovery_units.specs.volume_model.Laws.{KeepsNames}
+use Rattle.recovery_units.specs.volume_model.Volumes.{HasJournal}
+use Rattle.volume_laws.specs.file_images.Files.{SameRing}
 
 pub other_block : (a : List (List ℕ)) (q k : ℕ) (bytes : List ℕ) → (k ≡ q → ⊥) → block_at (slice_set a q bytes) k ≡ block_at a k
 other_block a q k bytes other = get_or-set_other a q k bytes [] other

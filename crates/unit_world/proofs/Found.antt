@@ -4,13 +4,13 @@ use Rattle.vms_model.specs.Ids.{Id}
 use Rattle.records_model.specs.Records.{Change}
 use Rattle.records_model.specs.History.{LiveChanges, changed_it, changes_by, same_id}
 use Rattle.unit_laws.specs.JournalLaws.{is_unit}
-use Rattle.run_model.specs.World.{AreUnitsOf, File, Node}
-use Rattle.world_laws.proofs.DirectLemmas.{none_of}
-use Rattle.world_laws.proofs.IdLemmas.{id_other}
-use Rattle.world_laws.proofs.PlainLemmas.{by_others}
-use Rattle.directory_model.specs.Files.{IsFoundAt, file_at}
-use Rattle.directory_model.proofs.Finding.{found_at}
-use Rattle.restart_laws.proofs.ListLemmas.{all_as}
+use Rattle.recovery_units.specs.run_model.World.{AreUnitsOf, File, Node}
+use Rattle.recovery_units.proofs.world_laws.DirectLemmas.{none_of}
+use Rattle.recovery_units.proofs.world_laws.IdLemmas.{id_other}
+use Rattle.recovery_units.proofs.world_laws.PlainLemmas.{by_others}
+use Rattle.volume_laws.specs.directory_model.Files.{IsFoundAt, file_at}
+use Rattle.volume_laws.proofs.directory_model.Finding.{found_at}
+use Rattle.volume_laws.proofs.restart_laws.ListLemmas.{all_as}
 use Rattle.recovery_units.specs.State.{changed_at}
 
 -- a file is found by its name at its place

@@ -4,8 +4,8 @@ use Rattle.std.specs.Prelude.{is_some}
 use Rattle.std.specs.List.{AllByRecursion}
 use Rattle.std.proofs.lemmas.Bool.{both_ways}
 use Rattle.vms_model.specs.Ids.{Id}
-use Rattle.volume.specs.declared.catalog.Catalog.{Catalog}
-use Rattle.volume.specs.State.{VolumeState}
+use Rattle.recovery_units.specs.volume.declared.catalog.Catalog.{Catalog}
+use Rattle.recovery_units.specs.volume.State.{VolumeState}
 use Rattle.records_model.specs.History.{same_id}
 use Rattle.unit_laws.specs.Journal.{ChangeEntry, JournalEntry, PreparedEntry, RecoveryUnit, SettledEntry, entry_size, find_unit, units_in}
 use Rattle.unit_laws.specs.JournalLaws.{is_unit}
@@ -15,14 +15,14 @@ use Rattle.commit_protocol.specs.Standing.{IsNew as IsNewBranch, Restates, Stand
 use Rattle.commit_protocol.specs.Table as table
 use Rattle.commit_protocol.specs.Table.{Accepts, Acknowledges, Branch, Leaves, Notes, Prepares, Prints, Releases, Sends, Settles, Undoes, put}
 use Rattle.commit_protocol.specs.World.{In}
-use Rattle.world_laws.specs.Nodes.{IsUp}
-use Rattle.run_model.specs.World.{ComesUp, Durable, Node, Tables, acted}
-use Rattle.world_laws.proofs.EntryLemmas.{all_append, none_settles}
-use Rattle.world_laws.proofs.LeftLemmas.{change_unit}
-use Rattle.world_laws.proofs.TableLemmas.{one_branch, own_in}
-use Rattle.world_laws.proofs.UpLemmas.{differ}
-use Rattle.restart_laws.proofs.ListLemmas.{all_as}
-use Rattle.volume_model.specs.Volumes.{HasVolume}
+use Rattle.recovery_units.specs.world_laws.Nodes.{IsUp}
+use Rattle.recovery_units.specs.run_model.World.{ComesUp, Durable, Node, Tables, acted}
+use Rattle.recovery_units.proofs.world_laws.EntryLemmas.{all_append, none_settles}
+use Rattle.recovery_units.proofs.world_laws.LeftLemmas.{change_unit}
+use Rattle.recovery_units.proofs.world_laws.TableLemmas.{one_branch, own_in}
+use Rattle.recovery_units.proofs.world_laws.UpLemmas.{differ}
+use Rattle.volume_laws.proofs.restart_laws.ListLemmas.{all_as}
+use Rattle.recovery_units.specs.volume_model.Volumes.{HasVolume}
 use Rattle.recovery_units.specs.State.{AreLocks, AreOfBranches, IsKept, IsUnitOf, UnitsState, is_change_by, positions_of, with_begun}
 use Rattle.unit_world.proofs.Found.{found_by, unchanged_at}
 use Rattle.unit_world.proofs.Tables.{begun, restated, stays_of}

@@ -1,24 +1,24 @@
 -- What a node leaves of its volume: where it is down, where its boot count is raised, and of a new volume.
 use Rattle.std.proofs.Common.{◌≡◌, ℕ, zero, suc, ◌+◌, ◌-◌, false, List, [], Option, None, refl, sym, ◌∙◌, ap, subst, arith, length, slice_set}
 use Rattle.std.specs.Prelude.{option_map, replicate}
-use Rattle.careful_write.specs.State.{EachWhole}
-use Rattle.file_base.specs.declared.head.FileHead.{FileHead}
-use Rattle.volume.specs.declared.catalog.Catalog.{Catalog}
-use Rattle.volume.specs.Catalogs.{IsSound}
+use Rattle.change_set.specs.careful_write.State.{EachWhole}
+use Rattle.extents.specs.file_base.declared.head.FileHead.{FileHead}
+use Rattle.recovery_units.specs.volume.declared.catalog.Catalog.{Catalog}
+use Rattle.recovery_units.specs.volume.Catalogs.{IsSound}
 use Rattle.volume_format.specs.declared.home.Home.{Home}
 use Rattle.journal_model.specs.Ring.{IsJournal, stream}
-use Rattle.run_model.specs.World.{Durable, Node, Boots, Formats, acted}
+use Rattle.recovery_units.specs.run_model.World.{Durable, Node, Boots, Formats, acted}
 use Rattle.commit_protocol.specs.Messages.{LogRecord}
-use Rattle.world_laws.proofs.EffectLemmas.{made_log}
-use Rattle.world_laws.proofs.OrderedLemmas.{boots_keep_order, formats_in_order}
-use Rattle.directory_model.specs.Files.{AreFiles}
-use Rattle.directory_model.specs.Restoring.{AreRestorable}
-use Rattle.directory_model.proofs.Acts.{keeps_files}
-use Rattle.restart_laws.proofs.StayLemmas.{keeps_restorable}
-use Rattle.restart_laws.proofs.StandLemmas.{left_stands, prepared_stays}
-use Rattle.restart_laws.proofs.UnitLemmas.{keeps_units}
-use Rattle.volume_model.specs.Homes.{HasHome, settlement_of}
-use Rattle.volume_model.specs.Volumes.{HasLog, LeavesVolume}
+use Rattle.recovery_units.proofs.world_laws.EffectLemmas.{made_log}
+use Rattle.recovery_units.proofs.world_laws.OrderedLemmas.{boots_keep_order, formats_in_order}
+use Rattle.volume_laws.specs.directory_model.Files.{AreFiles}
+use Rattle.volume_laws.specs.directory_model.Restoring.{AreRestorable}
+use Rattle.volume_laws.proofs.directory_model.Acts.{keeps_files}
+use Rattle.volume_laws.proofs.restart_laws.StayLemmas.{keeps_restorable}
+use Rattle.volume_laws.proofs.restart_laws.StandLemmas.{left_stands, prepared_stays}
+use Rattle.volume_laws.proofs.restart_laws.UnitLemmas.{keeps_units}
+use Rattle.recovery_units.specs.volume_model.Homes.{HasHome, settlement_of}
+use Rattle.recovery_units.specs.volume_model.Volumes.{HasLog, LeavesVolume}
 use Rattle.volume_laws.proofs.FollowLemmas.{follow}
 use Rattle.volume_laws.proofs.LogLemmas.{stays as log_stays, told}
 use Rattle.volume_laws.proofs.ToldLemmas.{logs_follow}

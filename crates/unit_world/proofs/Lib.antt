@@ -8,3 +8,7 @@ pub mod Keeping
 pub mod Staying
 pub mod Marking
 pub mod Making
+pub mod directory_model
+pub mod file_images
+pub mod restart_laws
+pub mod volume_laws

@@ -5,34 +5,34 @@ use Rattle.std.specs.Option.{IsSomeAnd}
 use Rattle.std.specs.Str.{bytes_eq}
 use Rattle.std.proofs.lemmas.Bool.{false_from_ne_true}
 use Rattle.std.proofs.lemmas.Slice.Eq.{bytes_eq-Decides}
-use Rattle.careful_write.specs.State.{EachWhole}
-use Rattle.careful_write.specs.Steps.{AgreesOff}
+use Rattle.change_set.specs.careful_write.State.{EachWhole}
+use Rattle.change_set.specs.careful_write.Steps.{AgreesOff}
 use Rattle.change_set.specs.Files.{AgreesOn, AgreesOut, in_extent}
 use Rattle.extents.specs.Extents.{IsFreeRun, all_extents}
-use Rattle.file_base.specs.declared.head.FileHead.{FileHead}
-use Rattle.volume.specs.declared.catalog.Catalog.{Catalog}
-use Rattle.volume.specs.Limits.{data_area}
-use Rattle.volume.specs.State.{VolumeState}
+use Rattle.extents.specs.file_base.declared.head.FileHead.{FileHead}
+use Rattle.recovery_units.specs.volume.declared.catalog.Catalog.{Catalog}
+use Rattle.recovery_units.specs.volume.Limits.{data_area}
+use Rattle.recovery_units.specs.volume.State.{VolumeState}
 use Rattle.volume_format.specs.Home.{sizes_of}
 use Rattle.vms_model.specs.Ids.{Id}
 use Rattle.records_model.specs.History.{LiveChanges, changed_it, changes_by}
 use Rattle.journal_model.specs.Entries.{Entry}
-use Rattle.lmcp_log.specs.Keeping.{SameSlots}
+use Rattle.recovery_units.specs.lmcp_log.Keeping.{SameSlots}
 use Rattle.unit_laws.specs.Journal.{ChangeEntry, JournalEntry, PreparedEntry, SettledEntry, is_of_file}
-use Rattle.run_model.specs.World.{Creates, File, Node, acted, find_file, free_place}
-use Rattle.world_laws.proofs.OrderedLemmas.{creates_keep_order}
-use Rattle.directory_model.specs.Files.{AgreesOnFile, AreFiles, IsCarried, IsFile, NoneNamed, file_at, head_at}
-use Rattle.directory_model.proofs.Acts.{keeps_files}
-use Rattle.directory_model.proofs.Apart.{extent_holds, lie_apart, writes_apart}
-use Rattle.directory_model.proofs.Finding.{finds_files, finds_places}
-use Rattle.directory_model.proofs.Places.{no_file_there, within_list}
-use Rattle.directory_model.proofs.Standing.{file_stands, stands_on_extents}
-use Rattle.restart_laws.proofs.ListLemmas.{all_as}
-use Rattle.restart_laws.proofs.StayLemmas.{keeps_restorable}
-use Rattle.restart_laws.proofs.UnitLemmas.{keeps_units}
-use Rattle.volume_model.specs.Entries.{AreEntries}
-use Rattle.volume_model.specs.Volumes.{HasVolume}
-use Rattle.file_images.specs.Files.{SameRing}
+use Rattle.recovery_units.specs.run_model.World.{Creates, File, Node, acted, find_file, free_place}
+use Rattle.recovery_units.proofs.world_laws.OrderedLemmas.{creates_keep_order}
+use Rattle.volume_laws.specs.directory_model.Files.{AgreesOnFile, AreFiles, IsCarried, IsFile, NoneNamed, file_at, head_at}
+use Rattle.volume_laws.proofs.directory_model.Acts.{keeps_files}
+use Rattle.volume_laws.proofs.directory_model.Apart.{extent_holds, lie_apart, writes_apart}
+use Rattle.volume_laws.proofs.directory_model.Finding.{finds_files, finds_places}
+use Rattle.volume_laws.proofs.directory_model.Places.{no_file_there, within_list}
+use Rattle.volume_laws.proofs.directory_model.Standing.{file_stands, stands_on_extents}
+use Rattle.volume_laws.proofs.restart_laws.ListLemmas.{all_as}
+use Rattle.volume_laws.proofs.restart_laws.StayLemmas.{keeps_restorable}
+use Rattle.volume_laws.proofs.restart_laws.UnitLemmas.{keeps_units}
+use Rattle.recovery_units.specs.volume_model.Entries.{AreEntries}
+use Rattle.recovery_units.specs.volume_model.Volumes.{HasVolume}
+use Rattle.volume_laws.specs.file_images.Files.{SameRing}
 use Rattle.volume_laws.proofs.FollowLemmas.{follow}
 use Rattle.volume_laws.proofs.LogLemmas.{stays as log_stays, told}
 use Rattle.recovery_units.specs.Laws.{HeadWritten}

@@ -3,13 +3,13 @@ use Rattle.std.proofs.Common.{◌≡◌, ℕ, ◌+◌, ◌-◌, ◌<◌, ◌≤�
 use Rattle.std.specs.List.{AllByRecursion}
 use Rattle.std.specs.Prelude.{is_some}
 use Rattle.std.proofs.lemmas.Bool.{both_ways}
-use Rattle.careful_write.specs.State.{EachWhole}
+use Rattle.change_set.specs.careful_write.State.{EachWhole}
 use Rattle.block_disk.specs.Blocks.{block_at}
-use Rattle.file_base.specs.declared.head.FileHead.{FileHead}
-use Rattle.file_base.specs.declared.head.Save.{Save}
-use Rattle.script_model.specs.Statements.{AfterImages, BeforeImages}
-use Rattle.volume.specs.declared.catalog.Catalog.{Catalog}
-use Rattle.volume.specs.State.{VolumeState}
+use Rattle.extents.specs.file_base.declared.head.FileHead.{FileHead}
+use Rattle.extents.specs.file_base.declared.head.Save.{Save}
+use Rattle.recovery_units.specs.script_model.Statements.{AfterImages, BeforeImages}
+use Rattle.recovery_units.specs.volume.declared.catalog.Catalog.{Catalog}
+use Rattle.recovery_units.specs.volume.State.{VolumeState}
 use Rattle.vms_model.specs.Ids.{Id}
 use Rattle.records_model.specs.Records.{Change}
 use Rattle.records_model.specs.History.{History, LiveChanges, changed_it, changes_by}
@@ -17,22 +17,22 @@ use Rattle.unit_laws.specs.Journal.{RecoveryUnit, find_unit, units_in}
 use Rattle.unit_laws.specs.JournalLaws.{is_unit}
 use Rattle.unit_laws.specs.Units.{has_changes}
 use Rattle.unit_table.specs.Units.{OpenUnit, first_to_change, has_changed}
-use Rattle.world_laws.specs.Nodes.{IsUp}
-use Rattle.world_laws.specs.Ordered.{IsJournalInOrder}
-use Rattle.run_model.specs.World.{AreUnitsOf, File, Mark, Marks, ForUnits, BeginsImages, EndsImages, Saves, Node, acted, marked_file, saved_file, with_file}
-use Rattle.world_laws.proofs.IdLemmas.{id_itself}
-use Rattle.world_laws.proofs.OrderedLemmas.{marks_keep_order, saves_keep_order}
-use Rattle.directory_model.specs.Files.{AgreesOnFile, AreFiles, IsCarried, IsFile, IsFoundAt, IsNamed, file_at, head_at}
-use Rattle.directory_model.specs.Laws.{begun_head, saved_head}
-use Rattle.directory_model.specs.Restoring.{AreRestorable}
-use Rattle.restart_laws.specs.Restorable.{SameBuckets}
-use Rattle.directory_model.proofs.Acts.{keeps_files}
-use Rattle.directory_model.proofs.Places.{file_there, within_list}
-use Rattle.directory_model.proofs.Standing.{stands_on_extents}
-use Rattle.restart_laws.proofs.ListLemmas.{all_as, both_as}
-use Rattle.restart_laws.proofs.StayLemmas.{keeps_restorable}
-use Rattle.restart_laws.proofs.UnitLemmas.{keeps_units}
-use Rattle.volume_model.specs.Volumes.{HasVolume}
+use Rattle.recovery_units.specs.world_laws.Nodes.{IsUp}
+use Rattle.recovery_units.specs.world_laws.Ordered.{IsJournalInOrder}
+use Rattle.recovery_units.specs.run_model.World.{AreUnitsOf, File, Mark, Marks, ForUnits, BeginsImages, EndsImages, Saves, Node, acted, marked_file, saved_file, with_file}
+use Rattle.recovery_units.proofs.world_laws.IdLemmas.{id_itself}
+use Rattle.recovery_units.proofs.world_laws.OrderedLemmas.{marks_keep_order, saves_keep_order}
+use Rattle.volume_laws.specs.directory_model.Files.{AgreesOnFile, AreFiles, IsCarried, IsFile, IsFoundAt, IsNamed, file_at, head_at}
+use Rattle.volume_laws.specs.directory_model.Laws.{begun_head, saved_head}
+use Rattle.volume_laws.specs.directory_model.Restoring.{AreRestorable}
+use Rattle.volume_laws.specs.restart_laws.Restorable.{SameBuckets}
+use Rattle.volume_laws.proofs.directory_model.Acts.{keeps_files}
+use Rattle.volume_laws.proofs.directory_model.Places.{file_there, within_list}
+use Rattle.volume_laws.proofs.directory_model.Standing.{stands_on_extents}
+use Rattle.volume_laws.proofs.restart_laws.ListLemmas.{all_as, both_as}
+use Rattle.volume_laws.proofs.restart_laws.StayLemmas.{keeps_restorable}
+use Rattle.volume_laws.proofs.restart_laws.UnitLemmas.{keeps_units}
+use Rattle.recovery_units.specs.volume_model.Volumes.{HasVolume}
 use Rattle.volume_laws.proofs.FollowLemmas.{follow}
 use Rattle.volume_laws.proofs.LogLemmas.{stays as log_stays, told}
 use Rattle.recovery_units.specs.Laws.{HeadWritten, IsSaveOf, MarksHead}

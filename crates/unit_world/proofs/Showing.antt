@@ -1,18 +1,18 @@
 -- The entries of a journal that is in order can be shown.
 use Rattle.std.proofs.Common.{◌≤◌, ℕ, List, sym, ◌∙◌, ap, subst}
 use Rattle.std.specs.List.{AllByRecursion}
-use Rattle.file_base.specs.declared.head.FileHead.{FileHead}
-use Rattle.file_base.specs.declared.head.Organization.{Organization as Kept}
-use Rattle.file_base.specs.declared.head.Organization.TheVariants as kept
-use Rattle.volume.specs.declared.catalog.Catalog.{Catalog}
+use Rattle.extents.specs.file_base.declared.head.FileHead.{FileHead}
+use Rattle.extents.specs.file_base.declared.head.Organization.{Organization as Kept}
+use Rattle.extents.specs.file_base.declared.head.Organization.TheVariants as kept
+use Rattle.recovery_units.specs.volume.declared.catalog.Catalog.{Catalog}
 use Rattle.vms_model.specs.Keys.{Key, Number, Text, End}
 use Rattle.unit_laws.specs.Journal.{ChangeEntry, JournalEntry, PreparedEntry, SettledEntry}
-use Rattle.run_model.specs.World.{Node, find_file}
-use Rattle.world_laws.specs.Ordered.{IsKeyOf, IsSettledBy, Suits}
-use Rattle.directory_model.specs.Files.{organized_by}
-use Rattle.directory_model.proofs.Places.{file_there}
-use Rattle.restart_laws.proofs.ListLemmas.{both_as}
-use Rattle.volume_model.specs.Volumes.{HasVolume}
+use Rattle.recovery_units.specs.run_model.World.{Node, find_file}
+use Rattle.recovery_units.specs.world_laws.Ordered.{IsKeyOf, IsSettledBy, Suits}
+use Rattle.volume_laws.specs.directory_model.Files.{organized_by}
+use Rattle.volume_laws.proofs.directory_model.Places.{file_there}
+use Rattle.volume_laws.proofs.restart_laws.ListLemmas.{both_as}
+use Rattle.recovery_units.specs.volume_model.Volumes.{HasVolume}
 use Rattle.recovery_units.specs.State.{IsKeyBy, IsShowable}
 use Rattle.unit_world.proofs.Found.{found_by}
 

@@ -3,21 +3,21 @@ use Rattle.std.proofs.Common.{◌≡◌, ◌≤◌, ◌<◌, ◌^◌, ℕ, List,
 use Rattle.std.specs.Prelude.{◌==◌}
 use Rattle.std.specs.Int.{w32, to_le_bytes, from_le_bytes}
 use Rattle.std.specs.List.{AllByRecursion}
-use Rattle.file_base.specs.declared.head.FileHead.{FileHead}
-use Rattle.file_base.specs.declared.head.Organization.{Organization}
-use Rattle.file_base.specs.declared.head.Organization.TheVariants.{Sequential, Relative, Indexed}
+use Rattle.extents.specs.file_base.declared.head.FileHead.{FileHead}
+use Rattle.extents.specs.file_base.declared.head.Organization.{Organization}
+use Rattle.extents.specs.file_base.declared.head.Organization.TheVariants.{Sequential, Relative, Indexed}
 use Rattle.vms_model.specs.Keys.{Key, Number, Text, End}
-use Rattle.volume.specs.declared.catalog.Catalog.{Catalog}
-use Rattle.unit_entries.specs.Keys.{key_in}
-use Rattle.file_images.specs.Images.{IsOf, key_bytes}
-use Rattle.recovery_model.specs.Journal.{Entry, Changed, Settled}
-use Rattle.recovery_model.specs.File.{ImageJournal, all_of}
-use Rattle.run_model.specs.World.{File, Node, find_file}
-use Rattle.world_laws.specs.Nodes.{IsTellingBy, IsUp}
-use Rattle.directory_model.specs.Files.{IsCarried, IsNamed}
-use Rattle.directory_model.proofs.Finding.{finds_files}
-use Rattle.restart_laws.proofs.ListLemmas.{both_as}
-use Rattle.volume_model.specs.Volumes.{HasVolume}
+use Rattle.recovery_units.specs.volume.declared.catalog.Catalog.{Catalog}
+use Rattle.recovery_units.specs.unit_entries.Keys.{key_in}
+use Rattle.volume_laws.specs.file_images.Images.{IsOf, key_bytes}
+use Rattle.recovery_units.specs.recovery_model.Journal.{Entry, Changed, Settled}
+use Rattle.recovery_units.specs.recovery_model.File.{ImageJournal, all_of}
+use Rattle.recovery_units.specs.run_model.World.{File, Node, find_file}
+use Rattle.recovery_units.specs.world_laws.Nodes.{IsTellingBy, IsUp}
+use Rattle.volume_laws.specs.directory_model.Files.{IsCarried, IsNamed}
+use Rattle.volume_laws.proofs.directory_model.Finding.{finds_files}
+use Rattle.volume_laws.proofs.restart_laws.ListLemmas.{both_as}
+use Rattle.recovery_units.specs.volume_model.Volumes.{HasVolume}
 use Rattle.recovery_units.specs.State.{IsImageShowable, IsKeyBy}
 
 -- Keys.

@@ -2,15 +2,15 @@
 use Rattle.std.proofs.Common.{◌≡◌, ℕ, ◌<◌, List, [], ◌∷◌, Option, Some, None, length, refl, sym, ◌∙◌, ap, inl, inr, slice_set, get_or-set_same, get_or-set_other}
 use Rattle.std.specs.Prelude.{option_map}
 use Rattle.std.proofs.lemmas.Bool.{cases_eq}
-use Rattle.file_base.specs.declared.head.FileHead.{FileHead}
+use Rattle.extents.specs.file_base.declared.head.FileHead.{FileHead}
 use Rattle.vms_model.specs.Ids.{Id}
 use Rattle.records_model.specs.History.{changed_it}
-use Rattle.run_model.specs.Locks as world
-use Rattle.run_model.specs.World.{File}
+use Rattle.recovery_units.specs.run_model.Locks as world
+use Rattle.recovery_units.specs.run_model.World.{File}
 use Rattle.record_locks.specs.Locks as table
-use Rattle.directory_model.specs.Files.{file_at, head_at}
-use Rattle.directory_model.proofs.Places.{within_list}
-use Rattle.volume_model.specs.Laws.{KeepsNames}
+use Rattle.volume_laws.specs.directory_model.Files.{file_at, head_at}
+use Rattle.volume_laws.proofs.directory_model.Places.{within_list}
+use Rattle.recovery_units.specs.volume_model.Laws.{KeepsNames}
 use Rattle.recovery_units.specs.State.{AreLocks, changed_at}
 
 -- What stays.

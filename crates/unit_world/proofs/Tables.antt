@@ -5,7 +5,7 @@ use Rattle.commit_protocol.specs.Allowed.{is_prepared}
 use Rattle.commit_protocol.specs.Table.{Branch, Key as BranchKey, find, put, same_key}
 use Rattle.commit_protocol.specs.World.{In}
 use Rattle.commit_protocol.proofs.Lists.{find-key}
-use Rattle.world_laws.proofs.FindLemmas.{some_is}
+use Rattle.recovery_units.proofs.world_laws.FindLemmas.{some_is}
 use Rattle.unit_table.specs.Units.{OpenUnit}
 use Rattle.recovery_units.specs.State.{AreOfBranches, IsOfBranch}
 

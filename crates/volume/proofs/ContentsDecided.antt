@@ -6,7 +6,7 @@ use Rattle.std.proofs.lemmas.Bool.{cases_lt}
 use Rattle.std.proofs.lemmas.List.{get_or_past}
 use Rattle.std.proofs.lemmas.List.Elements.{All-drop, All-get_or, All-take}
 use Rattle.std.proofs.lemmas.Nat.{le_bytes_8}
-use Rattle.block_disk.specs.Blocks.{block_at}
+use Rattle.careful_write.specs.block_disk.Blocks.{block_at}
 use Rattle.file_base.specs.Bytes.{piece_at}
 use Rattle.file_base.specs.declared.head.Span.{Span}
 use Rattle.file_base.proofs.Splices.{length-piece_at}

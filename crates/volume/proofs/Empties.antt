@@ -4,9 +4,9 @@ use Rattle.std.specs.Prelude.{◌==◌}
 use Rattle.std.proofs.lemmas.Bool.{cases_eq}
 use Rattle.std.proofs.lemmas.Bool.Decides.{nat_tests}
 use Rattle.std.proofs.lemmas.List.{get_or-set_same, get_or-set_other, get_or-drop}
-use Rattle.block_disk.specs.Blocks.{IsWhole, block_at, with_number}
-use Rattle.block_disk.specs.Disk.{DiskState, put, settled, answered}
-use Rattle.block_disk.specs.declared.disk.DiskErr.{DiskErr}
+use Rattle.careful_write.specs.block_disk.Blocks.{IsWhole, block_at, with_number}
+use Rattle.careful_write.specs.block_disk.Disk.{DiskState, put, settled, answered}
+use Rattle.careful_write.specs.block_disk.declared.disk.DiskErr.{DiskErr}
 use Rattle.careful_write.specs.Content.{content_of, gate_open, gate_block, home}
 use Rattle.careful_write.specs.Steps.{Quiet, Touches}
 use Rattle.careful_write.specs.Parts.{in_gate}

@@ -2,9 +2,9 @@
 use Rattle.std.proofs.Common.{◌≡◌, ◌⊎◌, inl, inr, ℕ, ◌<◌, ◌≤◌, ◌+◌, ◌%◌, ◌/◌, ◌^◌, List, [], ◌∷◌, Bool, Option, Some, None, length, set, replicate, refl, sym, ap, subst, ◌∙◌, zero, suc, arith, length-set}
 use Rattle.std.specs.Prelude.{if◌then◌else◌, ◌==◌}
 use Rattle.std.proofs.lemmas.List.{length-replicate}
-use Rattle.block_disk.specs.Blocks.{block_at}
-use Rattle.vms_model.specs.Names.{file_named}
-use Rattle.vms_base.specs.Ids.{until_zero}
+use Rattle.careful_write.specs.block_disk.Blocks.{block_at}
+use Rattle.file_base.specs.vms_model.Names.{file_named}
+use Rattle.file_base.specs.vms_base.Ids.{until_zero}
 use Rattle.file_base.specs.Bytes.{piece_at}
 use Rattle.file_base.specs.declared.head.FileHead.{FileHead}
 use Rattle.file_base.specs.declared.head.Marks.{Marks}

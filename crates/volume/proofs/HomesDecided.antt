@@ -4,13 +4,13 @@ use Rattle.std.specs.Prelude.{if◌then◌else◌, ◌==◌}
 use Rattle.std.specs.Int.{to_le_bytes, from_le_bytes, w16, w32, w64}
 use Rattle.std.proofs.lemmas.Bool.{cond-false}
 use Rattle.std.proofs.lemmas.Nat.{from_le_bytes-to_le_bytes_2, from_le_bytes-to_le_bytes_4, from_le_bytes-to_le_bytes_8}
-use Rattle.vms_model.specs.Names.{node_named}
-use Rattle.vms_model.specs.Ids.{IsId, id_bytes}
-use Rattle.vms_base.specs.Ids.{id_of, until_zero}
-use Rattle.vms_base.specs.declared.ids.Id.{Id}
-use Rattle.vms_base.specs.declared.outcomes.Reason.{Reason}
-use Rattle.vms_base.specs.declared.outcomes.Reason.TheVariants as reason
-use Rattle.vms_base.proofs.IdLemmas.{node_read, rest_read}
+use Rattle.file_base.specs.vms_model.Names.{node_named}
+use Rattle.file_base.specs.vms_model.Ids.{IsId, id_bytes}
+use Rattle.file_base.specs.vms_base.Ids.{id_of, until_zero}
+use Rattle.file_base.specs.vms_base.declared.ids.Id.{Id}
+use Rattle.file_base.specs.vms_base.declared.outcomes.Reason.{Reason}
+use Rattle.file_base.specs.vms_base.declared.outcomes.Reason.TheVariants as reason
+use Rattle.file_base.proofs.vms_base.IdLemmas.{node_read, rest_read}
 use Rattle.file_base.specs.Bytes.{piece_at}
 use Rattle.volume_format.specs.declared.home.Home.{Home}
 use Rattle.volume_format.specs.declared.home.Sizes.{Sizes}

@@ -13,3 +13,5 @@ mod LimitsDecided
 mod HomesDecided
 mod EntriesDecided
 mod ContentsDecided
+pub mod extents
+pub mod volume_format

@@ -1,9 +1,9 @@
 -- A content that tells a sound catalog meets all conditions.
 use Rattle.std.proofs.Common.{◌≡◌, ℕ, ◌+◌, ◌-◌, ◌<◌, List, [], ◌∷◌, true, Option, Some, None, length, refl, sym, ap, subst, ◌∙◌, arith}
-use Rattle.block_disk.specs.Blocks.{block_at}
+use Rattle.careful_write.specs.block_disk.Blocks.{block_at}
 use Rattle.file_base.specs.declared.head.FileHead.{FileHead}
-use Rattle.vms_base.specs.Ids.{until_zero}
-use Rattle.vms_model.specs.Ids.{padded}
+use Rattle.file_base.specs.vms_base.Ids.{until_zero}
+use Rattle.file_base.specs.vms_model.Ids.{padded}
 use Rattle.volume_format.specs.declared.home.Home.{Home}
 use Rattle.volume_format.specs.Head.{IsHead, head_block_of}
 use Rattle.volume_format.specs.Home.{IsHome, IsSizes, HasHome, HasSizes, home_rows, size_rows, sizes_of, last_tid, last_serial, last_kind, last_reason}

@@ -1,8 +1,8 @@
 -- What the home block, the directory and the journal's block of a content tell. The content is the list of a disk's blocks from 518 on.
 use Rattle.std.specs.Prelude.{◌≡◌, ℕ, ◌+◌, ◌<◌, List, Option, Some, None, length, slice_index_or, ⊤}
-use Rattle.block_disk.specs.Blocks.{block_at}
-use Rattle.vms_model.specs.Limits.{file_limit}
-use Rattle.vms_model.specs.Blocks.{log_start}
+use Rattle.careful_write.specs.block_disk.Blocks.{block_at}
+use Rattle.file_base.specs.vms_model.Limits.{file_limit}
+use Rattle.file_base.specs.vms_model.Blocks.{log_start}
 use Rattle.file_base.specs.declared.head.FileHead.{FileHead}
 use Rattle.volume_format.specs.declared.head.DirectoryEntry.{DirectoryEntry}
 use Rattle.volume_format.specs.declared.head.DirectoryEntry.TheVariants as entry

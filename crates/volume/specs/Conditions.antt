@@ -1,9 +1,9 @@
 -- The first five conditions of a valid volume, each at the blocks at which it is tested.
 use Rattle.std.specs.Prelude.{◌≡◌, ℕ, ◌+◌, ◌-◌, ◌*◌, ◌<◌, ◌≤◌, Bool, true, List, Option, Some, length}
-use Rattle.block_disk.specs.Blocks.{block_at}
-use Rattle.block_disk.specs.Sizes.{content_start}
-use Rattle.vms_model.specs.Limits.{file_limit}
-use Rattle.vms_model.specs.Blocks.{directory_start, home_block}
+use Rattle.careful_write.specs.block_disk.Blocks.{block_at}
+use Rattle.careful_write.specs.block_disk.Sizes.{content_start}
+use Rattle.file_base.specs.vms_model.Limits.{file_limit}
+use Rattle.file_base.specs.vms_model.Blocks.{directory_start, home_block}
 use Rattle.file_base.specs.declared.head.FileHead.{FileHead}
 use Rattle.volume_format.specs.declared.home.Home.{Home}
 use Rattle.volume_format.specs.declared.home.Sizes.{Sizes}

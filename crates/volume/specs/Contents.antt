@@ -1,9 +1,9 @@
 -- What each content of a disk has: a sound volume of a node, or a condition that fails first.
 use Rattle.std.specs.Prelude.{◌≡◌, ◌⊎◌, ℕ, ◌+◌, ◌<◌, ◌≤◌, Bool, true, List, length}
 use Rattle.std.specs.List.{All}
-use Rattle.block_disk.specs.Blocks.{block_at}
-use Rattle.block_disk.specs.Sizes.{content_start}
-use Rattle.vms_model.specs.Limits.{file_limit}
+use Rattle.careful_write.specs.block_disk.Blocks.{block_at}
+use Rattle.careful_write.specs.block_disk.Sizes.{content_start}
+use Rattle.file_base.specs.vms_model.Limits.{file_limit}
 use Rattle.careful_write.specs.State.{EachWhole}
 use Rattle.volume.specs.declared.catalog.Catalog.{Catalog}
 use Rattle.volume.specs.Catalogs.{IsSound, TellsCatalog}

@@ -1,9 +1,9 @@
 -- An empty volume.
 use Rattle.std.specs.Prelude.{◌≡◌, ◌==◌, ◌||◌, ◌&&◌, ℕ, ◌+◌, ◌<◌, ◌≤◌, Bool, List, None, replicate, nat_le, nat_lt}
-use Rattle.block_disk.specs.Blocks.{block_at}
-use Rattle.block_disk.specs.Sizes.{content_start}
-use Rattle.vms_model.specs.Limits.{file_limit}
-use Rattle.vms_model.specs.Blocks.{directory_start, log_start}
+use Rattle.careful_write.specs.block_disk.Blocks.{block_at}
+use Rattle.careful_write.specs.block_disk.Sizes.{content_start}
+use Rattle.file_base.specs.vms_model.Limits.{file_limit}
+use Rattle.file_base.specs.vms_model.Blocks.{directory_start, log_start}
 use Rattle.volume_format.specs.declared.home.Home.{Home}
 use Rattle.volume_format.specs.Home.{home_block_of}
 use Rattle.volume.specs.declared.catalog.Catalog.{Catalog}

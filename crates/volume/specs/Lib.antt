@@ -8,3 +8,5 @@ pub mod Listing
 pub mod Load
 pub mod Mount
 pub mod State
+pub use Rattle.extents.specs as extents
+pub use Rattle.volume_format.specs as volume_format

@@ -1,7 +1,7 @@
 -- The numbers that a volume and its files may have.
 use Rattle.std.specs.Prelude.{◌≡◌, ℕ, ◌+◌, ◌-◌, ◌*◌, ◌/◌, ◌<◌, ◌≤◌, Bool, true, false, List, Option, Some, None, ⊤}
-use Rattle.vms_model.specs.Limits.{key_limit, record_limit, slot_limit}
-use Rattle.vms_model.specs.Blocks.{log_start}
+use Rattle.file_base.specs.vms_model.Limits.{key_limit, record_limit, slot_limit}
+use Rattle.file_base.specs.vms_model.Blocks.{log_start}
 use Rattle.file_base.specs.declared.head.FileHead.{FileHead}
 use Rattle.file_base.specs.declared.head.Organization.{Organization}
 use Rattle.file_base.specs.declared.head.Organization.TheVariants.{Sequential, Relative, Indexed}

@@ -1,8 +1,8 @@
 -- The failing conditions of a content, as a list.
 use Rattle.std.specs.Prelude.{◌≡◌, ◌<◌, ◌≤◌, ◌⊎◌, ◌+◌, ◌-◌, ◌*◌, ℕ, Bool, List, [], ◌∷◌, Option, Some, None, length, slice_set, ⊤}
 use Rattle.std.specs.List.{All, Contains}
-use Rattle.block_disk.specs.Blocks.{block_at}
-use Rattle.vms_model.specs.Blocks.{directory_start}
+use Rattle.careful_write.specs.block_disk.Blocks.{block_at}
+use Rattle.file_base.specs.vms_model.Blocks.{directory_start}
 use Rattle.file_base.specs.declared.head.FileHead.{FileHead}
 use Rattle.extents.specs.declared.extent.Extent.{Extent}
 use Rattle.extents.specs.Extents.{FitsAt}

@@ -1,7 +1,7 @@
 -- What the steps of mounting find in a content.
 use Rattle.std.specs.Prelude.{◌≡◌, ℕ, ◌+◌, ◌<◌, ◌≤◌, Bool, true, List, Option, Result, Ok, Err, IfSome, ⊤}
-use Rattle.block_disk.specs.Blocks.{block_at}
-use Rattle.block_disk.specs.Disk.{DiskState}
+use Rattle.careful_write.specs.block_disk.Blocks.{block_at}
+use Rattle.careful_write.specs.block_disk.Disk.{DiskState}
 use Rattle.careful_write.specs.Down.{went_down}
 use Rattle.file_base.specs.declared.head.FileHead.{FileHead}
 use Rattle.volume_format.specs.declared.home.Home.{Home}

@@ -1,7 +1,7 @@
 -- A volume as its callers see it.
 use Rattle.std.specs.Prelude.{◌≡◌, ℕ, ◌-◌, List, IfSome, option_map, slice_set}
-use Rattle.block_disk.specs.Blocks.{with_number}
-use Rattle.block_disk.specs.Sizes.{content_start}
+use Rattle.careful_write.specs.block_disk.Blocks.{with_number}
+use Rattle.careful_write.specs.block_disk.Sizes.{content_start}
 use Rattle.careful_write.specs.Reads.{as_read_by}
 use Rattle.careful_write.specs.State.{StoreState}
 use Rattle.volume.specs.declared.catalog.Catalog.{Catalog}

@@ -1,14 +1,13 @@
 //! What a volume keeps of its content, and the look-ups in it.
 ghost use Rattle.std.specs.Prelude.{◌≡◌, ◌≤◌, ◌<◌, ℕ, Option, Some, None, true, false, IfSome, IfNone, length};
-ghost use Rattle.vms_model.specs.Limits.{file_limit};
+ghost use Rattle.file_base.specs.vms_model.Limits.{file_limit};
 ghost use Rattle.file_base.specs.declared.head.FileHead.{FileHead as HeadSaid};
 ghost use Rattle.volume_format.specs.Home.{sizes_of};
 ghost use Rattle.volume.specs.Catalogs.{NewName, head_at};
 ghost use Rattle.volume.specs.Limits.{data_area as area_said};
 
 use extents::Extent;
-use file_base::{FileHead, Span};
-use vms_base::FileName;
+use file_base::{FileHead, FileName, Span};
 use volume_format::{Home, Sizes};
 
 /// What the home block, the directory and the block of the recovery unit journal tell.

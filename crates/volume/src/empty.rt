@@ -1,10 +1,10 @@
 //! An empty volume.
 ghost use Rattle.std.specs.Prelude.{◌≡◌, ◌≤◌, ◌<◌, ◌+◌, ℕ, List, [], false, IfSome, OnOk, OnErr, length, replicate, slice_index};
-ghost use Rattle.block_disk.specs.Blocks.{block_at};
-ghost use Rattle.block_disk.specs.Disk.{DiskState};
-ghost use Rattle.block_disk.specs.Sizes.{least_disk_size, pending_limit};
-ghost use Rattle.vms_model.specs.Limits.{slot_limit};
-ghost use Rattle.vms_model.specs.Blocks.{directory_start};
+ghost use Rattle.careful_write.specs.block_disk.Blocks.{block_at};
+ghost use Rattle.careful_write.specs.block_disk.Disk.{DiskState};
+ghost use Rattle.careful_write.specs.block_disk.Sizes.{least_disk_size, pending_limit};
+ghost use Rattle.file_base.specs.vms_model.Limits.{slot_limit};
+ghost use Rattle.file_base.specs.vms_model.Blocks.{directory_start};
 ghost use Rattle.careful_write.specs.Content.{content_of, gate_open, gate_block};
 ghost use Rattle.careful_write.specs.Down.{Counts as DownCounts};
 ghost use Rattle.careful_write.specs.Steps.{Counts, Touches};
@@ -16,9 +16,8 @@ ghost use Rattle.volume.specs.Empty.{IsEmptyVolume, ZerosTo, empty_catalog, empt
 ghost use Rattle.volume.specs.Limits.{SizesFit};
 
 use crate::Volume;
-use block_disk::{Disk, DiskErr};
-use careful_write::Down;
-use vms_base::{Moment, NodeName};
+use careful_write::{Disk, DiskErr, Down};
+use file_base::{Moment, NodeName};
 use volume_format::{Home, layouts_are_read_as_written, write_home};
 
 // Closes the gate for good: all of its block becomes zeros.

@@ -2,8 +2,7 @@
 ghost use Rattle.std.specs.Prelude.{◌≡◌, ◌≤◌, ◌<◌, ◌+◌, ◌-◌, ◌/◌, ℕ, true, false};
 ghost use Rattle.volume.specs.Limits.{BlocksFit, BucketFits, BucketsFit, CopyFits, FileFits, HomeFits, KeysFit, RootFits, SaveFits, SizesFit, SpanFits, buckets_of as buckets_said, cells_of as cells_said, file_buckets as file_buckets_said, save_buckets as save_buckets_said};
 
-use file_base::{FileHead, NO_SAVE, Organization, Save, Span};
-use vms_base::{Moment, NodeName};
+use file_base::{FileHead, Moment, NO_SAVE, NodeName, Organization, Save, Span};
 use volume_format::{Home, Sizes};
 
 const GREATEST_MOMENT: u64 = 24_113_056_319_999;

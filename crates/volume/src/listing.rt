@@ -1,8 +1,8 @@
 //! The failing ones of the first five conditions.
 ghost use Rattle.std.specs.Prelude.{◌≡◌, ◌<◌, ◌≤◌, ◌+◌, ◌*◌, ℕ, [], true, false, OnOk, IfSome, length};
-ghost use Rattle.block_disk.specs.Blocks.{block_at};
-ghost use Rattle.block_disk.specs.Sizes.{content_start, least_disk_size};
-ghost use Rattle.vms_model.specs.Limits.{file_limit};
+ghost use Rattle.careful_write.specs.block_disk.Blocks.{block_at};
+ghost use Rattle.careful_write.specs.block_disk.Sizes.{content_start, least_disk_size};
+ghost use Rattle.file_base.specs.vms_model.Limits.{file_limit};
 ghost use Rattle.careful_write.specs.Down.{answered};
 ghost use Rattle.careful_write.specs.Reads.{SameButReads};
 ghost use Rattle.extents.specs.Extents.{FitsAt};
@@ -12,11 +12,9 @@ ghost use Rattle.volume.specs.Listing.{HeadsTried, IsEntered, LiesApart, ListsFi
 use crate::catalog::data_area;
 use crate::findings::Findings;
 use crate::load::{Finding, LoadErr, entry_in, load_home};
-use block_disk::Disk;
-use careful_write::{Down, Store};
+use careful_write::{Disk, Down, Store};
 use extents::{Extent, all_extents, fits_at};
-use file_base::FileHead;
-use vms_base::{Moment, NodeName};
+use file_base::{FileHead, Moment, NodeName};
 use volume_format::Home;
 
 // Keeps the file of a directory block, or lists the block where condition 4 fails.

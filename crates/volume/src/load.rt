@@ -1,9 +1,9 @@
 //! What a content tells, and the first of its conditions that fails.
 ghost use Rattle.std.specs.Prelude.{◌≡◌, ◌≤◌, ◌<◌, ◌+◌, ℕ, Option, Some, None, true, false, IfOk, IfErr, IfSome, IfNone, OnOk, length};
-ghost use Rattle.block_disk.specs.Blocks.{block_at};
-ghost use Rattle.block_disk.specs.Sizes.{content_start, least_disk_size};
-ghost use Rattle.vms_model.specs.Limits.{file_limit, slot_limit};
-ghost use Rattle.vms_model.specs.Blocks.{log_start};
+ghost use Rattle.careful_write.specs.block_disk.Blocks.{block_at};
+ghost use Rattle.careful_write.specs.block_disk.Sizes.{content_start, least_disk_size};
+ghost use Rattle.file_base.specs.vms_model.Limits.{file_limit, slot_limit};
+ghost use Rattle.file_base.specs.vms_model.Blocks.{log_start};
 ghost use Rattle.careful_write.specs.Down.{answered};
 ghost use Rattle.careful_write.specs.Reads.{SameButReads};
 ghost use Rattle.careful_write.specs.State.{EachWhole};
@@ -15,11 +15,9 @@ ghost use Rattle.volume.specs.Listing.{IsOfHome};
 
 use crate::catalog::{Catalog, data_area, is_new};
 use crate::limits::{file_fits, home_fits, sizes_fit};
-use block_disk::Disk;
-use careful_write::{Down, Store};
+use careful_write::{Disk, Down, Store};
 use extents::{all_extents, first_misfit};
-use file_base::{FileHead, Span};
-use vms_base::{Moment, NodeName};
+use file_base::{FileHead, Moment, NodeName, Span};
 use volume_format::{
     DirectoryEntry, Home, read_directory, read_home, read_ru, read_sizes,
     sizes_are_those_of_the_home,

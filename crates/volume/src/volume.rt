@@ -2,10 +2,10 @@
 ghost use Rattle.std.specs.Prelude.{◌≡◌, ◌≤◌, ◌<◌, ◌+◌, ◌-◌, ℕ, Option, Some, None, true, false, IfOk, IfErr, IfSome, IfNone, OnOk, OnErr, IsErr, length, slice_set};
 ghost use Rattle.std.specs.Option.{option_copied};
 ghost use Rattle.std.specs.Borrow.{Lends, sem};
-ghost use Rattle.block_disk.specs.Blocks.{has_number};
-ghost use Rattle.block_disk.specs.Sizes.{content_start, least_disk_size};
-ghost use Rattle.vms_model.specs.Limits.{file_limit};
-ghost use Rattle.vms_model.specs.Blocks.{directory_start, home_block, journal_block};
+ghost use Rattle.careful_write.specs.block_disk.Blocks.{has_number};
+ghost use Rattle.careful_write.specs.block_disk.Sizes.{content_start, least_disk_size};
+ghost use Rattle.file_base.specs.vms_model.Limits.{file_limit};
+ghost use Rattle.file_base.specs.vms_model.Blocks.{directory_start, home_block, journal_block};
 ghost use Rattle.careful_write.specs.Reads.{SameButReads};
 ghost use Rattle.careful_write.specs.State.{EachWhole, IsReady};
 ghost use Rattle.careful_write.specs.contracts.store.Store.{the_row as store_row};
@@ -23,12 +23,10 @@ ghost use Rattle.volume.specs.Mount.{Finds};
 
 use crate::catalog::{Catalog, data_area, find_name, free_number};
 use crate::load::{Finding, LoadErr, load};
-use block_disk::Disk;
-use careful_write::{Down, Full, Store};
+use careful_write::{Disk, Down, Full, Store};
 use extents::{all_extents, free_run, longest_free};
-use file_base::{FileHead, Span};
+use file_base::{FileHead, FileName, NodeName, Span};
 use std::marker::Model;
-use vms_base::{FileName, NodeName};
 use volume_format::{
     DirectoryEntry, Home, layouts_are_read_as_written, write_directory, write_home, write_ru,
 };
@@ -50,7 +48,7 @@ impl<D: Disk> Model for Volume<D> {
     ghost view = { λ v. record { catalog = v.catalog; store = v.store } };
 
     ghost use Rattle.std.specs.Prelude.{◌≡◌, length};
-    ghost use Rattle.vms_model.specs.Limits.{file_limit};
+    ghost use Rattle.file_base.specs.vms_model.Limits.{file_limit};
 
     ghost invariant = { λ v. length v.catalog.heads ≡ file_limit };
 }

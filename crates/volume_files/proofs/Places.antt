@@ -7,10 +7,10 @@ use Rattle.std.proofs.lemmas.Bool.Decides.{nat_tests}
 use Rattle.block_disk.specs.Disk.{DiskState}
 use Rattle.file_base.specs.declared.head.FileHead.{FileHead}
 use Rattle.change_set.specs.Files.{IsPlaced, in_extent}
-use Rattle.extents.specs.declared.extent.Extent.{Extent as Area}
-use Rattle.extents.specs.Extents.{FitsAt, all_extents, covers, extent, nowhere}
-use Rattle.extents.proofs.Used.{covered, covering}
-use Rattle.volume_format.specs.Home.{sizes_of}
+use Rattle.volume.specs.extents.declared.extent.Extent.{Extent as Area}
+use Rattle.volume.specs.extents.Extents.{FitsAt, all_extents, covers, extent, nowhere}
+use Rattle.volume.proofs.extents.Used.{covered, covering}
+use Rattle.volume.specs.volume_format.Home.{sizes_of}
 use Rattle.volume.specs.declared.catalog.Catalog.{Catalog}
 use Rattle.volume.specs.Catalogs.{IsSound, head_at}
 use Rattle.volume.specs.Limits.{FileFits, EntryFits, data_area}

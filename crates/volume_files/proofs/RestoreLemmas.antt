@@ -4,15 +4,15 @@ use Rattle.std.specs.Prelude.{if◌then◌else◌, nat_le}
 use Rattle.file_base.specs.declared.head.FileHead.{FileHead}
 use Rattle.file_base.specs.declared.head.Organization.{Organization}
 use Rattle.file_base.specs.declared.head.Organization.TheVariants.{Sequential, Relative, Indexed}
-use Rattle.vms_model.specs.Keys.{Key, Number, Text, End}
-use Rattle.bucket_page.specs.declared.kind.PageKind.TheVariants.{Seq}
-use Rattle.bucket_page.specs.Pages.{joined, slots_of}
+use Rattle.vms_base.specs.vms_model.Keys.{Key, Number, Text, End}
+use Rattle.record_files.specs.bucket_page.declared.kind.PageKind.TheVariants.{Seq}
+use Rattle.record_files.specs.bucket_page.Pages.{joined, slots_of}
 use Rattle.change_set.specs.Files.{AgreesOn}
 use Rattle.change_set.proofs.Extents.{extent_bucket}
-use Rattle.seq_file.specs.Layout as sequential
-use Rattle.seq_file.specs.Layout.{IsSequential, capacity, record_of, records_in, slots_at}
-use Rattle.seq_file.specs.Local.{along_same}
-use Rattle.seq_file.specs.Records.{record_at}
+use Rattle.record_files.specs.seq_file.Layout as sequential
+use Rattle.record_files.specs.seq_file.Layout.{IsSequential, capacity, record_of, records_in, slots_at}
+use Rattle.record_files.specs.seq_file.Local.{along_same}
+use Rattle.record_files.specs.seq_file.Records.{record_at}
 use Rattle.record_files.specs.Indexed as indexed
 use Rattle.record_files.specs.Any.{FormBy, IsFile, IsLaidOut, LaidOutBy, Restores, RestoresBy}
 

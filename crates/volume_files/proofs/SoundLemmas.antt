@@ -5,12 +5,12 @@ use Rattle.std.proofs.lemmas.Bool.{cases_eq}
 use Rattle.file_base.specs.declared.head.FileHead.{FileHead}
 use Rattle.file_base.specs.declared.head.Organization.{Organization}
 use Rattle.file_base.specs.declared.head.Organization.TheVariants.{Sequential, Relative, Indexed}
-use Rattle.extents.specs.declared.extent.Extent.{Extent as Area}
-use Rattle.extents.specs.Extents.{FitsAt, all_extents, extents_of}
+use Rattle.volume.specs.extents.declared.extent.Extent.{Extent as Area}
+use Rattle.volume.specs.extents.Extents.{FitsAt, all_extents, extents_of}
 use Rattle.change_set.specs.Files.{SameFile}
 use Rattle.record_files.specs.Any as any
 use Rattle.record_files.specs.Any.{FormBy}
-use Rattle.volume_format.specs.Home.{sizes_of}
+use Rattle.volume.specs.volume_format.Home.{sizes_of}
 use Rattle.volume.specs.declared.catalog.Catalog.{Catalog}
 use Rattle.volume.specs.declared.limits.Buckets.{Buckets}
 use Rattle.volume.specs.Catalogs.{IsNew, IsSound, NewName, head_at}

@@ -12,7 +12,7 @@ use Rattle.record_files.specs.Any as any
 use Rattle.volume.specs.declared.catalog.Catalog.{Catalog}
 use Rattle.volume.specs.Catalogs.{IsSound, StandsOnTheFront, TellsCatalog, head_at}
 use Rattle.volume.specs.State.{VolumeState, Holds, SameVolume, with_block}
-use Rattle.volume_format.specs.Head.{head_block_of}
+use Rattle.volume.specs.volume_format.Head.{head_block_of}
 use Rattle.volume_files.specs.Staging.{IsWithin, StagesFile, is_of_file}
 use Rattle.volume_files.proofs.SoundLemmas.{sound_changed}
 

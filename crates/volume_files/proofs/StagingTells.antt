@@ -5,12 +5,12 @@ use Rattle.careful_write.specs.State.{EachWhole, StoreState}
 use Rattle.file_base.specs.declared.head.FileHead.{FileHead}
 use Rattle.file_base.specs.declared.head.Organization.{Organization}
 use Rattle.file_base.specs.declared.head.Organization.TheVariants.{Sequential, Relative, Indexed}
-use Rattle.vms_model.specs.Keys.{Key}
-use Rattle.tree_model.specs.Layouts.{no_layout}
-use Rattle.tree_model.specs.Setting.{layout_back, layout_set}
+use Rattle.vms_base.specs.vms_model.Keys.{Key}
+use Rattle.change_set.specs.tree_model.Layouts.{no_layout}
+use Rattle.change_set.specs.tree_model.Setting.{layout_back, layout_set}
 use Rattle.change_set.specs.Files.{AgreesOn, SameFile, in_extent, sizes_of}
 use Rattle.change_set.specs.Maps.{set_key}
-use Rattle.seq_file.specs.Records.{cut_from}
+use Rattle.record_files.specs.seq_file.Records.{cut_from}
 use Rattle.record_files.specs.Any as any
 use Rattle.record_files.specs.Any.{FormBy, IsLaidOut, Restores, Takes, layout_by, layout_of, map_of, room_at}
 use Rattle.record_files.specs.Local.{layout_local_law, local_law, room_local_law, valid_local_law}

@@ -1,18 +1,18 @@
 -- Where the walks over a file's buckets begin.
 use Rattle.std.proofs.Common.{◌≡◌, ℕ, ◌<◌, ◌≤◌, List, Option, Some, None, IfSome, length, sym, ap, subst, ◌∙◌, arith}
-use Rattle.bucket_page.specs.declared.kind.PageKind.TheVariants.{Seq}
-use Rattle.bucket_page.specs.Pages.{slots_of}
+use Rattle.record_files.specs.bucket_page.declared.kind.PageKind.TheVariants.{Seq}
+use Rattle.record_files.specs.bucket_page.Pages.{slots_of}
 use Rattle.change_set.proofs.Extents.{extent_bucket}
 use Rattle.file_base.specs.declared.head.FileHead.{FileHead}
 use Rattle.file_base.specs.declared.head.Organization.{Organization}
 use Rattle.file_base.specs.declared.head.Organization.TheVariants.{Sequential}
 use Rattle.change_set.specs.Files.{AgreesOn, first_place}
 use Rattle.change_set.specs.declared.walk.Place.{Place}
-use Rattle.vms_model.specs.Keys.{Key}
+use Rattle.vms_base.specs.vms_model.Keys.{Key}
 use Rattle.record_files.specs.Any.{Begins, BeginsBy, FormBy, IsFile, IsLaidOut}
 use Rattle.record_files.specs.Local.{begins_first_law}
-use Rattle.seq_file.specs.Layout.{CountsBefore, IsSequential, slots_at}
-use Rattle.seq_file.specs.Local.{along_same}
+use Rattle.record_files.specs.seq_file.Layout.{CountsBefore, IsSequential, slots_at}
+use Rattle.record_files.specs.seq_file.Local.{along_same}
 
 -- what is so of a head that is formed
 pub formed_begins : (told : Option (List (List ℕ))) (h : FileHead) (P : List (List ℕ) → Type 0) → IsFile h → IfSome told (λ a. IsFile h → IsLaidOut h a → P a) → IfSome told (λ a. IsLaidOut h a → P a)

@@ -5,13 +5,13 @@ use Rattle.careful_write.specs.Reads.{SameButReads}
 use Rattle.careful_write.specs.State.{EachWhole}
 use Rattle.careful_write.specs.Steps.{AgreesOff}
 use Rattle.file_base.specs.declared.head.FileHead.{FileHead}
-use Rattle.vms_model.specs.Keys.{Key}
-use Rattle.tree_model.specs.Setting.{layout_back, layout_set}
+use Rattle.vms_base.specs.vms_model.Keys.{Key}
+use Rattle.change_set.specs.tree_model.Setting.{layout_back, layout_set}
 use Rattle.change_set.specs.Files.{SameFile, in_extent, sizes_of}
 use Rattle.change_set.specs.Maps.{set_key}
 use Rattle.record_files.specs.Any as any
 use Rattle.record_files.specs.Any.{map_of, layout_of, room_at, IsLaidOut, Suits, Takes, Restores}
-use Rattle.seq_file.specs.Records.{cut_from}
+use Rattle.record_files.specs.seq_file.Records.{cut_from}
 use Rattle.volume.specs.Catalogs.{IsSound}
 use Rattle.volume.specs.State.{VolumeState, Holds}
 

@@ -7,7 +7,7 @@ ghost use Rattle.change_set.specs.Maps.{EndsAfter, IsNext};
 ghost use Rattle.record_files.specs.Any.{Begins, IsFile, IsLaidOut, asks, map_of, reads_of};
 ghost use Rattle.volume.specs.State.{SameVolume};
 ghost use Rattle.vms_base.specs.Keys.{key_of};
-ghost use Rattle.vms_model.specs.Keys as model;
+ghost use Rattle.vms_base.specs.vms_model.Keys as model;
 
 use block_disk::Disk;
 use careful_write::Down;

@@ -2,8 +2,8 @@
 ghost use Rattle.std.specs.Prelude.{◌≡◌, ◌≢◌, ◌⊎◌, ◌<◌, ◌≤◌, ◌+◌, ◌*◌, ℕ, List, true, false, Option, Some, None, Ok, length, OnOk, OnErr, IfSome, option_map, slice_set};
 ghost use Rattle.std.specs.Option.{option_copied};
 ghost use Rattle.block_disk.specs.Sizes.{content_start, greatest_disk_size, least_disk_size};
-ghost use Rattle.vms_model.specs.Limits.{file_limit};
-ghost use Rattle.vms_model.specs.Blocks.{directory_start};
+ghost use Rattle.vms_base.specs.vms_model.Limits.{file_limit};
+ghost use Rattle.vms_base.specs.vms_model.Blocks.{directory_start};
 ghost use Rattle.careful_write.specs.State.{EachWhole};
 ghost use Rattle.careful_write.specs.Sizes.{group_limit, staged_limit};
 ghost use Rattle.change_set.specs.Files.{SameFile, fell, free_frames};
@@ -11,9 +11,9 @@ ghost use Rattle.file_base.specs.declared.head.Organization.TheVariants as organ
 ghost use Rattle.record_files.specs.Any.{Begins, IsFile, IsLaidOut};
 ghost use Rattle.volume.specs.Catalogs.{IsSound, head_at};
 ghost use Rattle.volume.specs.State.{Holds, SameVolume, with_block};
-ghost use Rattle.volume_format.specs.Head.{head_block_of};
+ghost use Rattle.volume.specs.volume_format.Head.{head_block_of};
 ghost use Rattle.vms_base.specs.Keys.{key_of};
-ghost use Rattle.vms_model.specs.Keys.{Number};
+ghost use Rattle.vms_base.specs.vms_model.Keys.{Number};
 ghost use Rattle.volume_files.specs.Staging.{StagesFile, TellsBack, TellsCut, TellsSet};
 
 use block_disk::Disk;

@@ -2,8 +2,8 @@
 use Rattle.std.proofs.Common.{◌≡◌, ℕ, ◌<◌, ◌^◌, List, [], ◌∷◌, length, arith, refl, ◌∙◌, ap, sym, Some, None, Option, subst}
 use Rattle.std.specs.Int.{to_le_bytes, from_le_bytes, w32, w64}
 use Rattle.std.proofs.lemmas.Nat.{from_le_bytes-to_le_bytes_4}
-use Rattle.vms_model.specs.Ids.{padded}
-use Rattle.vms_base.specs.Ids.{tid_of, serial_of}
+use Rattle.file_base.specs.vms_model.Ids.{padded}
+use Rattle.file_base.specs.vms_base.Ids.{tid_of, serial_of}
 use Rattle.volume_format.specs.declared.home.Home.{Home}
 use Rattle.volume_format.specs.declared.home.Settled.{Settled}
 use Rattle.file_base.specs.Bytes.{piece_at}

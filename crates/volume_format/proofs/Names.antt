@@ -4,10 +4,10 @@ use Rattle.std.specs.Prelude.{◌==◌, nat_le, ◌&&◌}
 use Rattle.std.specs.List.{list_all}
 use Rattle.std.proofs.lemmas.List.{length-replicate}
 use Rattle.std.proofs.lemmas.Bool.Decides.{nat_tests}
-use Rattle.vms_model.specs.Names.{in_name, is_name, named, upper, begins_with_letter}
-use Rattle.vms_model.specs.Ids.{Id, IsId, padded, id_bytes}
-use Rattle.vms_base.specs.Ids.{until_zero}
-use Rattle.vms_base.proofs.NameLemmas.{both, chosen}
+use Rattle.file_base.specs.vms_model.Names.{in_name, is_name, named, upper, begins_with_letter}
+use Rattle.file_base.specs.vms_model.Ids.{Id, IsId, padded, id_bytes}
+use Rattle.file_base.specs.vms_base.Ids.{until_zero}
+use Rattle.file_base.proofs.vms_base.NameLemmas.{both, chosen}
 
 -- no byte of a name is zero
 not_zero : (marks : List ℕ) (x : ℕ) → in_name marks 0 ≡ false → in_name marks x ≡ true → (x == 0) ≡ false

@@ -1,9 +1,9 @@
 -- What is read is written again and compared.
 use Rattle.std.proofs.Common.{◌≡◌, ◌↔◌, ap, sym, Some, None, Option, subst}
 use Rattle.std.specs.Option.{option_map}
-use Rattle.vms_model.specs.Ids as model
-use Rattle.vms_base.specs.Ids.{id_of}
-use Rattle.vms_base.specs.declared.ids.Id.{Id}
+use Rattle.file_base.specs.vms_model.Ids as model
+use Rattle.file_base.specs.vms_base.Ids.{id_of}
+use Rattle.file_base.specs.vms_base.declared.ids.Id.{Id}
 
 pub same_some : {H : Type 0} (a b : H) → Some a ≡ Some b → a ≡ b
 same_some a b h = cc

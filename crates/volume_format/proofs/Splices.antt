@@ -2,7 +2,7 @@
 use Rattle.std.proofs.Common.{◌≡◌, ℕ, ◌+◌, ◌≤◌, ◌++◌, List, [], ◌∷◌, length, arith, rules, true, refl, ◌∙◌, ap, sym, replicate, Some, zero, suc}
 use Rattle.std.proofs.lemmas.List.{same_lists, places}
 use Rattle.std.proofs.lemmas.Bool.Decides.{nat_tests}
-use Rattle.vms_model.specs.Ids.{padded}
+use Rattle.file_base.specs.vms_model.Ids.{padded}
 use Rattle.file_base.specs.Bytes.{piece_at}
 use Rattle.volume_format.specs.Layout.{spliced, Row, laid, in_order, AllWide, AllStand, row_at}
 

@@ -1,7 +1,7 @@
 -- The directory block of a file.
 use Rattle.std.specs.Prelude.{◌≡◌, ℕ, ◌+◌, ◌<◌, ◌^◌, List, [], ◌∷◌, ◌++◌, replicate, length, Some, if◌then◌else◌, ⊤}
-use Rattle.vms_model.specs.Names.{file_named}
-use Rattle.vms_model.specs.Ids.{padded}
+use Rattle.file_base.specs.vms_model.Names.{file_named}
+use Rattle.file_base.specs.vms_model.Ids.{padded}
 use Rattle.file_base.specs.declared.head.FileHead.{FileHead}
 use Rattle.volume_format.specs.declared.head.DirectoryEntry.{DirectoryEntry}
 use Rattle.volume_format.specs.declared.head.DirectoryEntry.TheVariants as entry

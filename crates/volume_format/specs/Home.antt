@@ -1,10 +1,10 @@
 -- The home block of a volume.
 use Rattle.std.specs.Prelude.{◌≡◌, ℕ, ◌<◌, ◌^◌, List, [], ◌∷◌, ◌++◌, replicate, codes, Option, Some, None, ⊤}
-use Rattle.vms_model.specs.Names.{node_named}
-use Rattle.vms_model.specs.Ids.{IsId, id_bytes, padded}
-use Rattle.vms_base.specs.Ids.{tid_of, serial_of}
-use Rattle.vms_base.specs.declared.outcomes.Reason.{Reason}
-use Rattle.vms_base.specs.declared.outcomes.Reason.TheVariants as reason
+use Rattle.file_base.specs.vms_model.Names.{node_named}
+use Rattle.file_base.specs.vms_model.Ids.{IsId, id_bytes, padded}
+use Rattle.file_base.specs.vms_base.Ids.{tid_of, serial_of}
+use Rattle.file_base.specs.vms_base.declared.outcomes.Reason.{Reason}
+use Rattle.file_base.specs.vms_base.declared.outcomes.Reason.TheVariants as reason
 use Rattle.volume_format.specs.declared.home.Home.{Home}
 use Rattle.volume_format.specs.declared.home.Sizes.{Sizes}
 use Rattle.volume_format.specs.declared.home.Settled.{Settled}

@@ -1,6 +1,6 @@
 //! The directory block of a file number.
 ghost use Rattle.std.specs.Prelude.{◌≡◌, ◌↔◌, ◌+◌, ◌≤◌, ℕ, List, [], ◌∷◌, Option, Some, IsTrue, length};
-ghost use Rattle.vms_model.specs.Ids.{padded};
+ghost use Rattle.file_base.specs.vms_model.Ids.{padded};
 ghost use Rattle.volume_format.specs.declared.head.DirectoryEntry.{DirectoryEntry as EntrySaid};
 ghost use Rattle.file_base.specs.declared.head.FileHead.{FileHead as HeadSaid};
 ghost use Rattle.file_base.specs.declared.head.Marks.{Marks as MarksSaid};
@@ -14,8 +14,7 @@ use crate::pieces::{
     file_at, name_len, number_8, number_16, number_32, number_64, padded_40, write, write_8,
     write_16, write_32, write_64,
 };
-use file_base::{FileHead, Marks, Organization, Save, Span};
-use vms_base::Moment;
+use file_base::{FileHead, Marks, Moment, Organization, Save, Span};
 
 /// What the directory block of a file number tells.
 #[derive(Clone, Copy, Debug, PartialEq, Eq, Drop)]

@@ -4,7 +4,7 @@ ghost use Rattle.std.specs.Option.{option_map};
 ghost use Rattle.volume_format.specs.declared.home.Home.{Home as HomeSaid};
 ghost use Rattle.volume_format.specs.declared.home.Settled.{Settled as SettledSaid};
 ghost use Rattle.volume_format.specs.declared.home.Sizes.{Sizes as SizesSaid};
-ghost use Rattle.vms_base.specs.declared.outcomes.Reason.{Reason as ReasonSaid};
+ghost use Rattle.file_base.specs.vms_base.declared.outcomes.Reason.{Reason as ReasonSaid};
 ghost use Rattle.volume_format.specs.declared.home.Ending.{Ending as EndingSaid};
 ghost use Rattle.file_base.specs.Bytes.{piece_at};
 ghost use Rattle.volume_format.specs.Layout.{spliced, laid};
@@ -13,7 +13,7 @@ ghost use Rattle.volume_format.specs.Home.{home_rows, size_rows, sizes_of, IsSiz
 use crate::pieces::{
     id_at, node_at, number_8, number_32, number_64, write, write_8, write_32, write_64,
 };
-use vms_base::{Moment, NodeName, Reason, Serial, Tid, put_id};
+use file_base::{Moment, NodeName, Reason, Serial, Tid, put_id};
 
 /// How a branch was settled.
 #[derive(Clone, Copy, Debug, PartialEq, Eq, Drop)]

@@ -2,17 +2,16 @@
 ghost use Rattle.std.specs.Prelude.{◌≡◌, ◌<◌, ◌≤◌, ◌+◌, ◌^◌, ℕ, List, [], ◌∷◌, length, Some};
 ghost use Rattle.std.specs.Int.{to_le_bytes, w16, w32, w64};
 ghost use Rattle.std.specs.Option.{option_map};
-ghost use Rattle.vms_model.specs.Names.{node_named, file_named};
-ghost use Rattle.vms_model.specs.Ids.{IsId, id_bytes, padded};
-ghost use Rattle.vms_base.specs.declared.ids.Id.{Id as IdSaid};
-ghost use Rattle.vms_base.specs.Ids.{id_of, until_zero};
+ghost use Rattle.file_base.specs.vms_model.Names.{node_named, file_named};
+ghost use Rattle.file_base.specs.vms_model.Ids.{IsId, id_bytes, padded};
+ghost use Rattle.file_base.specs.vms_base.declared.ids.Id.{Id as IdSaid};
+ghost use Rattle.file_base.specs.vms_base.Ids.{id_of, until_zero};
 ghost use Rattle.file_base.specs.Bytes.{piece_at};
 ghost use Rattle.byteorder.specs.Endian.{little_bytes, little_number};
 ghost use Rattle.volume_format.specs.Layout.{spliced, laid, number_8 as number_8_at, number_16 as number_16_at, number_32 as number_32_at, number_64 as number_64_at};
 
 use byteorder::{ByteOrder, LittleEndian};
-use file_base::splice;
-use vms_base::{FileName, Id, NodeName, get_id};
+use file_base::{FileName, Id, NodeName, get_id, splice};
 
 /// Writes a piece over the bytes of a block at a place.
 #[tactic(auto, unfolding(crate::specs::Layout::spliced))]

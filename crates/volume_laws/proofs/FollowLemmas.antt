@@ -1,29 +1,29 @@
 -- The journal in the ring follows the acts of the node.
 use Rattle.std.proofs.Common.{◌≡◌, ℕ, ◌+◌, ◌≤◌, ◌^◌, List, [], ◌∷◌, ◌++◌, length, map, Option, Some, None, refl, sym, ◌∙◌, ap, subst, arith, append-nil}
 use Rattle.std.specs.List.{flat_map}
-use Rattle.file_base.specs.declared.head.FileHead.{FileHead}
-use Rattle.file_base.specs.declared.head.Span.{Span}
-use Rattle.volume.specs.declared.catalog.Catalog.{Catalog}
+use Rattle.volume_format.specs.file_base.declared.head.FileHead.{FileHead}
+use Rattle.volume_format.specs.file_base.declared.head.Span.{Span}
+use Rattle.volume_model.specs.volume.declared.catalog.Catalog.{Catalog}
 use Rattle.vms_model.specs.Ids.{Id}
 use Rattle.vms_model.specs.Keys.{Key}
-use Rattle.records_model.specs.Records.{Change}
+use Rattle.unit_laws.specs.records_model.Records.{Change}
 use Rattle.journal_model.specs.Entries.{Entry, spelling}
 use Rattle.journal_model.specs.Ring.{IsJournal}
 use Rattle.journal_store.proofs.EntriesAt.{front_dropped}
 use Rattle.unit_laws.specs.Journal.{Journal, JournalEntry, PreparedEntry, SettledEntry, RecoveryUnit, end_of, entries_for, entries_from, find_unit, trimmed, units_in, with_entries, with_settled}
 use Rattle.unit_laws.proofs.TrimLemmas.{trim_keeps_units}
-use Rattle.commit_protocol.specs.Table as table
-use Rattle.commit_protocol.specs.Table.{Branch, Prepares}
-use Rattle.run_model.specs.World.{Node, Settlement, Formats, Tables, Changes, Directs, acted, settlement_of, with_prepared}
+use Rattle.volume_model.specs.commit_protocol.Table as table
+use Rattle.volume_model.specs.commit_protocol.Table.{Branch, Prepares}
+use Rattle.restart_laws.specs.run_model.World.{Node, Settlement, Formats, Tables, Changes, Directs, acted, settlement_of, with_prepared}
 use Rattle.restart_laws.proofs.PreparedLemmas.{settled_journal}
-use Rattle.directory_model.specs.Files.{head_at}
+use Rattle.restart_laws.specs.directory_model.Files.{head_at}
 use Rattle.volume_model.specs.Entries.{AreEntries, entry_for}
 use Rattle.volume_model.specs.Laws.{KeepsNames}
 use Rattle.volume_model.specs.Volumes.{HasJournal}
 use Rattle.volume_model.proofs.EntryLemmas.{entries_follow}
-use Rattle.file_images.specs.Files.{SameRing}
+use Rattle.restart_laws.specs.file_images.Files.{SameRing}
 use Rattle.volume_laws.specs.Journals.{JournalsFollow, prepared_entries, settled_entries}
-use Rattle.file_images.proofs.Rings.{journal_stands}
+use Rattle.restart_laws.proofs.file_images.Rings.{journal_stands}
 
 formats : (b : List (List ℕ)) (w : Catalog) (n : Node) (slots journal : ℕ) → IsJournal b w.ru [] → w.ru.first ≡ 0 → w.ru.end ≡ 0 → HasJournal b w (acted (Formats slots journal) n)
 formats b w n slots journal is first end = record { entries = []; is = is; alike = tt; first = first; end = end; low = omega (arith, end) }

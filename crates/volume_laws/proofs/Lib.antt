@@ -2,3 +2,8 @@ pub mod FollowLemmas
 pub mod WholeLemmas
 pub mod LogLemmas
 pub mod ToldLemmas
+pub mod directory_model
+pub mod file_images
+pub mod restart_laws
+pub mod volume_files
+pub mod volume_model

@@ -1,16 +1,16 @@
 -- The log in the slots follows the acts of the node.
 use Rattle.std.proofs.Common.{◌≡◌, ◌≤◌, ◌+◌, ℕ, List, [], ◌∷◌, length, true, Some, refl, sym, ◌∙◌, ap, subst, arith}
 use Rattle.std.specs.List.{AllByRecursion}
-use Rattle.commit_protocol.specs.Agreement.{Distinct}
-use Rattle.commit_protocol.specs.Messages.{LogRecord}
-use Rattle.commit_protocol.specs.Table.{record_serials}
-use Rattle.log_laws.specs.Slots.{Slots, records_in}
-use Rattle.lmcp_log.specs.Keeping.{IsWhole, Keeps, SameSlots}
-use Rattle.lmcp_log.proofs.Keepings.{keeps_beside}
-use Rattle.lmcp_log.proofs.Whole.{beside_whole}
+use Rattle.volume_model.specs.commit_protocol.Agreement.{Distinct}
+use Rattle.volume_model.specs.commit_protocol.Messages.{LogRecord}
+use Rattle.volume_model.specs.commit_protocol.Table.{record_serials}
+use Rattle.volume_model.specs.log_laws.Slots.{Slots, records_in}
+use Rattle.volume_model.specs.lmcp_log.Keeping.{IsWhole, Keeps, SameSlots}
+use Rattle.volume_model.proofs.lmcp_log.Keepings.{keeps_beside}
+use Rattle.volume_model.proofs.lmcp_log.Whole.{beside_whole}
 use Rattle.vms_model.specs.Ids.{Id}
 use Rattle.unit_laws.specs.Journal.{Journal}
-use Rattle.run_model.specs.World.{IsLogInOrder, IsReached, Node}
+use Rattle.restart_laws.specs.run_model.World.{IsLogInOrder, IsReached, Node}
 use Rattle.volume_model.specs.Volumes.{HasLog}
 
 pub stays : (a b : List (List ℕ)) (n m : Node) → HasLog a n → m.durable.log ≡ n.durable.log → SameSlots (length n.durable.log) a b → HasLog b m

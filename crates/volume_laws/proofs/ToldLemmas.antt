@@ -3,21 +3,21 @@ use Rattle.std.proofs.Common.{◌≡◌, ◌≤◌, ◌+◌, ℕ, suc, Bool, tru
 use Rattle.std.specs.Prelude.{is_some}
 use Rattle.std.specs.List.{AllByRecursion}
 use Rattle.vms_model.specs.Ids.{Id}
-use Rattle.records_model.specs.History.{same_id}
-use Rattle.commit_protocol.specs.Messages.{LogRecord}
-use Rattle.commit_protocol.specs.Table as table
-use Rattle.commit_protocol.specs.World.{In}
-use Rattle.log_laws.specs.Slots.{prepared_of, records_in, slots_after}
+use Rattle.unit_laws.specs.records_model.History.{same_id}
+use Rattle.volume_model.specs.commit_protocol.Messages.{LogRecord}
+use Rattle.volume_model.specs.commit_protocol.Table as table
+use Rattle.volume_model.specs.commit_protocol.World.{In}
+use Rattle.volume_model.specs.log_laws.Slots.{prepared_of, records_in, slots_after}
 use Rattle.unit_laws.specs.Journal.{Journal, JournalEntry, RecoveryUnit, SettledEntry, find_unit, is_settled_in, is_settling, trimmed, units_in, with_entries, with_settled, without_unit}
 use Rattle.unit_laws.specs.JournalLaws.{is_unit}
 use Rattle.unit_laws.proofs.LiveLemmas.{clash, id_is}
 use Rattle.unit_laws.proofs.TrimLemmas.{settles_unit, trim_keeps_units}
 use Rattle.unit_laws.proofs.UnitLemmas.{units_follow}
-use Rattle.run_model.specs.World.{IsLogInOrder, IsOfTransaction, Node, Settlement, Tables, acted, settlement_of, with_prepared, with_settlement, without_units}
-use Rattle.world_laws.proofs.EntryLemmas.{all_settled, none_settles, settled_by_none}
+use Rattle.restart_laws.specs.run_model.World.{IsLogInOrder, IsOfTransaction, Node, Settlement, Tables, acted, settlement_of, with_prepared, with_settlement, without_units}
+use Rattle.volume_model.proofs.world_laws.EntryLemmas.{all_settled, none_settles, settled_by_none}
 use Rattle.restart_laws.proofs.PreparedLemmas.{settled_journal}
-use Rattle.lmcp_log.proofs.Keepings.{empty_keeps}
-use Rattle.lmcp_log.proofs.Whole.{empty_whole}
+use Rattle.volume_model.proofs.lmcp_log.Keepings.{empty_keeps}
+use Rattle.volume_model.proofs.lmcp_log.Whole.{empty_whole}
 use Rattle.volume_laws.specs.Logs.{LogsFollow}
 use Rattle.volume_laws.proofs.LogLemmas.{stays, told}
 

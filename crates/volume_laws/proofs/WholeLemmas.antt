@@ -1,9 +1,9 @@
 -- A volume falls, and rests.
 use Rattle.std.proofs.Common.{◌≡◌, ℕ, List, Option, Some, None}
-use Rattle.file_base.specs.declared.head.FileHead.{FileHead}
-use Rattle.run_model.specs.World.{File}
-use Rattle.directory_model.specs.Files.{head_at, file_at}
-use Rattle.directory_model.specs.Restoring.{IsPlaceLeft, IsPlaceRestorable}
+use Rattle.volume_format.specs.file_base.declared.head.FileHead.{FileHead}
+use Rattle.restart_laws.specs.run_model.World.{File}
+use Rattle.restart_laws.specs.directory_model.Files.{head_at, file_at}
+use Rattle.restart_laws.specs.directory_model.Restoring.{IsPlaceLeft, IsPlaceRestorable}
 use Rattle.restart_laws.proofs.FallLemmas.{falls_leave}
 use Rattle.restart_laws.proofs.PreparedLemmas.{prepared_stand}
 use Rattle.restart_laws.proofs.RestLemmas.{rests_as_files}

@@ -1,7 +1,7 @@
 -- What a fall leaves of a volume, and when it is whole again.
 use Rattle.std.specs.Prelude.{◌≡◌, ℕ, List}
-use Rattle.volume.specs.declared.catalog.Catalog.{Catalog}
-use Rattle.run_model.specs.World.{Node}
+use Rattle.volume_model.specs.volume.declared.catalog.Catalog.{Catalog}
+use Rattle.restart_laws.specs.run_model.World.{Node}
 use Rattle.restart_laws.specs.Falls.{AllPrepared}
 use Rattle.volume_model.specs.Volumes.{HasVolume, LeavesVolume}
 

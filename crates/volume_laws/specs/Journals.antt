@@ -1,19 +1,19 @@
 -- How the journal in a volume's ring follows the acts of its node.
 use Rattle.std.specs.Prelude.{◌≡◌, ℕ, ◌≤◌, ◌^◌, List, [], ◌∷◌, ◌++◌, map, Some, None}
-use Rattle.file_base.specs.declared.head.FileHead.{FileHead}
-use Rattle.file_base.specs.declared.head.Span.{Span}
-use Rattle.volume.specs.declared.catalog.Catalog.{Catalog}
+use Rattle.volume_format.specs.file_base.declared.head.FileHead.{FileHead}
+use Rattle.volume_format.specs.file_base.declared.head.Span.{Span}
+use Rattle.volume_model.specs.volume.declared.catalog.Catalog.{Catalog}
 use Rattle.vms_model.specs.Ids.{Id}
 use Rattle.vms_model.specs.Keys.{Key}
-use Rattle.records_model.specs.Records.{Change}
+use Rattle.unit_laws.specs.records_model.Records.{Change}
 use Rattle.journal_model.specs.Entries.{Entry}
 use Rattle.journal_model.specs.Ring.{IsJournal}
 use Rattle.unit_laws.specs.Journal.{Journal, PreparedEntry, SettledEntry, end_of, entries_for, find_unit, trimmed, units_in, with_entries, with_settled}
-use Rattle.commit_protocol.specs.Table as table
-use Rattle.commit_protocol.specs.Table.{Branch, Prepares}
-use Rattle.run_model.specs.World.{Node, Settlement, Formats, Tables, Changes, Directs, acted, settlement_of, with_prepared}
-use Rattle.directory_model.specs.Files.{head_at}
-use Rattle.file_images.specs.Files.{SameRing}
+use Rattle.volume_model.specs.commit_protocol.Table as table
+use Rattle.volume_model.specs.commit_protocol.Table.{Branch, Prepares}
+use Rattle.restart_laws.specs.run_model.World.{Node, Settlement, Formats, Tables, Changes, Directs, acted, settlement_of, with_prepared}
+use Rattle.restart_laws.specs.directory_model.Files.{head_at}
+use Rattle.restart_laws.specs.file_images.Files.{SameRing}
 use Rattle.volume_model.specs.Entries.{entry_for}
 use Rattle.volume_model.specs.Laws.{KeepsNames}
 use Rattle.volume_model.specs.Volumes.{HasJournal}

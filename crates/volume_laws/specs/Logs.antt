@@ -1,11 +1,11 @@
 -- How the log in a volume's slots follows the acts of its node.
 use Rattle.std.specs.Prelude.{◌≡◌, ◌≤◌, ℕ, List, Some, false, length}
 use Rattle.volume_format.specs.declared.home.Home.{Home}
-use Rattle.volume.specs.Empty.{IsEmptyVolume}
-use Rattle.lmcp_log.specs.Keeping.{SameSlots}
+use Rattle.volume_model.specs.volume.Empty.{IsEmptyVolume}
+use Rattle.volume_model.specs.lmcp_log.Keeping.{SameSlots}
 use Rattle.unit_laws.specs.Journal.{RecoveryUnit, find_unit, units_in}
-use Rattle.commit_protocol.specs.Table as table
-use Rattle.run_model.specs.World.{IsLogInOrder, Node, Settlement, Formats, Tables, acted, settlement_of}
+use Rattle.volume_model.specs.commit_protocol.Table as table
+use Rattle.restart_laws.specs.run_model.World.{IsLogInOrder, Node, Settlement, Formats, Tables, acted, settlement_of}
 use Rattle.volume_model.specs.Volumes.{HasLog}
 
 pub record LogsFollow : Type 0 where

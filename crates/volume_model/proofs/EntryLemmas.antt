@@ -3,17 +3,17 @@ use Rattle.std.proofs.Common.{◌≡◌, ℕ, ◌+◌, ◌≤◌, Bool, true, fa
 use Rattle.std.specs.List.{flat_map, AllByRecursion}
 use Rattle.std.proofs.lemmas.List.{map-append}
 use Rattle.std.proofs.lemmas.List.Concat.{flat_map-cons}
-use Rattle.file_base.specs.declared.head.FileHead.{FileHead}
-use Rattle.vms_model.specs.Ids.{Id}
-use Rattle.vms_model.specs.Keys.{Key, Number, Text, End}
-use Rattle.records_model.specs.Records.{Change}
-use Rattle.records_model.specs.Slots.{size_of}
-use Rattle.journal_model.specs.Entries.{Entry, IsEntry, spelling}
-use Rattle.journal_format.proofs.Decoding.{total_is}
+use Rattle.lmcp_log.specs.file_base.declared.head.FileHead.{FileHead}
+use Rattle.unit_laws.specs.vms_model.Ids.{Id}
+use Rattle.unit_laws.specs.vms_model.Keys.{Key, Number, Text, End}
+use Rattle.unit_laws.specs.records_model.Records.{Change}
+use Rattle.unit_laws.specs.records_model.Slots.{size_of}
+use Rattle.directory_model.specs.journal_model.Entries.{Entry, IsEntry, spelling}
+use Rattle.directory_model.proofs.journal_format.Decoding.{total_is}
 use Rattle.unit_laws.specs.Journal.{JournalEntry, ChangeEntry, PreparedEntry, SettledEntry, RecoveryUnit, entries_for, entries_from, entries_size, entry_size, is_of_units, key_size}
 use Rattle.unit_laws.proofs.Tests.{picked, passed}
 use Rattle.directory_model.specs.Files.{head_at}
-use Rattle.file_images.specs.Images.{key_bytes, image_bytes}
+use Rattle.directory_model.specs.file_images.Images.{key_bytes, image_bytes}
 use Rattle.volume_model.specs.Entries.{AreEntries, IsFileOf, entry_for}
 use Rattle.volume_model.specs.Laws.{EntriesFollow, IsTrimmed, KeepsNames}
 

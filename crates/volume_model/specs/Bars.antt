@@ -1,15 +1,15 @@
 -- What bars a boot of a volume whose blocks are in order.
 use Rattle.std.specs.Prelude.{◌+◌, ◌-◌, ◌*◌, ◌^◌, ◌&&◌, ◌==◌, ℕ, List, [], ◌∷◌, Bool, true, false, Option, Some, None, if◌then◌else◌, max, min, nat_le, nat_lt}
-use Rattle.vms_model.specs.Limits.{boot_limit, moment_limit, position_limit}
+use Rattle.unit_laws.specs.vms_model.Limits.{boot_limit, moment_limit, position_limit}
 use Rattle.block_disk.specs.Sizes.{greatest_disk_size}
-use Rattle.file_base.specs.declared.head.FileHead.{FileHead}
-use Rattle.file_base.specs.declared.head.Organization.{Organization}
-use Rattle.file_base.specs.declared.head.Organization.TheVariants.{Sequential, Relative, Indexed}
-use Rattle.file_base.specs.declared.head.Span.{Span}
+use Rattle.lmcp_log.specs.file_base.declared.head.FileHead.{FileHead}
+use Rattle.lmcp_log.specs.file_base.declared.head.Organization.{Organization}
+use Rattle.lmcp_log.specs.file_base.declared.head.Organization.TheVariants.{Sequential, Relative, Indexed}
+use Rattle.lmcp_log.specs.file_base.declared.head.Span.{Span}
 use Rattle.image_room.specs.Room.{images_end}
-use Rattle.journal_model.specs.Ring.{ring_size}
-use Rattle.run_model.specs.World.{Bar, NoRing, NoIndex, AllBoots, LateMoment, FarPosition}
-use Rattle.volume.specs.declared.catalog.Catalog.{Catalog}
+use Rattle.directory_model.specs.journal_model.Ring.{ring_size}
+use Rattle.world_laws.specs.run_model.World.{Bar, NoRing, NoIndex, AllBoots, LateMoment, FarPosition}
+use Rattle.lmcp_log.specs.volume.declared.catalog.Catalog.{Catalog}
 
 -- whether a journal lies in its ring, and whether its positions are low too
 abbrev pub is_within : Span → Bool

@@ -1,8 +1,8 @@
 -- Which entry of the world's journal an entry on the disk is.
 use Rattle.std.specs.Prelude.{◌≡◌, ℕ, List, [], ◌∷◌, Option, Some, is_some, if◌then◌else◌}
-use Rattle.file_base.specs.declared.head.FileHead.{FileHead}
-use Rattle.journal_model.specs.Entries.{Entry}
-use Rattle.file_images.specs.Images.{key_bytes, image_bytes, outcome_code}
+use Rattle.lmcp_log.specs.file_base.declared.head.FileHead.{FileHead}
+use Rattle.directory_model.specs.journal_model.Entries.{Entry}
+use Rattle.directory_model.specs.file_images.Images.{key_bytes, image_bytes, outcome_code}
 use Rattle.directory_model.specs.Files.{head_at}
 use Rattle.unit_laws.specs.Journal.{JournalEntry, ChangeEntry, PreparedEntry, SettledEntry}
 

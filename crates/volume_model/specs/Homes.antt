@@ -1,13 +1,13 @@
 -- What the home block of a volume tells of its node.
 use Rattle.std.specs.Prelude.{◌≡◌, ℕ, Option, Some, None, length, option_map}
-use Rattle.volume_format.specs.declared.home.Home.{Home}
-use Rattle.volume_format.specs.declared.home.Settled.{Settled}
-use Rattle.volume_format.specs.declared.home.Ending.{Ending}
-use Rattle.volume_format.specs.declared.home.Ending.TheVariants as ending
-use Rattle.vms_model.specs.Transactions.{Outcome, Commit, Abort, Reason}
-use Rattle.vms_base.specs.Ids.{tid_of, serial_of}
-use Rattle.vms_base.specs.Outcomes.{reason_of}
-use Rattle.run_model.specs.World.{Node, Settlement, Sound}
+use Rattle.lmcp_log.specs.volume_format.declared.home.Home.{Home}
+use Rattle.lmcp_log.specs.volume_format.declared.home.Settled.{Settled}
+use Rattle.lmcp_log.specs.volume_format.declared.home.Ending.{Ending}
+use Rattle.lmcp_log.specs.volume_format.declared.home.Ending.TheVariants as ending
+use Rattle.unit_laws.specs.vms_model.Transactions.{Outcome, Commit, Abort, Reason}
+use Rattle.lmcp_log.specs.vms_base.Ids.{tid_of, serial_of}
+use Rattle.lmcp_log.specs.vms_base.Outcomes.{reason_of}
+use Rattle.world_laws.specs.run_model.World.{Node, Settlement, Sound}
 
 -- a settlement that a home tells, at this moment
 abbrev pub settlement_of : ℕ → Settled → Settlement

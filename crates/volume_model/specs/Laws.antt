@@ -1,10 +1,10 @@
 -- How the entries on a disk follow those of the world's journal.
 use Rattle.std.specs.Prelude.{◌≡◌, ◌-◌, ℕ, List, ◌++◌, length, map, Option, Some}
 use Rattle.std.specs.List.{flat_map, AllByRecursion}
-use Rattle.file_base.specs.declared.head.FileHead.{FileHead}
-use Rattle.vms_model.specs.Ids.{Id}
-use Rattle.records_model.specs.Records.{Change}
-use Rattle.journal_model.specs.Entries.{Entry, IsEntry, spelling}
+use Rattle.lmcp_log.specs.file_base.declared.head.FileHead.{FileHead}
+use Rattle.unit_laws.specs.vms_model.Ids.{Id}
+use Rattle.unit_laws.specs.records_model.Records.{Change}
+use Rattle.directory_model.specs.journal_model.Entries.{Entry, IsEntry, spelling}
 use Rattle.unit_laws.specs.Journal.{JournalEntry, RecoveryUnit, entries_for, entries_from, entries_size}
 use Rattle.directory_model.specs.Files.{head_at}
 use Rattle.volume_model.specs.Entries.{AreEntries, entry_for}

@@ -1,19 +1,19 @@
 -- Which node of the world a volume is: by its home and directory, its journal and its files.
 use Rattle.std.specs.Prelude.{◌≡◌, ◌⊎◌, ◌<◌, ◌≤◌, ◌^◌, ℕ, List, true, Some, None, length}
 use Rattle.block_disk.specs.Disk.{DiskState, MayLeave}
-use Rattle.vms_model.specs.Limits.{file_limit}
-use Rattle.careful_write.specs.Content.{content_of}
-use Rattle.careful_write.specs.Load.{fitting}
-use Rattle.careful_write.specs.State.{EachWhole, Leaves}
-use Rattle.volume.specs.declared.catalog.Catalog.{Catalog}
-use Rattle.volume.specs.Catalogs.{TellsCatalog, IsSound}
-use Rattle.volume.specs.Conditions.{IsFirstFinding}
-use Rattle.journal_model.specs.Entries.{Entry}
-use Rattle.journal_model.specs.Ring.{IsJournal}
+use Rattle.unit_laws.specs.vms_model.Limits.{file_limit}
+use Rattle.lmcp_log.specs.careful_write.Content.{content_of}
+use Rattle.lmcp_log.specs.careful_write.Load.{fitting}
+use Rattle.lmcp_log.specs.careful_write.State.{EachWhole, Leaves}
+use Rattle.lmcp_log.specs.volume.declared.catalog.Catalog.{Catalog}
+use Rattle.lmcp_log.specs.volume.Catalogs.{TellsCatalog, IsSound}
+use Rattle.lmcp_log.specs.volume.Conditions.{IsFirstFinding}
+use Rattle.directory_model.specs.journal_model.Entries.{Entry}
+use Rattle.directory_model.specs.journal_model.Ring.{IsJournal}
 use Rattle.unit_laws.specs.Journal.{end_of}
 use Rattle.unit_laws.specs.Units.{Map}
 use Rattle.lmcp_log.specs.Keeping.{IsWhole, Keeps}
-use Rattle.run_model.specs.World.{Node, Act, Bar, Sound, Faulty, Barred, Unknown, AreUnitsOf, IsLogInOrder, Half, MayTurnOut, aborted_prepared, acted, with_half}
+use Rattle.world_laws.specs.run_model.World.{Node, Act, Bar, Sound, Faulty, Barred, Unknown, AreUnitsOf, IsLogInOrder, Half, MayTurnOut, aborted_prepared, acted, with_half}
 use Rattle.world_laws.specs.Ordered.{IsJournalInOrder}
 use Rattle.directory_model.specs.Files.{AreFiles}
 use Rattle.directory_model.specs.Restoring.{AreLeft, AreRestorable, StandPrepared}

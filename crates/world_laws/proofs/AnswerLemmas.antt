@@ -1,6 +1,6 @@
 -- What refuses nothing.
 use Rattle.std.proofs.Common.{◌≡◌, Bool, true, false, Option, Some, None, refl}
-use Rattle.transcript_model.specs.Lines.{Line}
+use Rattle.run_model.specs.transcript_model.Lines.{Line}
 use Rattle.run_model.specs.Operations.{first_of, refused_if}
 
 pub neither : (a b : Option Line) → first_of a b ≡ None → (a ≡ None) × (b ≡ None)

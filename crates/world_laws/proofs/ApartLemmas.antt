@@ -9,10 +9,10 @@ use Rattle.std.proofs.lemmas.List.{reverse-append}
 use Rattle.std.proofs.lemmas.Bool.{both_ways, cond_both, false_from_ne_true, or_parts}
 use Rattle.vms_model.specs.Ids.{Id}
 use Rattle.vms_model.specs.Keys.{Key, End}
-use Rattle.script_model.specs.Statements.{Put, Update, Delete, Truncate, Get, Next}
-use Rattle.records_model.specs.Records.{Records, key_cmp}
-use Rattle.records_model.specs.History.{same_id}
-use Rattle.records_model.proofs.RecordsLemmas.{same_key}
+use Rattle.run_model.specs.script_model.Statements.{Put, Update, Delete, Truncate, Get, Next}
+use Rattle.run_model.specs.records_model.Records.{Records, key_cmp}
+use Rattle.run_model.specs.records_model.History.{same_id}
+use Rattle.run_model.proofs.records_model.RecordsLemmas.{same_key}
 use Rattle.run_model.specs.Locks.{Lock, is_lock_of, is_locked, not_locked, released, with_locks}
 use Rattle.run_model.specs.World.{File, Organization, Sequential, Relative, Indexed}
 use Rattle.run_model.specs.Operations.{count_of, current_records, cut_keys, first_behind, in_order, key_found, put_keys}

@@ -5,19 +5,19 @@ use Rattle.std.specs.List.{AllByRecursion}
 use Rattle.std.proofs.lemmas.Bool.{both_ways}
 use Rattle.std.proofs.lemmas.List.{length-append}
 use Rattle.vms_model.specs.Ids.{Id}
-use Rattle.records_model.specs.History.{same_id}
-use Rattle.unit_laws.specs.Journal.{RecoveryUnit, find_unit, is_settled_in, units_in}
-use Rattle.unit_laws.specs.JournalLaws.{is_unit}
-use Rattle.commit_protocol.specs.Messages.{Name, LogRecord, RecordKind, CommittedRecord, PreparedRecord}
-use Rattle.commit_protocol.specs.Table.{Branch, branch_of, branch_serials, branches_of, holding, managers_of, prepared_record, prepared_records, record_serials, Key as BranchKey}
-use Rattle.commit_protocol.specs.Agreement.{Distinct}
-use Rattle.commit_protocol.specs.Limits.{PreparedWithin, TmWithin}
-use Rattle.commit_protocol.specs.World.{In}
-use Rattle.commit_protocol.proofs.Lists.{in_left, in_parts, in_right}
-use Rattle.commit_protocol.proofs.Serials.{in_serial, serial_in as record_of_serial}
-use Rattle.commit_protocol.proofs.WithinRows.{restarted_within}
-use Rattle.log_laws.specs.Slots.{Slots, committed_of, is_prepared_record, prepared_of, records_in, size}
-use Rattle.log_laws.proofs.Reading.{committed_is, is_committed_one, is_prepared_one, prepared_is}
+use Rattle.run_model.specs.records_model.History.{same_id}
+use Rattle.run_model.specs.unit_laws.Journal.{RecoveryUnit, find_unit, is_settled_in, units_in}
+use Rattle.run_model.specs.unit_laws.JournalLaws.{is_unit}
+use Rattle.run_model.specs.commit_protocol.Messages.{Name, LogRecord, RecordKind, CommittedRecord, PreparedRecord}
+use Rattle.run_model.specs.commit_protocol.Table.{Branch, branch_of, branch_serials, branches_of, holding, managers_of, prepared_record, prepared_records, record_serials, Key as BranchKey}
+use Rattle.run_model.specs.commit_protocol.Agreement.{Distinct}
+use Rattle.run_model.specs.commit_protocol.Limits.{PreparedWithin, TmWithin}
+use Rattle.run_model.specs.commit_protocol.World.{In}
+use Rattle.run_model.proofs.commit_protocol.Lists.{in_left, in_parts, in_right}
+use Rattle.run_model.proofs.commit_protocol.Serials.{in_serial, serial_in as record_of_serial}
+use Rattle.run_model.proofs.commit_protocol.WithinRows.{restarted_within}
+use Rattle.run_model.specs.log_laws.Slots.{Slots, committed_of, is_prepared_record, prepared_of, records_in, size}
+use Rattle.run_model.proofs.log_laws.Reading.{committed_is, is_committed_one, is_prepared_one, prepared_is}
 use Rattle.run_model.specs.Locks.{Lock}
 use Rattle.run_model.specs.World.{Durable, IsLogInOrder, IsOfTransaction, Node, find_record, prepared_left, prepared_serials, records_by, tm_of, without_record, without_units}
 use Rattle.world_laws.specs.Running.{AreEntriesOf, IsDrawn, TellTable, IsUnitOf}

@@ -6,14 +6,14 @@ use Rattle.std.specs.List.{AllByRecursion}
 use Rattle.std.specs.Ordering.{eq_by_cmp}
 use Rattle.vms_model.specs.Ids.{Id}
 use Rattle.vms_model.specs.Keys.{Key, Number, End}
-use Rattle.script_model.specs.Statements.{AfterImages, BeforeImages}
-use Rattle.records_model.specs.Records.{Change, Records, key_cmp, set_key}
-use Rattle.records_model.specs.History.{LiveChanges, current, on_top, reached, records}
-use Rattle.records_model.proofs.RecordsLemmas.{get-set_key}
-use Rattle.recovery_model.specs.Journal as image
-use Rattle.recovery_model.specs.Journal.{backward, beyond, chosen, forward}
-use Rattle.recovery_model.specs.File.{ImageJournal, Placed, Save, all_of, append, renewed, renewed_if_on, since}
-use Rattle.recovery_model.specs.Recovery.{Way, Forward, Backward, rolled, rolled_on}
+use Rattle.run_model.specs.script_model.Statements.{AfterImages, BeforeImages}
+use Rattle.run_model.specs.records_model.Records.{Change, Records, key_cmp, set_key}
+use Rattle.run_model.specs.records_model.History.{LiveChanges, current, on_top, reached, records}
+use Rattle.run_model.proofs.records_model.RecordsLemmas.{get-set_key}
+use Rattle.run_model.specs.recovery_model.Journal as image
+use Rattle.run_model.specs.recovery_model.Journal.{backward, beyond, chosen, forward}
+use Rattle.run_model.specs.recovery_model.File.{ImageJournal, Placed, Save, all_of, append, renewed, renewed_if_on, since}
+use Rattle.run_model.specs.recovery_model.Recovery.{Way, Forward, Backward, rolled, rolled_on}
 use Rattle.run_model.specs.World.{BeginsImages, Carried, EndsImages, File, ForUnits, Indexed, IsPlainCarried, IsPlainEntry, Mark, Organization, Relative, Sequential, Settlement, carried_marked, carried_recovered, loaded_map, records_from, saved_file, state_of, with_images, with_outcome}
 use Rattle.world_laws.proofs.PlainLemmas.{ArePlain}
 

@@ -5,21 +5,21 @@ use Rattle.std.specs.List.{AllByRecursion}
 use Rattle.std.proofs.lemmas.Bool.{both_ways, false_from_ne_true}
 use Rattle.vms_model.specs.Ids.{Id}
 use Rattle.vms_model.specs.Keys.{Key, End}
-use Rattle.records_model.specs.History.{LiveChanges, changes_by, changes_key, same_id, changed_it}
-use Rattle.unit_laws.specs.Units.{moves_end}
-use Rattle.unit_laws.specs.Journal.{JournalEntry, RecoveryUnit, find_unit, serial_in, units_in, Journal}
-use Rattle.unit_laws.specs.JournalLaws.{is_unit}
-use Rattle.commit_protocol.specs.Messages.{LogRecord}
-use Rattle.commit_protocol.specs.Table.{Branch, Key as BranchKey, branches_of, cut, record_serials}
-use Rattle.commit_protocol.specs.World.{In, undo_all}
-use Rattle.commit_protocol.proofs.Lists.{told_key}
-use Rattle.log_laws.specs.Slots.{prepared_of, records_in, committed_of, size}
+use Rattle.run_model.specs.records_model.History.{LiveChanges, changes_by, changes_key, same_id, changed_it}
+use Rattle.run_model.specs.unit_laws.Units.{moves_end}
+use Rattle.run_model.specs.unit_laws.Journal.{JournalEntry, RecoveryUnit, find_unit, serial_in, units_in, Journal}
+use Rattle.run_model.specs.unit_laws.JournalLaws.{is_unit}
+use Rattle.run_model.specs.commit_protocol.Messages.{LogRecord}
+use Rattle.run_model.specs.commit_protocol.Table.{Branch, Key as BranchKey, branches_of, cut, record_serials}
+use Rattle.run_model.specs.commit_protocol.World.{In, undo_all}
+use Rattle.run_model.proofs.commit_protocol.Lists.{told_key}
+use Rattle.run_model.specs.log_laws.Slots.{prepared_of, records_in, committed_of, size}
 use Rattle.run_model.specs.Locks.{Lock, holder, released}
 use Rattle.run_model.specs.World.{Boots, ComesUp, File, IsPreparedUnit, Node, Shared, Volatile, acted, booted, find_file, next_moment, prepared_left, serials_of, tm_of, settled_file, settlement, IsReached, serial_of_image}
 use Rattle.run_model.specs.Answers.{boot_rows, left_active, table_rows, unit_key, Row}
 use Rattle.run_model.specs.Steps.{node_after_rows, node_after}
-use Rattle.recovery_model.specs.Journal as image
-use Rattle.commit_protocol.specs.Allowed.{is_prepared}
+use Rattle.run_model.specs.recovery_model.Journal as image
+use Rattle.run_model.specs.commit_protocol.Allowed.{is_prepared}
 use Rattle.world_laws.specs.Running.{AllFound, FileImages, IsDrawnImage, TellImages, IsDrawn, IsFileHeld, history_of}
 use Rattle.world_laws.proofs.FileLemmas.{found_mapped}
 use Rattle.world_laws.proofs.ImageLemmas.{images_more, images_settled}
@@ -36,7 +36,7 @@ use Rattle.world_laws.proofs.UndoLemmas.{boot_kept, each_in, unsettled_left, all
 use Rattle.world_laws.proofs.RunningLemmas.{changed_unit, keyed_some, moved_some}
 use Rattle.world_laws.proofs.UnitSets.{active_unprepared, found_active, units_differ}
 use Rattle.world_laws.proofs.TableLemmas.{same_serials}
-use Rattle.commit_protocol.proofs.Serials.{serial_in as record_of_serial}
+use Rattle.run_model.proofs.commit_protocol.Serials.{serial_in as record_of_serial}
 use Rattle.world_laws.proofs.LogLemmas.{found_unit}
 use Rattle.vms_model.specs.Transactions.{SegFail, Abort}
 use Rattle.std.specs.Option.{option_map}

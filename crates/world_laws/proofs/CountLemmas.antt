@@ -5,12 +5,12 @@ use Rattle.std.proofs.lemmas.Bool.{and_from, and_parts, both_ways, false_from_ne
 use Rattle.std.proofs.lemmas.Slice.Eq.{bytes_eq-Decides}
 use Rattle.vms_model.specs.Ids.{Id}
 use Rattle.vms_model.specs.Keys.{Key, End}
-use Rattle.records_model.specs.History.{changes_by, changes_key, same_id, current}
-use Rattle.unit_laws.specs.Units.{moves_end}
-use Rattle.unit_laws.specs.Journal.{ChangeEntry, PreparedEntry, SettledEntry, JournalEntry, is_settled_in, notes_in, Note}
-use Rattle.unit_laws.specs.JournalLaws.{is_unit}
-use Rattle.commit_protocol.specs.Messages.{LogRecord}
-use Rattle.commit_protocol.specs.World.{In}
+use Rattle.run_model.specs.records_model.History.{changes_by, changes_key, same_id, current}
+use Rattle.run_model.specs.unit_laws.Units.{moves_end}
+use Rattle.run_model.specs.unit_laws.Journal.{ChangeEntry, PreparedEntry, SettledEntry, JournalEntry, is_settled_in, notes_in, Note}
+use Rattle.run_model.specs.unit_laws.JournalLaws.{is_unit}
+use Rattle.run_model.specs.commit_protocol.Messages.{LogRecord}
+use Rattle.run_model.specs.commit_protocol.World.{In}
 use Rattle.run_model.specs.Locks.{Lock, holder, is_lock_of, is_locked, with_locks}
 use Rattle.run_model.specs.World.{Durable, File, Organization, Sequential, Relative, Indexed, find_file, keys_left, relocked, relocked_by, relocked_for, moved_end}
 use Rattle.world_laws.specs.Apart.{KeysDiffer, LocksDiffer}
@@ -19,10 +19,10 @@ use Rattle.world_laws.proofs.Counting.{AllDiffer, no_more}
 use Rattle.world_laws.proofs.FoundLemmas.{itself}
 use Rattle.world_laws.proofs.LeftLemmas.{IsFor, IsTaken, all_sound, change_unit, in_changed, note_there, entry_for, noted_in}
 use Rattle.world_laws.proofs.HeldLemmas.{found_file_name, noted_at}
-use Rattle.records_model.proofs.RecordsLemmas.{same_key}
+use Rattle.run_model.proofs.records_model.RecordsLemmas.{same_key}
 use Rattle.world_laws.proofs.EntryLemmas.{none_settles}
 use Rattle.world_laws.proofs.PlainLemmas.{plain_of, no_end}
-use Rattle.records_model.specs.Records.{key_cmp}
+use Rattle.run_model.specs.records_model.Records.{key_cmp}
 use Rattle.std.specs.Ordering.{eq_by_cmp}
 use Rattle.std.specs.FinMap.{get}
 use Rattle.world_laws.specs.Nodes.{IsFiled}

@@ -1,6 +1,6 @@
 -- How many there are: different values that are all among others are no more than these.
 use Rattle.std.proofs.Common.{◌≡◌, ◌≤◌, suc, List, [], ◌∷◌, length, refl, sym, ◌∙◌, ap, subst, arith, inl, inr}
-use Rattle.commit_protocol.specs.World.{In}
+use Rattle.run_model.specs.commit_protocol.World.{In}
 
 -- no value is there twice
 abbrev pub AllDiffer : {A : Type 0} → List A → Type 0

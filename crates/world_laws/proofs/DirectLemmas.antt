@@ -7,14 +7,14 @@ use Rattle.std.proofs.lemmas.Bool.{both_ways, false_from_ne_true}
 use Rattle.vms_model.specs.Ids.{Id}
 use Rattle.vms_model.specs.Keys.{Key}
 use Rattle.vms_model.specs.Transactions.{Commit}
-use Rattle.records_model.specs.Records.{Change, Found}
-use Rattle.records_model.specs.History.{History, LiveChanges, same_id, changes_by, changed_with, current, settled_at, settled_with, with_change, with_changes, without}
-use Rattle.unit_laws.specs.Units.{SerialsDiffer, has_changes, is_free}
-use Rattle.unit_laws.specs.Journal.{Journal, find_unit, note_of, trimmed}
-use Rattle.unit_laws.specs.JournalLaws.{HasNotes, is_unit}
-use Rattle.unit_laws.proofs.LiveLemmas.{by_changes}
-use Rattle.unit_laws.proofs.HistoryLaws.{changes_more, commits_one}
-use Rattle.unit_laws.proofs.TrimLemmas.{trim_keeps_units}
+use Rattle.run_model.specs.records_model.Records.{Change, Found}
+use Rattle.run_model.specs.records_model.History.{History, LiveChanges, same_id, changes_by, changed_with, current, settled_at, settled_with, with_change, with_changes, without}
+use Rattle.run_model.specs.unit_laws.Units.{SerialsDiffer, has_changes, is_free}
+use Rattle.run_model.specs.unit_laws.Journal.{Journal, find_unit, note_of, trimmed}
+use Rattle.run_model.specs.unit_laws.JournalLaws.{HasNotes, is_unit}
+use Rattle.run_model.proofs.unit_laws.LiveLemmas.{by_changes}
+use Rattle.run_model.proofs.unit_laws.HistoryLaws.{changes_more, commits_one}
+use Rattle.run_model.proofs.unit_laws.TrimLemmas.{trim_keeps_units}
 use Rattle.run_model.specs.Locks.{is_locked}
 use Rattle.run_model.specs.World.{File, Settlement, directly_changed, find_file, with_file}
 use Rattle.world_laws.specs.Restarts.{AllNoted, DirectsCanRestart}

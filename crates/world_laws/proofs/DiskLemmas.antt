@@ -10,18 +10,18 @@ use Rattle.std.proofs.lemmas.Slice.Eq.{bytes_eq-Decides}
 use Rattle.vms_model.specs.Ids.{Id}
 use Rattle.vms_model.specs.Keys.{End}
 use Rattle.vms_model.specs.Transactions.{Commit, Abort, SegFail}
-use Rattle.records_model.specs.History.{LiveChanges, changed_it, changed_with, changes_by, current, on_top, settled_at}
-use Rattle.unit_laws.specs.Units.{Map, SerialsDiffer, end_is_free, has_changes, moves_end}
-use Rattle.unit_laws.specs.Journal.{Journal, empty_journal, entries_for, note_of, serial_in}
-use Rattle.unit_laws.specs.JournalLaws.{HasNotes, is_unit}
-use Rattle.unit_laws.proofs.HistoryLaws.{changes_more}
-use Rattle.unit_laws.proofs.LiveLemmas.{once_changes}
-use Rattle.unit_laws.proofs.NoteLemmas.{unchanged_has_notes}
-use Rattle.commit_protocol.specs.Table as table
-use Rattle.commit_protocol.specs.Table.{Prepares, Undoes}
+use Rattle.run_model.specs.records_model.History.{LiveChanges, changed_it, changed_with, changes_by, current, on_top, settled_at}
+use Rattle.run_model.specs.unit_laws.Units.{Map, SerialsDiffer, end_is_free, has_changes, moves_end}
+use Rattle.run_model.specs.unit_laws.Journal.{Journal, empty_journal, entries_for, note_of, serial_in}
+use Rattle.run_model.specs.unit_laws.JournalLaws.{HasNotes, is_unit}
+use Rattle.run_model.proofs.unit_laws.HistoryLaws.{changes_more}
+use Rattle.run_model.proofs.unit_laws.LiveLemmas.{once_changes}
+use Rattle.run_model.proofs.unit_laws.NoteLemmas.{unchanged_has_notes}
+use Rattle.run_model.specs.commit_protocol.Table as table
+use Rattle.run_model.specs.commit_protocol.Table.{Prepares, Undoes}
 use Rattle.run_model.specs.Locks.{is_locked}
 use Rattle.run_model.specs.World.{File, Settlement, Durable, Volatile, Act, Formats, Boots, ComesUp, Creates, Marks, Saves, Recovers, Draws, Labels, Numbers, Tables, Changes, Holds, Directs, Arms, Clocks, Declares, Falls, FollowOneAnother, IsHalfUndone, IsPlainCarried, KeepsImages, OneMovesEndOf, Sequential, changed_file, directly_changed, durable_after, find_file, free_place, half_undone, marked_file, recovered_file, saved_file, settled_file, settlement, with_file, with_half, with_images, with_settlement}
-use Rattle.log_laws.specs.Slots.{Slots}
+use Rattle.run_model.specs.log_laws.Slots.{Slots}
 use Rattle.world_laws.specs.Restarts.{AllNoted, CanRestart, HasNoName, MayChange, MayDirect, NamesDiffer}
 use Rattle.world_laws.specs.Running.{IsUnnoted}
 use Rattle.world_laws.proofs.EntryLemmas.{all_append, all_entered, all_more, all_prepared, all_settled, all_trimmed}

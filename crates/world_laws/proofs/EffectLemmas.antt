@@ -3,13 +3,13 @@ use Rattle.std.proofs.Common.{◌≡◌, ◌≤◌, ℕ, zero, suc, ◌+◌, Lis
 use Rattle.std.specs.Prelude.{replicate}
 use Rattle.std.proofs.lemmas.Bool.{both_ways, or_parts}
 use Rattle.vms_model.specs.Limits.{lock_limit}
-use Rattle.transcript_model.specs.Lines as line
-use Rattle.transcript_model.specs.Lines.{Line, Cause}
-use Rattle.unit_laws.specs.Journal.{empty_journal, is_settled_in}
-use Rattle.unit_laws.proofs.NoteLemmas.{unchanged_has_notes}
-use Rattle.commit_protocol.specs.Messages.{LogRecord}
-use Rattle.commit_protocol.specs.Table as table
-use Rattle.log_laws.specs.Slots.{prepared_of, committed_of, records_in}
+use Rattle.run_model.specs.transcript_model.Lines as line
+use Rattle.run_model.specs.transcript_model.Lines.{Line, Cause}
+use Rattle.run_model.specs.unit_laws.Journal.{empty_journal, is_settled_in}
+use Rattle.run_model.proofs.unit_laws.NoteLemmas.{unchanged_has_notes}
+use Rattle.run_model.specs.commit_protocol.Messages.{LogRecord}
+use Rattle.run_model.specs.commit_protocol.Table as table
+use Rattle.run_model.specs.log_laws.Slots.{prepared_of, committed_of, records_in}
 use Rattle.run_model.specs.Locks.{Lock}
 use Rattle.run_model.specs.World.{Act, Arms, Boots, Changes, Clocks, ComesUp, Creates, Declares, Directs, Draws, Durable, Falls, Formats, Holds, IsLogInOrder, Labels, Marks, Saves, Recovers, MayTurnOut, Node, Numbers, Outturn, Shared, Tables, Unknown, acted, durable_after, made_volume, powered, prepared_left, relocked, relocked_by, shared_after, shared_tabled, unpowered, IsOfTransaction, without_units, IsReached}
 use Rattle.run_model.specs.Answers.{Row, Service, Unused, Powered, MadeAnew, boot_rows, occupies, plain, powers, silent, spoils, refused_before_reading}
@@ -23,9 +23,9 @@ use Rattle.world_laws.proofs.ServedLemmas.{RowsKeep}
 use Rattle.world_laws.proofs.UpLemmas.{same_up}
 use Rattle.world_laws.proofs.UndoLemmas.{boot_kept, kept_up}
 use Rattle.world_laws.proofs.NodeLemmas.{cut_kept, kept_as, last_up, not_up, powered_ready, rows_way, up_kept}
-use Rattle.commit_protocol.specs.Table.{record_serials}
-use Rattle.commit_protocol.specs.Agreement.{Distinct}
-use Rattle.commit_protocol.specs.World.{In}
+use Rattle.run_model.specs.commit_protocol.Table.{record_serials}
+use Rattle.run_model.specs.commit_protocol.Agreement.{Distinct}
+use Rattle.run_model.specs.commit_protocol.World.{In}
 use Rattle.std.specs.List.{AllByRecursion}
 use Rattle.world_laws.specs.Nodes.{AreKept, IsKeptDisk, IsKeptNode, on}
 

@@ -4,10 +4,10 @@ use Rattle.std.specs.List.{AllByRecursion}
 use Rattle.std.proofs.lemmas.Bool.{cond_both, or_parts}
 use Rattle.vms_model.specs.Ids.{Id}
 use Rattle.vms_model.specs.Transactions.{Outcome}
-use Rattle.records_model.specs.Records.{Change}
-use Rattle.records_model.specs.History.{same_id}
-use Rattle.unit_laws.specs.Journal.{Journal, JournalEntry, ChangeEntry, PreparedEntry, SettledEntry, RecoveryUnit, entries_for, entries_from, find_unit, is_of_units, is_settled_in, is_settling, serial_in, trimmed, units_in, with_entries, with_settled}
-use Rattle.commit_protocol.specs.Table.{Branch, Prepares}
+use Rattle.run_model.specs.records_model.Records.{Change}
+use Rattle.run_model.specs.records_model.History.{same_id}
+use Rattle.run_model.specs.unit_laws.Journal.{Journal, JournalEntry, ChangeEntry, PreparedEntry, SettledEntry, RecoveryUnit, entries_for, entries_from, find_unit, is_of_units, is_settled_in, is_settling, serial_in, trimmed, units_in, with_entries, with_settled}
+use Rattle.run_model.specs.commit_protocol.Table.{Branch, Prepares}
 use Rattle.run_model.specs.World.{with_prepared}
 use Rattle.world_laws.specs.Ordered.{is_prepared_in, is_preparing}
 

@@ -4,15 +4,15 @@ use Rattle.std.specs.Option.{option_map}
 use Rattle.std.proofs.lemmas.Bool.{cond_both}
 use Rattle.vms_model.specs.Ids.{Id}
 use Rattle.vms_model.specs.Limits.{change_limit}
-use Rattle.records_model.specs.Records.{Change}
-use Rattle.records_model.specs.History.{same_id}
-use Rattle.unit_laws.specs.Units.{has_changes}
-use Rattle.unit_laws.specs.Journal.{ChangeEntry, JournalEntry, PreparedEntry, RecoveryUnit, SettledEntry, entries_for, entries_from, find_unit, is_of_units, units_after, units_in, units_onto, with_one_change, with_prepared, without_unit}
-use Rattle.unit_laws.specs.JournalLaws.{unit_or_new, with_more}
-use Rattle.unit_laws.proofs.LiveLemmas.{clash, id_itself}
-use Rattle.unit_laws.proofs.Tests.{passed, picked}
-use Rattle.unit_laws.proofs.TrimLemmas.{changed_beside, changed_without, prepared_beside, prepared_without, settled_beside}
-use Rattle.unit_laws.proofs.UnitLemmas.{found_changed, found_prepared, found_settled, is_prepared, onto_append, units_follow}
+use Rattle.run_model.specs.records_model.Records.{Change}
+use Rattle.run_model.specs.records_model.History.{same_id}
+use Rattle.run_model.specs.unit_laws.Units.{has_changes}
+use Rattle.run_model.specs.unit_laws.Journal.{ChangeEntry, JournalEntry, PreparedEntry, RecoveryUnit, SettledEntry, entries_for, entries_from, find_unit, is_of_units, units_after, units_in, units_onto, with_one_change, with_prepared, without_unit}
+use Rattle.run_model.specs.unit_laws.JournalLaws.{unit_or_new, with_more}
+use Rattle.run_model.proofs.unit_laws.LiveLemmas.{clash, id_itself}
+use Rattle.run_model.proofs.unit_laws.Tests.{passed, picked}
+use Rattle.run_model.proofs.unit_laws.TrimLemmas.{changed_beside, changed_without, prepared_beside, prepared_without, settled_beside}
+use Rattle.run_model.proofs.unit_laws.UnitLemmas.{found_changed, found_prepared, found_settled, is_prepared, onto_append, units_follow}
 use Rattle.world_laws.specs.Ordered.{AreFew, AreFewOver}
 use Rattle.world_laws.proofs.IdLemmas.{id_is}
 

@@ -2,12 +2,12 @@
 use Rattle.std.proofs.Common.{◌≡◌, ℕ, List, [], ◌∷◌, ◌++◌, map, reverse, Bool, true, false, Option, Some, None, refl, subst, sym}
 use Rattle.std.specs.List.{AllByRecursion}
 use Rattle.std.proofs.lemmas.List.{reverse-append}
-use Rattle.transcript_model.specs.Lines.{Line}
-use Rattle.script_model.specs.Statements.{Images, NoImages, NoRecoveryUnits, Recovery, RecoveryUnits, Setting, Side}
-use Rattle.records_model.specs.Records.{Records}
-use Rattle.unit_laws.specs.Journal.{JournalEntry}
-use Rattle.recovery_model.specs.File.{Placed}
-use Rattle.recovery_model.specs.Journal.{entry_in}
+use Rattle.run_model.specs.transcript_model.Lines.{Line}
+use Rattle.run_model.specs.script_model.Statements.{Images, NoImages, NoRecoveryUnits, Recovery, RecoveryUnits, Setting, Side}
+use Rattle.run_model.specs.records_model.Records.{Records}
+use Rattle.run_model.specs.unit_laws.Journal.{JournalEntry}
+use Rattle.run_model.specs.recovery_model.File.{Placed}
+use Rattle.run_model.specs.recovery_model.Journal.{entry_in}
 use Rattle.run_model.specs.World.{Act, BeginsImages, EndsImages, File, ForUnits, Mark, Marks, Node, Recovers, Saves, buckets_loaded, find_file, lowest_free}
 use Rattle.run_model.specs.Answers.{Row, blocks_of, blocks_recovered, entry_line, image_line, image_lines, journal_at, on_free, records_recovered, recovers, sets, shown_line, silent, start_of, to_file}
 use Rattle.world_laws.proofs.EntryLemmas.{all_append}

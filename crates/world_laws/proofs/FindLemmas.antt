@@ -6,8 +6,8 @@ use Rattle.std.specs.Option.{option_map}
 use Rattle.std.proofs.lemmas.Bool.{both_ways}
 use Rattle.std.proofs.lemmas.Slice.Eq.{bytes_eq-Decides}
 use Rattle.vms_model.specs.Ids.{Id}
-use Rattle.records_model.specs.History.{same_id}
-use Rattle.commit_protocol.specs.Table.{Branch}
+use Rattle.run_model.specs.records_model.History.{same_id}
+use Rattle.run_model.specs.commit_protocol.Table.{Branch}
 use Rattle.run_model.specs.World.{File, find_file, find_branch, free_place, with_file}
 use Rattle.world_laws.proofs.IdLemmas.{id_is}
 

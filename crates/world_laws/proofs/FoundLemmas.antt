@@ -11,13 +11,13 @@ use Rattle.std.specs.declared.cmp.Ordering.TheVariants.{Less, Equal, Greater}
 use Rattle.std.proofs.lemmas.List.{reverse-append}
 use Rattle.std.proofs.lemmas.Bool.{leb-false, ltb-false, or_parts}
 use Rattle.vms_model.specs.Keys.{Key}
-use Rattle.transcript_model.specs.Lines as line
-use Rattle.script_model.specs.Statements.{Operation, Put, Update, Delete, Truncate, Get, Next}
-use Rattle.records_model.specs.Records.{Records, Change, Found, key_cmp}
-use Rattle.records_model.specs.History.{changes_key, current}
-use Rattle.records_model.proofs.KeyLemmas.{key_cmp_total}
-use Rattle.unit_laws.specs.Units.{latest_after}
-use Rattle.unit_laws.proofs.CurrentLemmas.{applied_at}
+use Rattle.run_model.specs.transcript_model.Lines as line
+use Rattle.run_model.specs.script_model.Statements.{Operation, Put, Update, Delete, Truncate, Get, Next}
+use Rattle.run_model.specs.records_model.Records.{Records, Change, Found, key_cmp}
+use Rattle.run_model.specs.records_model.History.{changes_key, current}
+use Rattle.run_model.proofs.records_model.KeyLemmas.{key_cmp_total}
+use Rattle.run_model.specs.unit_laws.Units.{latest_after}
+use Rattle.run_model.proofs.unit_laws.CurrentLemmas.{applied_at}
 use Rattle.world_laws.proofs.AnswerLemmas.{not_refused}
 use Rattle.run_model.specs.World.{File, Organization, Sequential, Relative, Indexed}
 use Rattle.run_model.specs.Operations.{changes_of, count_of, cut_keys, data_refused, in_order, key_put, keys_asked, put_keys, removed}

@@ -5,16 +5,16 @@ use Rattle.std.specs.List.{AllByRecursion}
 use Rattle.std.proofs.lemmas.Bool.{both_ways, false_from_ne_true}
 use Rattle.vms_model.specs.Ids.{Id}
 use Rattle.vms_model.specs.Keys.{Key}
-use Rattle.records_model.specs.Records.{Change, Records, applied}
-use Rattle.records_model.specs.History.{History, LiveChanges, same_id, changes_by, changes_key, current, on_top, records}
-use Rattle.unit_laws.specs.Units.{Apart, HasLatest, IsImage, IsOrderly, Map, SerialsDiffer, earliest_before, has_changes, is_changed, is_of, latest_after, map_in, restored}
-use Rattle.unit_laws.specs.Journal.{Journal, note_of}
-use Rattle.unit_laws.specs.JournalLaws.{HasNotes, is_unit}
-use Rattle.unit_laws.proofs.Tests.{or_neither, or_one, or_other}
-use Rattle.unit_laws.proofs.CurrentLemmas.{applied_at}
-use Rattle.unit_laws.proofs.RestoredLemmas.{changed_of, restored_changed}
-use Rattle.unit_laws.proofs.RepresentLemmas.{AllImages, images_one_kept, images_same}
-use Rattle.records_model.proofs.RecordsLemmas.{same_key}
+use Rattle.run_model.specs.records_model.Records.{Change, Records, applied}
+use Rattle.run_model.specs.records_model.History.{History, LiveChanges, same_id, changes_by, changes_key, current, on_top, records}
+use Rattle.run_model.specs.unit_laws.Units.{Apart, HasLatest, IsImage, IsOrderly, Map, SerialsDiffer, earliest_before, has_changes, is_changed, is_of, latest_after, map_in, restored}
+use Rattle.run_model.specs.unit_laws.Journal.{Journal, note_of}
+use Rattle.run_model.specs.unit_laws.JournalLaws.{HasNotes, is_unit}
+use Rattle.run_model.proofs.unit_laws.Tests.{or_neither, or_one, or_other}
+use Rattle.run_model.proofs.unit_laws.CurrentLemmas.{applied_at}
+use Rattle.run_model.proofs.unit_laws.RestoredLemmas.{changed_of, restored_changed}
+use Rattle.run_model.proofs.unit_laws.RepresentLemmas.{AllImages, images_one_kept, images_same}
+use Rattle.run_model.proofs.records_model.RecordsLemmas.{same_key}
 use Rattle.run_model.specs.World.{leaving, live_leaving}
 use Rattle.world_laws.proofs.IdLemmas.{id_is}
 

@@ -7,14 +7,14 @@ use Rattle.std.proofs.lemmas.Bool.{and_from, and_parts, both_ways}
 use Rattle.std.proofs.lemmas.Slice.Eq.{bytes_eq-Decides}
 use Rattle.vms_model.specs.Ids.{Id}
 use Rattle.vms_model.specs.Keys.{Key}
-use Rattle.records_model.specs.History.{same_id}
-use Rattle.records_model.proofs.RecordsLemmas.{same_key}
-use Rattle.unit_laws.specs.Journal.{Journal}
-use Rattle.unit_laws.specs.JournalLaws.{HasNotes}
+use Rattle.run_model.specs.records_model.History.{same_id}
+use Rattle.run_model.proofs.records_model.RecordsLemmas.{same_key}
+use Rattle.run_model.specs.unit_laws.Journal.{Journal}
+use Rattle.run_model.specs.unit_laws.JournalLaws.{HasNotes}
 use Rattle.run_model.specs.Locks.{Lock, holder, is_lock_of, is_locked, not_locked, released, with_locks}
 use Rattle.run_model.specs.World.{File, Node, find_file, with_file}
 use Rattle.run_model.specs.Answers.{held_against, keys_refused}
-use Rattle.commit_protocol.specs.World.{In}
+use Rattle.run_model.specs.commit_protocol.World.{In}
 use Rattle.world_laws.specs.Restarts.{AllNoted}
 use Rattle.world_laws.proofs.IdLemmas.{id_is}
 use Rattle.world_laws.proofs.FindLemmas.{changed_file as found_changed, other_file}

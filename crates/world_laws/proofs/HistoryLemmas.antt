@@ -2,8 +2,8 @@
 use Rattle.std.proofs.Common.{◌≡◌, ℕ, List, [], ◌∷◌, ◌++◌, map, Bool, true, false, if◌then◌else◌, refl, sym, ◌∙◌, ap}
 use Rattle.vms_model.specs.Ids.{Id}
 use Rattle.vms_model.specs.Transactions.{Outcome, Abort, Commit}
-use Rattle.records_model.specs.Records.{Records, Change, set_key, applied}
-use Rattle.records_model.specs.History.{History, LiveChanges, same_id, changes_by, with_change, with_changes, without, records, settled_at, settled_with}
+use Rattle.run_model.specs.records_model.Records.{Records, Change, set_key, applied}
+use Rattle.run_model.specs.records_model.History.{History, LiveChanges, same_id, changes_by, with_change, with_changes, without, records, settled_at, settled_with}
 use Rattle.world_laws.proofs.IdLemmas.{id_is}
 
 -- the branches of changes

@@ -3,10 +3,10 @@ use Rattle.std.proofs.Common.{◌≡◌, ℕ, ◌+◌, List, [], ◌∷◌, Bool
 use Rattle.std.specs.List.{AllByRecursion}
 use Rattle.vms_model.specs.Ids.{Id}
 use Rattle.vms_model.specs.Keys.{Key}
-use Rattle.script_model.specs.Statements.{AfterImages, BeforeImages}
-use Rattle.records_model.specs.Records.{Change}
-use Rattle.recovery_model.specs.Journal as image
-use Rattle.recovery_model.specs.File.{ImageJournal, all_of, append, renewed, renewed_if_on}
+use Rattle.run_model.specs.script_model.Statements.{AfterImages, BeforeImages}
+use Rattle.run_model.specs.records_model.Records.{Change}
+use Rattle.run_model.specs.recovery_model.Journal as image
+use Rattle.run_model.specs.recovery_model.File.{ImageJournal, all_of, append, renewed, renewed_if_on}
 use Rattle.run_model.specs.World.{BeginsImages, Carried, EndsImages, ForUnits, Mark, Settlement, carried_marked, carried_recovered, with_images, with_outcome}
 use Rattle.world_laws.specs.Running.{AllImages}
 use Rattle.world_laws.proofs.EntryLemmas.{all_more}

@@ -2,9 +2,9 @@
 use Rattle.std.proofs.Common.{◌≡◌, ℕ, List, [], ◌∷◌, ◌++◌, take, Bool, true, false, Option, Some, None, if◌then◌else◌, refl, sym, ◌∙◌, ap, subst}
 use Rattle.std.specs.Str.{bytes_eq}
 use Rattle.std.proofs.lemmas.Slice.Eq.{bytes_eq-Decides}
-use Rattle.transcript_model.specs.Lines.{Line, Cause, Normal}
-use Rattle.script_model.specs.Statements.{Statement, Settle, At, Deliver, LinkDown, Reading, Blank, Says, Bad}
-use Rattle.script_model.specs.Grammar.{reading}
+use Rattle.run_model.specs.transcript_model.Lines.{Line, Cause, Normal}
+use Rattle.run_model.specs.script_model.Statements.{Statement, Settle, At, Deliver, LinkDown, Reading, Blank, Says, Bad}
+use Rattle.run_model.specs.script_model.Grammar.{reading}
 use Rattle.run_model.specs.World.{Act, Half, Lost, Outturn, Taken, World, Node, Shared, DiskCounts, find_node, powered, unpowered, with_node}
 use Rattle.run_model.specs.Answers.{Row, Service, Task, Hears, powers, refused_before_reading, spoils, task_service}
 use Rattle.run_model.specs.Steps.{Choice, Cut, TaskAllowed, Unpowered, Whole, WithoutMemory, begun, node_after, node_after_rows, ready_node, rows_to_cut, service_effect, task_effect, whole, with_unknown_volume}

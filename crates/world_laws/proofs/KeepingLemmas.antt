@@ -8,14 +8,14 @@ use Rattle.std.proofs.lemmas.Slice.Eq.{bytes_eq-Decides}
 use Rattle.vms_model.specs.Ids.{Id}
 use Rattle.vms_model.specs.Keys.{Key}
 use Rattle.vms_model.specs.Transactions.{Abort, SegFail}
-use Rattle.records_model.specs.Records.{Change, Found, Records}
-use Rattle.records_model.specs.History.{current, changed_with}
-use Rattle.unit_laws.specs.Units.{has_changes, is_free}
-use Rattle.unit_laws.specs.Journal.{Journal, PreparedEntry, empty_journal, RecoveryUnit, entries_for, find_unit, is_settled_in, units_in, with_entries}
-use Rattle.unit_laws.specs.JournalLaws.{HasNotes}
-use Rattle.unit_laws.proofs.NoteLemmas.{changes_keep_notes, changes_elsewhere_keep_notes, prepares_keep_notes, unchanged_has_notes}
-use Rattle.commit_protocol.specs.Table as table
-use Rattle.commit_protocol.specs.Table.{Branch, Prepares, Undoes}
+use Rattle.run_model.specs.records_model.Records.{Change, Found, Records}
+use Rattle.run_model.specs.records_model.History.{current, changed_with}
+use Rattle.run_model.specs.unit_laws.Units.{has_changes, is_free}
+use Rattle.run_model.specs.unit_laws.Journal.{Journal, PreparedEntry, empty_journal, RecoveryUnit, entries_for, find_unit, is_settled_in, units_in, with_entries}
+use Rattle.run_model.specs.unit_laws.JournalLaws.{HasNotes}
+use Rattle.run_model.proofs.unit_laws.NoteLemmas.{changes_keep_notes, changes_elsewhere_keep_notes, prepares_keep_notes, unchanged_has_notes}
+use Rattle.run_model.specs.commit_protocol.Table as table
+use Rattle.run_model.specs.commit_protocol.Table.{Branch, Prepares, Undoes}
 use Rattle.run_model.specs.Locks.{is_locked}
 use Rattle.run_model.specs.World.{File, Mark, changed_file, find_file, half_undone, marked_file, recovered_file, saved_file, settlement, with_file, with_prepared}
 use Rattle.world_laws.specs.Restarts.{AllNoted, HasNoName, NamesDiffer, ChangesCanRestart, TablesCanRestart, HalvesCanRestart, CreatesCanRestart, MarksCanRestart, SavesCanRestart, RecoversCanRestart}

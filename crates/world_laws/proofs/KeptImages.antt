@@ -4,21 +4,21 @@ use Rattle.std.specs.FinMap.{empty}
 use Rattle.std.specs.Str.{bytes_eq}
 use Rattle.vms_model.specs.Ids.{Id}
 use Rattle.vms_model.specs.Keys.{Key}
-use Rattle.script_model.specs.Statements.{AfterImages, BeforeImages, Form}
-use Rattle.records_model.specs.Records.{Change, Records}
-use Rattle.records_model.specs.History.{LiveChanges, changed_it, changed_with, changes_by, changes_key}
-use Rattle.unit_laws.specs.Units.{Map, SerialsDiffer}
-use Rattle.unit_laws.proofs.LiveLemmas.{once_change, once_changes}
-use Rattle.recovery_model.specs.Images.{befores, keys_of}
-use Rattle.recovery_model.specs.Journal as image
-use Rattle.recovery_model.specs.File as recovery
-use Rattle.recovery_model.specs.File.{FileState, IsStill, Save}
-use Rattle.recovery_model.specs.Acts as act
-use Rattle.recovery_model.specs.Acts.{MayChange}
-use Rattle.recovery_model.specs.Laws.{all_changed}
-use Rattle.recovery_model.proofs.HalfLemmas.{keys_befores}
-use Rattle.recovery_model.proofs.OrderLemmas.{Ordered, SaveStands, act_ordered, created_ordered, ordered_half, ordered_passed}
-use Rattle.recovery_model.proofs.StatementLemmas.{room_suffices}
+use Rattle.run_model.specs.script_model.Statements.{AfterImages, BeforeImages, Form}
+use Rattle.run_model.specs.records_model.Records.{Change, Records}
+use Rattle.run_model.specs.records_model.History.{LiveChanges, changed_it, changed_with, changes_by, changes_key}
+use Rattle.run_model.specs.unit_laws.Units.{Map, SerialsDiffer}
+use Rattle.run_model.proofs.unit_laws.LiveLemmas.{once_change, once_changes}
+use Rattle.run_model.specs.recovery_model.Images.{befores, keys_of}
+use Rattle.run_model.specs.recovery_model.Journal as image
+use Rattle.run_model.specs.recovery_model.File as recovery
+use Rattle.run_model.specs.recovery_model.File.{FileState, IsStill, Save}
+use Rattle.run_model.specs.recovery_model.Acts as act
+use Rattle.run_model.specs.recovery_model.Acts.{MayChange}
+use Rattle.run_model.specs.recovery_model.Laws.{all_changed}
+use Rattle.run_model.proofs.recovery_model.HalfLemmas.{keys_befores}
+use Rattle.run_model.proofs.recovery_model.OrderLemmas.{Ordered, SaveStands, act_ordered, created_ordered, ordered_half, ordered_passed}
+use Rattle.run_model.proofs.recovery_model.StatementLemmas.{room_suffices}
 use Rattle.run_model.specs.World.{BeginsImages, EndsImages, File, ForUnits, KeepAllImages, KeepsImages, Mark, Node, Settlement, changed_file, directly_changed, find_file, half_undone, leaving, marked_file, recovered_file, saved_file, serial_of_image, settled_file, state_of, with_images}
 use Rattle.run_model.specs.Answers.{created}
 use Rattle.world_laws.specs.Running.{AllImages}

@@ -9,26 +9,26 @@ use Rattle.std.proofs.lemmas.Bool.{and_parts, both_ways, and_from}
 use Rattle.std.proofs.lemmas.Slice.Eq.{bytes_eq-Decides}
 use Rattle.vms_model.specs.Ids.{Id}
 use Rattle.vms_model.specs.Keys.{Key, End}
-use Rattle.records_model.specs.Records.{Change}
-use Rattle.records_model.specs.History.{LiveChanges, changes_by, changes_key, current, same_id}
-use Rattle.records_model.proofs.RecordsLemmas.{same_key}
-use Rattle.unit_laws.specs.Units.{Apart, OneMovesEnd, is_of, latest_after, map_in, moves_end}
-use Rattle.unit_laws.specs.Journal.{ChangeEntry, JournalEntry, Note, PreparedEntry, SettledEntry, RecoveryUnit, find_unit, is_settled_in, is_settling, note_of, notes_in, notes_of, units_onto, with_one_change, with_prepared, without_unit, units_after}
-use Rattle.unit_laws.specs.JournalLaws.{HasNotes, is_unit, unit_or_new, with_more}
-use Rattle.unit_laws.proofs.RestoredLemmas.{changed_of}
-use Rattle.unit_laws.proofs.Tests.{or_one, or_other}
-use Rattle.unit_laws.proofs.UnitLemmas.{found_changed, found_prepared, found_settled, is_prepared}
-use Rattle.commit_protocol.specs.Messages.{LogRecord}
-use Rattle.commit_protocol.specs.Table.{record_serials}
-use Rattle.commit_protocol.specs.World.{In}
-use Rattle.commit_protocol.proofs.Lists.{in_left, in_right, in_parts}
+use Rattle.run_model.specs.records_model.Records.{Change}
+use Rattle.run_model.specs.records_model.History.{LiveChanges, changes_by, changes_key, current, same_id}
+use Rattle.run_model.proofs.records_model.RecordsLemmas.{same_key}
+use Rattle.run_model.specs.unit_laws.Units.{Apart, OneMovesEnd, is_of, latest_after, map_in, moves_end}
+use Rattle.run_model.specs.unit_laws.Journal.{ChangeEntry, JournalEntry, Note, PreparedEntry, SettledEntry, RecoveryUnit, find_unit, is_settled_in, is_settling, note_of, notes_in, notes_of, units_onto, with_one_change, with_prepared, without_unit, units_after}
+use Rattle.run_model.specs.unit_laws.JournalLaws.{HasNotes, is_unit, unit_or_new, with_more}
+use Rattle.run_model.proofs.unit_laws.RestoredLemmas.{changed_of}
+use Rattle.run_model.proofs.unit_laws.Tests.{or_one, or_other}
+use Rattle.run_model.proofs.unit_laws.UnitLemmas.{found_changed, found_prepared, found_settled, is_prepared}
+use Rattle.run_model.specs.commit_protocol.Messages.{LogRecord}
+use Rattle.run_model.specs.commit_protocol.Table.{record_serials}
+use Rattle.run_model.specs.commit_protocol.World.{In}
+use Rattle.run_model.proofs.commit_protocol.Lists.{in_left, in_right, in_parts}
 use Rattle.run_model.specs.Locks.{Lock, holder, is_lock_of, not_locked, is_locked, with_locks}
 use Rattle.run_model.specs.World.{Durable, File, FollowOneAnother, OneMovesEndOf, Organization, Sequential, Relative, Indexed, find_file, keys_left, moved_end, relocked, relocked_by, relocked_for}
 use Rattle.world_laws.proofs.IdLemmas.{id_is, in_map}
 use Rattle.world_laws.proofs.EntryLemmas.{all_append, none_settles}
 use Rattle.world_laws.proofs.HeldLemmas.{found_file_name, holder_more, holder_own, noted_at}
 use Rattle.world_laws.proofs.PlainLemmas.{latest_of, plain_of, no_end}
-use Rattle.commit_protocol.proofs.Serials.{in_serial}
+use Rattle.run_model.proofs.commit_protocol.Serials.{in_serial}
 use Rattle.world_laws.proofs.FindLemmas.{some_is}
 use Rattle.world_laws.proofs.FoundLemmas.{itself}
 use Rattle.world_laws.specs.Nodes.{IsFiled}

@@ -48,3 +48,6 @@ pub mod TaskLemmas
 pub mod Induction
 pub mod WorldLemmas
 mod NodeLaws
+pub mod log_laws
+pub mod recovery_model
+pub mod run_model

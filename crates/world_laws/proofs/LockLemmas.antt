@@ -4,10 +4,10 @@ use Rattle.std.specs.List.{AllByRecursion}
 use Rattle.std.proofs.lemmas.Bool.{both_ways}
 use Rattle.vms_model.specs.Ids.{Id}
 use Rattle.vms_model.specs.Keys.{Key}
-use Rattle.transcript_model.specs.Lines as line
-use Rattle.transcript_model.specs.Lines.{Line}
-use Rattle.records_model.specs.History.{LiveChanges, changes_key, same_id}
-use Rattle.unit_laws.specs.Units.{SerialsDiffer, is_changed, is_free}
+use Rattle.run_model.specs.transcript_model.Lines as line
+use Rattle.run_model.specs.transcript_model.Lines.{Line}
+use Rattle.run_model.specs.records_model.History.{LiveChanges, changes_key, same_id}
+use Rattle.run_model.specs.unit_laws.Units.{SerialsDiffer, is_changed, is_free}
 use Rattle.run_model.specs.Locks.{Lock, holder}
 use Rattle.run_model.specs.Answers.{held_against, keys_refused}
 use Rattle.world_laws.specs.Restarts.{UnlockedIsFree, HeldFree}

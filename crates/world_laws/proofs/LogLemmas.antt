@@ -5,21 +5,21 @@ use Rattle.std.specs.List.{AllByRecursion}
 use Rattle.std.proofs.lemmas.Bool.{both_ways, cond_both}
 use Rattle.std.proofs.lemmas.List.{length-append}
 use Rattle.vms_model.specs.Ids.{Id}
-use Rattle.records_model.specs.History.{same_id}
-use Rattle.unit_laws.specs.Journal.{Journal, RecoveryUnit, find_unit, units_in, is_settled_in}
-use Rattle.unit_laws.specs.JournalLaws.{is_unit}
-use Rattle.commit_protocol.specs.Messages.{LogRecord, RecordKind, CommittedRecord, PreparedRecord}
-use Rattle.commit_protocol.specs.Table.{Branch, Prepared, State, Joining, Active, Ending, Voting, branch_serials, prepared_record, prepared_records, record_serials}
-use Rattle.commit_protocol.specs.Allowed.{is_prepared}
-use Rattle.commit_protocol.specs.Agreement.{Distinct}
-use Rattle.commit_protocol.specs.Limits.{PreparedWithin, RecordWithin}
-use Rattle.commit_protocol.specs.World.{In}
-use Rattle.commit_protocol.proofs.Lists.{in_left, in_parts, in_right}
-use Rattle.commit_protocol.proofs.Serials.{in_serial, parts_apart}
-use Rattle.commit_protocol.proofs.Within.{length_holding}
-use Rattle.log_laws.specs.Slots.{prepared_of, committed_of, is_prepared_record, records_in}
-use Rattle.log_laws.proofs.Slotting.{in_state, state_first, state_rest}
-use Rattle.log_laws.proofs.Reading.{prepared_is, is_prepared_one, committed_is}
+use Rattle.run_model.specs.records_model.History.{same_id}
+use Rattle.run_model.specs.unit_laws.Journal.{Journal, RecoveryUnit, find_unit, units_in, is_settled_in}
+use Rattle.run_model.specs.unit_laws.JournalLaws.{is_unit}
+use Rattle.run_model.specs.commit_protocol.Messages.{LogRecord, RecordKind, CommittedRecord, PreparedRecord}
+use Rattle.run_model.specs.commit_protocol.Table.{Branch, Prepared, State, Joining, Active, Ending, Voting, branch_serials, prepared_record, prepared_records, record_serials}
+use Rattle.run_model.specs.commit_protocol.Allowed.{is_prepared}
+use Rattle.run_model.specs.commit_protocol.Agreement.{Distinct}
+use Rattle.run_model.specs.commit_protocol.Limits.{PreparedWithin, RecordWithin}
+use Rattle.run_model.specs.commit_protocol.World.{In}
+use Rattle.run_model.proofs.commit_protocol.Lists.{in_left, in_parts, in_right}
+use Rattle.run_model.proofs.commit_protocol.Serials.{in_serial, parts_apart}
+use Rattle.run_model.proofs.commit_protocol.Within.{length_holding}
+use Rattle.run_model.specs.log_laws.Slots.{prepared_of, committed_of, is_prepared_record, records_in}
+use Rattle.run_model.proofs.log_laws.Slotting.{in_state, state_first, state_rest}
+use Rattle.run_model.proofs.log_laws.Reading.{prepared_is, is_prepared_one, committed_is}
 use Rattle.run_model.specs.World.{IsLogInOrder, IsOfTransaction, IsReached, Node, without_units}
 use Rattle.world_laws.specs.Running.{IsDrawn, TellTable}
 use Rattle.world_laws.proofs.IdLemmas.{id_is}

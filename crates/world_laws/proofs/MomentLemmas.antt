@@ -3,9 +3,9 @@ use Rattle.std.proofs.Common.{◌≡◌, ◌<◌, ◌≤◌, ℕ, ◌+◌, List,
 use Rattle.std.specs.Prelude.{nat_le}
 use Rattle.std.specs.List.{AllByRecursion}
 use Rattle.std.proofs.lemmas.Bool.{leb-false}
-use Rattle.recovery_model.specs.Journal as image
-use Rattle.recovery_model.specs.Journal.{Before}
-use Rattle.recovery_model.specs.File.{ImageJournal, IsInOrder, Placed, all_of}
+use Rattle.run_model.specs.recovery_model.Journal as image
+use Rattle.run_model.specs.recovery_model.Journal.{Before}
+use Rattle.run_model.specs.recovery_model.File.{ImageJournal, IsInOrder, Placed, all_of}
 use Rattle.run_model.specs.World.{Carried, File, KeepsImages, Node, next_moment}
 use Rattle.world_laws.specs.Nodes.{IsTellingBy}
 use Rattle.world_laws.specs.Running.{AllImages}

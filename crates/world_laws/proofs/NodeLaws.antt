@@ -3,7 +3,7 @@ use Rattle.std.proofs.Common.{sym, ap, subst, ◌∙◌}
 use Rattle.run_model.specs.World.{Shared, opened}
 use Rattle.run_model.specs.Answers.{task_service}
 use Rattle.run_model.specs.Steps.{count_of, task_effect}
-use Rattle.transcript_model.specs.Outside.{Rose}
+use Rattle.run_model.specs.transcript_model.Outside.{Rose}
 use Rattle.world_laws.specs.Nodes.{BootsKeepUp, IsKeptNode, NodesAreKept, RowsKeepUp, StepsKeepNodes, StepsKeepOthers}
 use Rattle.world_laws.proofs.ComeUp.{come_room, come_up}
 use Rattle.world_laws.proofs.EffectLemmas.{kept_sharing, use_before}

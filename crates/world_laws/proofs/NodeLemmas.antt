@@ -4,11 +4,11 @@ use Rattle.std.specs.Prelude.{slice_index_or}
 use Rattle.std.specs.Option.{option_map}
 use Rattle.vms_model.specs.Ids.{Id}
 use Rattle.vms_model.specs.Keys.{Key}
-use Rattle.records_model.specs.History.{changes_by, changes_key, same_id}
-use Rattle.unit_laws.specs.Units.{Map, moves_end, IsImage}
-use Rattle.commit_protocol.specs.Messages.{LogRecord}
-use Rattle.commit_protocol.specs.World.{In}
-use Rattle.log_laws.specs.Slots.{prepared_of, records_in}
+use Rattle.run_model.specs.records_model.History.{changes_by, changes_key, same_id}
+use Rattle.run_model.specs.unit_laws.Units.{Map, moves_end, IsImage}
+use Rattle.run_model.specs.commit_protocol.Messages.{LogRecord}
+use Rattle.run_model.specs.commit_protocol.World.{In}
+use Rattle.run_model.specs.log_laws.Slots.{prepared_of, records_in}
 use Rattle.run_model.specs.World.{Act, Boots, ComesUp, Changes, Creates, Directs, File, Formats, Half, IsHalfUndone, IsLogInOrder, Lost, Marks, Saves, Recovers, MayTurnOut, Node, Outturn, Shared, Tables, Taken, aborted_prepared, acted, durable_after, fallen, find_file, half_undone, is_durable, powered, with_half, Numbers, leaving, Labels, Clocks, Declares, Falls, Draws, Holds, Arms}
 use Rattle.run_model.specs.Answers.{Row}
 use Rattle.run_model.specs.Steps.{act_begun, if_durable, node_after, node_after_rows}

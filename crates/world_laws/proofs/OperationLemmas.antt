@@ -6,23 +6,23 @@ use Rattle.std.proofs.lemmas.Bool.{and_parts, both_ways, ltb-false}
 use Rattle.vms_model.specs.Ids.{Id}
 use Rattle.vms_model.specs.Keys.{Key, End}
 use Rattle.vms_model.specs.Limits.{lock_limit}
-use Rattle.transcript_model.specs.Lines as line
-use Rattle.transcript_model.specs.Lines.{Line}
-use Rattle.script_model.specs.Statements.{Operation, Put, Update, Delete, Truncate, Get, Next}
-use Rattle.records_model.specs.Records.{Change, Found}
-use Rattle.records_model.specs.History.{LiveChanges, changes_by, changes_key, current}
-use Rattle.unit_laws.specs.Units.{SerialsDiffer, end_is_free, is_free, moves_end, has_changes}
-use Rattle.unit_laws.specs.Journal.{RecoveryUnit, find_unit, units_in}
-use Rattle.unit_laws.specs.JournalLaws.{is_unit}
-use Rattle.commit_protocol.specs.Table.{Branch, State, Active, Joining, Ending, Voting, Prepared}
-use Rattle.commit_protocol.specs.Allowed.{is_active, is_prepared, is_working}
-use Rattle.commit_protocol.specs.World.{In}
+use Rattle.run_model.specs.transcript_model.Lines as line
+use Rattle.run_model.specs.transcript_model.Lines.{Line}
+use Rattle.run_model.specs.script_model.Statements.{Operation, Put, Update, Delete, Truncate, Get, Next}
+use Rattle.run_model.specs.records_model.Records.{Change, Found}
+use Rattle.run_model.specs.records_model.History.{LiveChanges, changes_by, changes_key, current}
+use Rattle.run_model.specs.unit_laws.Units.{SerialsDiffer, end_is_free, is_free, moves_end, has_changes}
+use Rattle.run_model.specs.unit_laws.Journal.{RecoveryUnit, find_unit, units_in}
+use Rattle.run_model.specs.unit_laws.JournalLaws.{is_unit}
+use Rattle.run_model.specs.commit_protocol.Table.{Branch, State, Active, Joining, Ending, Voting, Prepared}
+use Rattle.run_model.specs.commit_protocol.Allowed.{is_active, is_prepared, is_working}
+use Rattle.run_model.specs.commit_protocol.World.{In}
 use Rattle.run_model.specs.Locks.{holder, not_locked}
 use Rattle.run_model.specs.World.{File, Node, Organization, Sequential, find_file, next_id, serials_of, state_of}
 use Rattle.run_model.specs.Operations.{changes_of, data_refused, delete_refused, form_refused, keys_asked, keys_found, keys_held, put_keys, count_of, update_refused, record_in, key_refused}
 use Rattle.run_model.specs.Answers.{changes_at, commit_settlement, directed, held_against, is_marked, keys_at, keys_refused, more_locks, operated, operation_act, silent, full_line, images_full}
-use Rattle.recovery_model.specs.File.{IsOpenIn}
-use Rattle.recovery_model.specs.Room.{Full, full_of}
+use Rattle.run_model.specs.recovery_model.File.{IsOpenIn}
+use Rattle.run_model.specs.recovery_model.Room.{Full, full_of}
 use Rattle.std.specs.Option.{option_map}
 use Rattle.world_laws.specs.Entering.{MayEnterImages}
 use Rattle.world_laws.proofs.ToldImages.{unsettled_in_images, undrawn_open}

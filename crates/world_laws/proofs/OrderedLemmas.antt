@@ -9,17 +9,17 @@ use Rattle.vms_model.specs.Ids.{Id}
 use Rattle.vms_model.specs.Keys.{Key}
 use Rattle.vms_model.specs.Transactions.{Abort, SegFail}
 use Rattle.vms_model.specs.Limits.{branch_limit, change_limit}
-use Rattle.records_model.specs.Records.{Change}
-use Rattle.records_model.specs.History.{same_id}
-use Rattle.unit_laws.specs.Units.{has_changes}
-use Rattle.unit_laws.specs.Journal.{ChangeEntry, JournalEntry, PreparedEntry, RecoveryUnit, SettledEntry, entries_for, entries_from, find_unit, is_of_file, is_of_units, is_settled_in, is_settling, owed, serial_in, trimmed, units_in, units_onto, with_entries, with_one_change, with_prepared, with_settled, without_unit}
-use Rattle.unit_laws.specs.JournalLaws.{is_unit, unit_or_new, with_more}
-use Rattle.unit_laws.proofs.TrimLemmas.{settles_unit, size_append, trim_keeps_units, trimmed_size}
-use Rattle.unit_laws.proofs.UnitLemmas.{changes_make_unit, found_changed, found_prepared, found_settled, is_prepared, prepares_unit, units_follow}
-use Rattle.unit_laws.proofs.Tests.{passed, picked}
-use Rattle.commit_protocol.specs.Table as table
-use Rattle.commit_protocol.specs.Table.{Branch, Prepares, Undoes}
-use Rattle.log_laws.specs.Slots.{Slots, slots_after}
+use Rattle.run_model.specs.records_model.Records.{Change}
+use Rattle.run_model.specs.records_model.History.{same_id}
+use Rattle.run_model.specs.unit_laws.Units.{has_changes}
+use Rattle.run_model.specs.unit_laws.Journal.{ChangeEntry, JournalEntry, PreparedEntry, RecoveryUnit, SettledEntry, entries_for, entries_from, find_unit, is_of_file, is_of_units, is_settled_in, is_settling, owed, serial_in, trimmed, units_in, units_onto, with_entries, with_one_change, with_prepared, with_settled, without_unit}
+use Rattle.run_model.specs.unit_laws.JournalLaws.{is_unit, unit_or_new, with_more}
+use Rattle.run_model.proofs.unit_laws.TrimLemmas.{settles_unit, size_append, trim_keeps_units, trimmed_size}
+use Rattle.run_model.proofs.unit_laws.UnitLemmas.{changes_make_unit, found_changed, found_prepared, found_settled, is_prepared, prepares_unit, units_follow}
+use Rattle.run_model.proofs.unit_laws.Tests.{passed, picked}
+use Rattle.run_model.specs.commit_protocol.Table as table
+use Rattle.run_model.specs.commit_protocol.Table.{Branch, Prepares, Undoes}
+use Rattle.run_model.specs.log_laws.Slots.{Slots, slots_after}
 use Rattle.run_model.specs.World as world
 use Rattle.run_model.specs.Locks.{is_locked}
 use Rattle.run_model.specs.World.{Durable, File, IsOfTransaction, Settlement, changed_file, directly_changed, find_file, free_place, half_undone, marked_file, recovered_file, saved_file, settled_file, settlement, tid_in, with_file, with_settlement}

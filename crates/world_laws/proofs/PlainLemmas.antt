@@ -11,16 +11,16 @@ use Rattle.std.proofs.lemmas.List.Folds.{list_any-append}
 use Rattle.vms_model.specs.Ids.{Id}
 use Rattle.vms_model.specs.Keys.{Key, End}
 use Rattle.vms_model.specs.Transactions.{Outcome, Commit, Abort}
-use Rattle.script_model.specs.Statements.{Operation, Put, Update, Delete, Truncate, Get, Next}
-use Rattle.records_model.specs.Records.{Change, Found, Records, applied, key_cmp}
-use Rattle.records_model.specs.History.{History, LiveChanges, changed_with, changes_by, changes_key, current, records, same_id, settled_at, settled_with, with_changes, without}
-use Rattle.records_model.proofs.RecordsLemmas.{same_key}
-use Rattle.unit_laws.specs.Units.{HasLatest, IsImage, IsOrderly, Map, OneMovesEnd, SerialsDiffer, earliest_before, end_is_free, is_free, is_of, latest_after, map_in, moves_end}
-use Rattle.unit_laws.proofs.CurrentLemmas.{applied_at}
-use Rattle.unit_laws.proofs.LiveLemmas.{others_left}
-use Rattle.unit_laws.proofs.EndLemmas.{changes_keep_end, settles_keep_end}
-use Rattle.unit_laws.proofs.HistoryLaws.{aborts_one, changes_more, commits_one}
-use Rattle.unit_laws.proofs.Tests.{or_neither, or_one, or_other}
+use Rattle.run_model.specs.script_model.Statements.{Operation, Put, Update, Delete, Truncate, Get, Next}
+use Rattle.run_model.specs.records_model.Records.{Change, Found, Records, applied, key_cmp}
+use Rattle.run_model.specs.records_model.History.{History, LiveChanges, changed_with, changes_by, changes_key, current, records, same_id, settled_at, settled_with, with_changes, without}
+use Rattle.run_model.proofs.records_model.RecordsLemmas.{same_key}
+use Rattle.run_model.specs.unit_laws.Units.{HasLatest, IsImage, IsOrderly, Map, OneMovesEnd, SerialsDiffer, earliest_before, end_is_free, is_free, is_of, latest_after, map_in, moves_end}
+use Rattle.run_model.proofs.unit_laws.CurrentLemmas.{applied_at}
+use Rattle.run_model.proofs.unit_laws.LiveLemmas.{others_left}
+use Rattle.run_model.proofs.unit_laws.EndLemmas.{changes_keep_end, settles_keep_end}
+use Rattle.run_model.proofs.unit_laws.HistoryLaws.{aborts_one, changes_more, commits_one}
+use Rattle.run_model.proofs.unit_laws.Tests.{or_neither, or_one, or_other}
 use Rattle.run_model.specs.World.{File, FollowOneAnother, HasPlainEnd, OneMovesEndOf, Organization, Sequential, Relative, Indexed, leaving, live_leaving}
 use Rattle.run_model.specs.Operations.{changes_of, count_of, current_records, data_refused, key_put, missing, removed, update_refused}
 use Rattle.world_laws.proofs.IdLemmas.{id_is, id_other}

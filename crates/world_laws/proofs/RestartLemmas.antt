@@ -6,13 +6,13 @@ use Rattle.std.specs.List.{AllByRecursion}
 use Rattle.std.proofs.lemmas.Bool.{both_ways}
 use Rattle.vms_model.specs.Ids.{Id}
 use Rattle.vms_model.specs.Transactions.{Abort, SegFail}
-use Rattle.records_model.specs.History.{LiveChanges, records, same_id, settled_at}
-use Rattle.unit_laws.specs.Journal.{Journal, RecoveryUnit, find_unit, units_in, with_settled}
-use Rattle.unit_laws.specs.JournalLaws.{HasSettled, is_unit}
-use Rattle.unit_laws.proofs.TrimLemmas.{settles_unit}
-use Rattle.unit_laws.proofs.NoteLemmas.{settles_keep_notes}
-use Rattle.commit_protocol.specs.Table.{Undoes}
-use Rattle.commit_protocol.specs.World.{undo_all}
+use Rattle.run_model.specs.records_model.History.{LiveChanges, records, same_id, settled_at}
+use Rattle.run_model.specs.unit_laws.Journal.{Journal, RecoveryUnit, find_unit, units_in, with_settled}
+use Rattle.run_model.specs.unit_laws.JournalLaws.{HasSettled, is_unit}
+use Rattle.run_model.proofs.unit_laws.TrimLemmas.{settles_unit}
+use Rattle.run_model.proofs.unit_laws.NoteLemmas.{settles_keep_notes}
+use Rattle.run_model.specs.commit_protocol.Table.{Undoes}
+use Rattle.run_model.specs.commit_protocol.World.{undo_all}
 use Rattle.run_model.specs.World.{Shared, Node, File, IsPreparedUnit, Settlement, Boots, Tables, acted, next_moment, settled_file, settlement}
 use Rattle.run_model.specs.Answers.{left_active, table_rows, unit_key}
 use Rattle.run_model.specs.Steps.{node_after_rows}

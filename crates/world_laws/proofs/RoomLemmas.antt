@@ -4,13 +4,13 @@ use Rattle.std.specs.Prelude.{is_some, nat_lt}
 use Rattle.std.proofs.lemmas.Bool.{both_ways, ltb-false}
 use Rattle.vms_model.specs.Ids.{Id}
 use Rattle.vms_model.specs.Limits.{change_limit}
-use Rattle.transcript_model.specs.Lines as line
-use Rattle.records_model.specs.History.{same_id}
-use Rattle.unit_laws.specs.Journal.{RecoveryUnit, entries_size, find_unit, owed, units_in}
-use Rattle.commit_protocol.specs.Table.{Branch}
+use Rattle.run_model.specs.transcript_model.Lines as line
+use Rattle.run_model.specs.records_model.History.{same_id}
+use Rattle.run_model.specs.unit_laws.Journal.{RecoveryUnit, entries_size, find_unit, owed, units_in}
+use Rattle.run_model.specs.commit_protocol.Table.{Branch}
 use Rattle.run_model.specs.World.{changes_made, serials_of}
 use Rattle.run_model.specs.Answers.{free_journal, journal_need}
-use Rattle.commit_protocol.specs.World.{In}
+use Rattle.run_model.specs.commit_protocol.World.{In}
 use Rattle.world_laws.specs.Room.{ChangesHaveRoom, UnitsHaveRoom}
 use Rattle.world_laws.proofs.IdLemmas.{id_itself}
 use Rattle.world_laws.proofs.Counting.{AllDiffer, no_more}

@@ -3,10 +3,10 @@ use Rattle.std.proofs.Common.{List, [], ◌∷◌, ◌++◌, Bool, true, false, 
 use Rattle.std.specs.List.{AllByRecursion, list_any}
 use Rattle.vms_model.specs.Ids.{Id}
 use Rattle.vms_model.specs.Transactions.{Reason, Vetoed, SyncFail}
-use Rattle.commit_protocol.specs.Messages.{Name, Kind, Join, JoinOk, JoinNo, Prepare, Yes, ReadOnly, No, Commit, Abort, Ack, Inquire, Message, RmEvent, LogRecord, Reply, same_id}
-use Rattle.commit_protocol.specs.Table.{Key, Branch, State, Joining, Active, Ending, Voting, Prepared, Child, Act, Accepts, Undoes, Tm, first, key_of, find, find_serial, is_first}
-use Rattle.commit_protocol.specs.Rows as rows
-use Rattle.commit_protocol.specs.Rows.{Event, Start, Authorise, Begin, JoinRm, Changed, EndTrans, EndBranch, AbortBranch, Replied, Got, Clock, LinkDown, RunDown, InquireBranch, row}
+use Rattle.run_model.specs.commit_protocol.Messages.{Name, Kind, Join, JoinOk, JoinNo, Prepare, Yes, ReadOnly, No, Commit, Abort, Ack, Inquire, Message, RmEvent, LogRecord, Reply, same_id}
+use Rattle.run_model.specs.commit_protocol.Table.{Key, Branch, State, Joining, Active, Ending, Voting, Prepared, Child, Act, Accepts, Undoes, Tm, first, key_of, find, find_serial, is_first}
+use Rattle.run_model.specs.commit_protocol.Rows as rows
+use Rattle.run_model.specs.commit_protocol.Rows.{Event, Start, Authorise, Begin, JoinRm, Changed, EndTrans, EndBranch, AbortBranch, Replied, Got, Clock, LinkDown, RunDown, InquireBranch, row}
 use Rattle.world_laws.proofs.EntryLemmas.{all_append}
 
 -- an act is no boot's

@@ -5,27 +5,27 @@ use Rattle.std.specs.List.{AllByRecursion}
 use Rattle.vms_model.specs.Ids.{Id}
 use Rattle.vms_model.specs.Transactions.{Outcome, Reason}
 use Rattle.vms_model.specs.Limits.{lock_limit}
-use Rattle.records_model.specs.History.{same_id, changed_it}
-use Rattle.unit_laws.specs.Journal.{JournalEntry, serial_in, RecoveryUnit, find_unit, units_in}
-use Rattle.unit_laws.specs.JournalLaws.{is_unit}
-use Rattle.unit_laws.proofs.NoteLemmas.{settles_keep_notes}
-use Rattle.commit_protocol.specs.Messages.{LogRecord}
-use Rattle.commit_protocol.specs.Table as table
-use Rattle.commit_protocol.specs.Table.{Branch, Key as BranchKey, Notes, Accepts, Prepares, Settles, Leaves, Acknowledges, Releases, Undoes, Sends, Prints, Prepared, Tm, after_act, branch_serials, find, record_serials, records_after, table_after}
-use Rattle.commit_protocol.specs.Allowed.{is_prepared}
-use Rattle.commit_protocol.specs.Agreement.{Distinct}
-use Rattle.commit_protocol.specs.Limits.{TmWithin}
-use Rattle.commit_protocol.specs.Standing.{AllStand, HasApartLog, IsThere, Stands, IsUnchanged}
-use Rattle.commit_protocol.specs.World as protocol
-use Rattle.commit_protocol.specs.World.{In}
-use Rattle.commit_protocol.proofs.Lists.{in_left, in_parts, in_right, find-key}
-use Rattle.commit_protocol.proofs.Serials.{ApartAfter, act_apart, apart_distinct, keyed, parts_apart, serials_new, distinct_more}
-use Rattle.commit_protocol.proofs.Within.{ActWithin, ActsWithin, act_within}
-use Rattle.log_laws.specs.Slots.{AllTell, LogTells, slots_after}
+use Rattle.run_model.specs.records_model.History.{same_id, changed_it}
+use Rattle.run_model.specs.unit_laws.Journal.{JournalEntry, serial_in, RecoveryUnit, find_unit, units_in}
+use Rattle.run_model.specs.unit_laws.JournalLaws.{is_unit}
+use Rattle.run_model.proofs.unit_laws.NoteLemmas.{settles_keep_notes}
+use Rattle.run_model.specs.commit_protocol.Messages.{LogRecord}
+use Rattle.run_model.specs.commit_protocol.Table as table
+use Rattle.run_model.specs.commit_protocol.Table.{Branch, Key as BranchKey, Notes, Accepts, Prepares, Settles, Leaves, Acknowledges, Releases, Undoes, Sends, Prints, Prepared, Tm, after_act, branch_serials, find, record_serials, records_after, table_after}
+use Rattle.run_model.specs.commit_protocol.Allowed.{is_prepared}
+use Rattle.run_model.specs.commit_protocol.Agreement.{Distinct}
+use Rattle.run_model.specs.commit_protocol.Limits.{TmWithin}
+use Rattle.run_model.specs.commit_protocol.Standing.{AllStand, HasApartLog, IsThere, Stands, IsUnchanged}
+use Rattle.run_model.specs.commit_protocol.World as protocol
+use Rattle.run_model.specs.commit_protocol.World.{In}
+use Rattle.run_model.proofs.commit_protocol.Lists.{in_left, in_parts, in_right, find-key}
+use Rattle.run_model.proofs.commit_protocol.Serials.{ApartAfter, act_apart, apart_distinct, keyed, parts_apart, serials_new, distinct_more}
+use Rattle.run_model.proofs.commit_protocol.Within.{ActWithin, ActsWithin, act_within}
+use Rattle.run_model.specs.log_laws.Slots.{AllTell, LogTells, slots_after}
 use Rattle.run_model.specs.Locks.{Lock, released}
 use Rattle.run_model.specs.World.{Node, Settlement, Shared, Tables, acted, next_moment, serials_of, settlement, shared_after, tm_of, settled_file, find_file, Durable, File}
 use Rattle.run_model.specs.Answers.{table_rows}
-use Rattle.recovery_model.specs.Journal as image
+use Rattle.run_model.specs.recovery_model.Journal as image
 use Rattle.world_laws.specs.Running.{AllFound, FileImages, LeavesOpen, TellImages, IsDrawn, no_history, history_in, history_of}
 use Rattle.world_laws.proofs.FileLemmas.{found_mapped}
 use Rattle.world_laws.proofs.ImageLemmas.{images_settled}
@@ -41,7 +41,7 @@ use Rattle.world_laws.proofs.SlotLemmas.{length_slots}
 use Rattle.world_laws.proofs.TableLemmas.{found_in, in_serials, same_serials, in_cut, serials_apart}
 use Rattle.world_laws.proofs.ToldLemmas.{UnitsTell, apart_id, begun_tell, left_tell, no_unit, prepared_tell, restated_tell, settled_tell, id_apart}
 use Rattle.world_laws.proofs.UpLemmas.{branch_drawn, differ, drawn_of, tells}
-use Rattle.unit_laws.specs.Units.{SerialsDiffer}
+use Rattle.run_model.specs.unit_laws.Units.{SerialsDiffer}
 use Rattle.std.specs.Option.{option_map}
 use Rattle.world_laws.specs.Nodes.{AreUp, IsOf, IsUp}
 

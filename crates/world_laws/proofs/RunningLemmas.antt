@@ -11,19 +11,19 @@ use Rattle.std.proofs.lemmas.Slice.Eq.{bytes_eq-Decides}
 use Rattle.vms_model.specs.Ids.{Id}
 use Rattle.vms_model.specs.Keys.{Key, End}
 use Rattle.vms_model.specs.Transactions.{Commit}
-use Rattle.records_model.specs.Records.{Change, key_cmp}
-use Rattle.records_model.specs.History.{LiveChanges, changed_with, changes_by, changes_key, same_id, settled_at, settled_with, with_changes, without}
-use Rattle.records_model.proofs.RecordsLemmas.{same_key}
-use Rattle.unit_laws.specs.Units.{SerialsDiffer, end_is_free, has_changes, moves_end}
-use Rattle.unit_laws.specs.Journal.{Journal, PreparedEntry, RecoveryUnit, entries_for, find_unit, trimmed, units_in, with_entries, with_settled}
-use Rattle.unit_laws.specs.JournalLaws.{HasNotes, HasSettled, is_unit}
-use Rattle.unit_laws.proofs.LiveLemmas.{left_so, others_left}
-use Rattle.unit_laws.proofs.NoteLemmas.{prepares_keep_notes}
-use Rattle.unit_laws.proofs.TrimLemmas.{settles_unit, trim_keeps_units}
-use Rattle.unit_laws.proofs.UnitLemmas.{changes_make_unit, prepares_unit}
-use Rattle.commit_protocol.specs.Table.{Branch, Key as BranchKey, Prepares, branch_serials, cut, put}
-use Rattle.commit_protocol.specs.World.{In}
-use Rattle.commit_protocol.proofs.Lists.{told_key}
+use Rattle.run_model.specs.records_model.Records.{Change, key_cmp}
+use Rattle.run_model.specs.records_model.History.{LiveChanges, changed_with, changes_by, changes_key, same_id, settled_at, settled_with, with_changes, without}
+use Rattle.run_model.proofs.records_model.RecordsLemmas.{same_key}
+use Rattle.run_model.specs.unit_laws.Units.{SerialsDiffer, end_is_free, has_changes, moves_end}
+use Rattle.run_model.specs.unit_laws.Journal.{Journal, PreparedEntry, RecoveryUnit, entries_for, find_unit, trimmed, units_in, with_entries, with_settled}
+use Rattle.run_model.specs.unit_laws.JournalLaws.{HasNotes, HasSettled, is_unit}
+use Rattle.run_model.proofs.unit_laws.LiveLemmas.{left_so, others_left}
+use Rattle.run_model.proofs.unit_laws.NoteLemmas.{prepares_keep_notes}
+use Rattle.run_model.proofs.unit_laws.TrimLemmas.{settles_unit, trim_keeps_units}
+use Rattle.run_model.proofs.unit_laws.UnitLemmas.{changes_make_unit, prepares_unit}
+use Rattle.run_model.specs.commit_protocol.Table.{Branch, Key as BranchKey, Prepares, branch_serials, cut, put}
+use Rattle.run_model.specs.commit_protocol.World.{In}
+use Rattle.run_model.proofs.commit_protocol.Lists.{told_key}
 use Rattle.run_model.specs.Locks.{Lock, holder, is_locked, not_locked, released, with_locks}
 use Rattle.run_model.specs.World.{File, IsPreparedUnit, Sequential, Settlement, changed_file, directly_changed, find_file, free_place, settled_file, with_file, with_prepared}
 use Rattle.world_laws.specs.Restarts.{AllNoted}

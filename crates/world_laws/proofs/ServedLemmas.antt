@@ -8,30 +8,30 @@ use Rattle.std.proofs.lemmas.Bool.{and_from, both_ways, false_from_ne_true, leb-
 use Rattle.vms_model.specs.Ids.{Id}
 use Rattle.vms_model.specs.Keys.{End}
 use Rattle.vms_model.specs.Limits.{branch_limit}
-use Rattle.transcript_model.specs.Lines as line
-use Rattle.transcript_model.specs.Lines.{Line}
-use Rattle.script_model.specs.Statements.{Form, Images, NoImages, NoRecoveryUnits, Recovery, RecoveryUnits, Setting}
-use Rattle.records_model.specs.Records.{Change, key_cmp}
-use Rattle.records_model.specs.History.{LiveChanges, changed_it, changes_by, first_to_change, same_id}
-use Rattle.unit_laws.specs.Units.{has_changes}
-use Rattle.unit_laws.specs.Journal.{JournalEntry, RecoveryUnit, find_unit, serial_in, units_in}
-use Rattle.unit_laws.specs.JournalLaws.{is_unit}
-use Rattle.recovery_model.specs.File.{FileState}
-use Rattle.recovery_model.specs.Recovery.{Backward, Forward, Refusal, Way, in_use, refusal, first_of as first_refusal}
-use Rattle.commit_protocol.specs.Table as table
-use Rattle.commit_protocol.specs.Table.{Branch, Key as BranchKey, Active, Joining, Notes, Tm, after, branch_serials, find, find_serial, first, is_first, record_serials}
-use Rattle.commit_protocol.specs.Rows as rows
-use Rattle.commit_protocol.specs.Rows.{Event, blank, row}
-use Rattle.commit_protocol.specs.Allowed.{allowed, has_room, is_prepared}
-use Rattle.commit_protocol.specs.Standing.{BeginsNothing}
-use Rattle.commit_protocol.specs.World.{In}
-use Rattle.commit_protocol.proofs.Lists.{in_left}
-use Rattle.commit_protocol.proofs.Serials.{there_serial, unique_of}
-use Rattle.commit_protocol.proofs.StandingRows.{rows_stand}
-use Rattle.commit_protocol.proofs.Within.{ActsWithin}
-use Rattle.commit_protocol.proofs.WithinRows.{row_within}
-use Rattle.log_laws.specs.Slots.{AllTell, IsFresh, size, branches_added}
-use Rattle.log_laws.proofs.RowSlots.{row_size, row_tells}
+use Rattle.run_model.specs.transcript_model.Lines as line
+use Rattle.run_model.specs.transcript_model.Lines.{Line}
+use Rattle.run_model.specs.script_model.Statements.{Form, Images, NoImages, NoRecoveryUnits, Recovery, RecoveryUnits, Setting}
+use Rattle.run_model.specs.records_model.Records.{Change, key_cmp}
+use Rattle.run_model.specs.records_model.History.{LiveChanges, changed_it, changes_by, first_to_change, same_id}
+use Rattle.run_model.specs.unit_laws.Units.{has_changes}
+use Rattle.run_model.specs.unit_laws.Journal.{JournalEntry, RecoveryUnit, find_unit, serial_in, units_in}
+use Rattle.run_model.specs.unit_laws.JournalLaws.{is_unit}
+use Rattle.run_model.specs.recovery_model.File.{FileState}
+use Rattle.run_model.specs.recovery_model.Recovery.{Backward, Forward, Refusal, Way, in_use, refusal, first_of as first_refusal}
+use Rattle.run_model.specs.commit_protocol.Table as table
+use Rattle.run_model.specs.commit_protocol.Table.{Branch, Key as BranchKey, Active, Joining, Notes, Tm, after, branch_serials, find, find_serial, first, is_first, record_serials}
+use Rattle.run_model.specs.commit_protocol.Rows as rows
+use Rattle.run_model.specs.commit_protocol.Rows.{Event, blank, row}
+use Rattle.run_model.specs.commit_protocol.Allowed.{allowed, has_room, is_prepared}
+use Rattle.run_model.specs.commit_protocol.Standing.{BeginsNothing}
+use Rattle.run_model.specs.commit_protocol.World.{In}
+use Rattle.run_model.proofs.commit_protocol.Lists.{in_left}
+use Rattle.run_model.proofs.commit_protocol.Serials.{there_serial, unique_of}
+use Rattle.run_model.proofs.commit_protocol.StandingRows.{rows_stand}
+use Rattle.run_model.proofs.commit_protocol.Within.{ActsWithin}
+use Rattle.run_model.proofs.commit_protocol.WithinRows.{row_within}
+use Rattle.run_model.specs.log_laws.Slots.{AllTell, IsFresh, size, branches_added}
+use Rattle.run_model.proofs.log_laws.RowSlots.{row_size, row_tells}
 use Rattle.run_model.specs.World.{Act, BeginsImages, Creates, Draws, EndsImages, File, ForUnits, Mark, Marks, Node, Recovers, Saves, buckets_loaded, state_of, Shared, Tables, acted, find_file, free_place, lowest_free, next_id, next_moment, serials_of, shared_after, tm_of}
 use Rattle.run_model.specs.Operations.{refused_if}
 use Rattle.run_model.specs.Answers.{Row, blocks_for, blocks_of, blocks_recovered, created, creates, more_branches, new_file, of_file, on_free, records_recovered, recovers, recovery_refused, refusal_line, sets, silent, start_of, to_file, way_of, table_rows, there_is_file, unchanged_file}

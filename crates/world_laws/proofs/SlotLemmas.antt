@@ -1,10 +1,10 @@
 -- A log has as many slots after each act.
 use Rattle.std.proofs.Common.{◌≡◌, suc, List, [], ◌∷◌, length, Bool, true, false, Some, None, if◌then◌else◌, refl, ◌∙◌, ap}
 use Rattle.vms_model.specs.Ids.{Id}
-use Rattle.commit_protocol.specs.Messages.{LogRecord, same_id}
-use Rattle.commit_protocol.specs.Table.{Act, Acknowledges, Prepares, Releases, Settles, prepared_record}
-use Rattle.commit_protocol.specs.Effects.{Effect, KeepEffect, ForgetEffect, acknowledge_effects, release_effects}
-use Rattle.log_laws.specs.Slots.{Slots, filled, forgotten, has_slot, put_in, record_effect_in, record_effects_in, replaced, slots_after}
+use Rattle.run_model.specs.commit_protocol.Messages.{LogRecord, same_id}
+use Rattle.run_model.specs.commit_protocol.Table.{Act, Acknowledges, Prepares, Releases, Settles, prepared_record}
+use Rattle.run_model.specs.commit_protocol.Effects.{Effect, KeepEffect, ForgetEffect, acknowledge_effects, release_effects}
+use Rattle.run_model.specs.log_laws.Slots.{Slots, filled, forgotten, has_slot, put_in, record_effect_in, record_effects_in, replaced, slots_after}
 
 length_replaced : (r : LogRecord) (ss : Slots) → length (replaced r ss) ≡ length ss
 length_replaced r [] = refl

@@ -4,17 +4,17 @@ use Rattle.std.specs.List.{AllByRecursion}
 use Rattle.std.specs.FinMap.{get}
 use Rattle.vms_model.specs.Ids.{Id}
 use Rattle.vms_model.specs.Keys.{Key}
-use Rattle.records_model.specs.Records.{Change, Found, Records, applied}
-use Rattle.records_model.specs.History.{History, LiveChanges, changed_it, changed_with, changes_by, current, on_top, same_id, settled_at, settled_with, with_changes}
-use Rattle.records_model.proofs.RecordsLemmas.{get-set_key, same_key}
-use Rattle.unit_laws.specs.Units.{Map, is_free, is_of}
-use Rattle.unit_laws.proofs.CurrentLemmas.{current_change}
-use Rattle.unit_laws.proofs.LiveLemmas.{by_change, free_changes}
-use Rattle.recovery_model.specs.Journal as image
-use Rattle.recovery_model.specs.File as recovery
-use Rattle.recovery_model.specs.File.{FileState, IsOpenIn, append, with_its}
-use Rattle.recovery_model.specs.Acts.{MayChange}
-use Rattle.recovery_model.specs.Laws.{EachFits, all_changed}
+use Rattle.run_model.specs.records_model.Records.{Change, Found, Records, applied}
+use Rattle.run_model.specs.records_model.History.{History, LiveChanges, changed_it, changed_with, changes_by, current, on_top, same_id, settled_at, settled_with, with_changes}
+use Rattle.run_model.proofs.records_model.RecordsLemmas.{get-set_key, same_key}
+use Rattle.run_model.specs.unit_laws.Units.{Map, is_free, is_of}
+use Rattle.run_model.proofs.unit_laws.CurrentLemmas.{current_change}
+use Rattle.run_model.proofs.unit_laws.LiveLemmas.{by_change, free_changes}
+use Rattle.run_model.specs.recovery_model.Journal as image
+use Rattle.run_model.specs.recovery_model.File as recovery
+use Rattle.run_model.specs.recovery_model.File.{FileState, IsOpenIn, append, with_its}
+use Rattle.run_model.specs.recovery_model.Acts.{MayChange}
+use Rattle.run_model.specs.recovery_model.Laws.{EachFits, all_changed}
 use Rattle.run_model.specs.World.{File, Settlement, changed_file, leaving, live_leaving, state_of}
 
 pub all_follow : (f : File) (held : Key → Bool) (tid serial : Id) (cs : List Change) → state_of (changed_file held tid serial cs f) ≡ all_changed tid serial cs (state_of f)

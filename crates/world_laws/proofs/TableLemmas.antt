@@ -2,12 +2,12 @@
 use Rattle.std.proofs.Common.{◌≡◌, ◌⊎◌, ◌≤◌, suc, List, [], ◌∷◌, length, Bool, true, false, Option, Some, None, if◌then◌else◌, refl, sym, ◌∙◌, ap, subst, arith, inl, inr}
 use Rattle.std.proofs.lemmas.Bool.{both_ways}
 use Rattle.vms_model.specs.Ids.{Id}
-use Rattle.records_model.specs.History.{same_id}
-use Rattle.commit_protocol.specs.Table.{Branch, Key, branch_serials, cut, find, put, same_key}
-use Rattle.commit_protocol.specs.Standing.{IsThere}
-use Rattle.commit_protocol.specs.Agreement.{Distinct}
-use Rattle.commit_protocol.specs.World.{In}
-use Rattle.commit_protocol.proofs.Lists.{told_key}
+use Rattle.run_model.specs.records_model.History.{same_id}
+use Rattle.run_model.specs.commit_protocol.Table.{Branch, Key, branch_serials, cut, find, put, same_key}
+use Rattle.run_model.specs.commit_protocol.Standing.{IsThere}
+use Rattle.run_model.specs.commit_protocol.Agreement.{Distinct}
+use Rattle.run_model.specs.commit_protocol.World.{In}
+use Rattle.run_model.proofs.commit_protocol.Lists.{told_key}
 use Rattle.run_model.specs.World.{serials_of, with_changed}
 use Rattle.world_laws.proofs.IdLemmas.{id_is, id_itself}
 use Rattle.world_laws.proofs.FindLemmas.{some_is}

@@ -5,21 +5,21 @@ use Rattle.std.specs.Option.{option_and_then, option_map}
 use Rattle.std.proofs.lemmas.Bool.{and_from, and_parts, both_ways, leb-false, ltb-false, leb-true}
 use Rattle.vms_model.specs.Ids.{Id}
 use Rattle.vms_model.specs.Limits.{bid_limit, manager_limit}
-use Rattle.transcript_model.specs.Lines as line
-use Rattle.transcript_model.specs.Lines.{Line, Cause}
-use Rattle.script_model.specs.Statements.{Request, Init, Boot, Create, SetFile, StartTrans, AddBranch, StartBranch, Records, Direct, EndBranch, EndTrans, AbortTrans, Inquire, DeclareRm, JoinRm, AckEvent, ForgetRm, GetDti, LmcpShow, LmcpDump, Dump, DumpJournal, DumpImages, Backup, Recover, Fuse, Crash, Clock, Named, ByLabel, BySerial, Operation}
-use Rattle.records_model.specs.History.{same_id}
-use Rattle.commit_protocol.specs.Messages.{Join, Name, Reply}
-use Rattle.commit_protocol.specs.Table as table
-use Rattle.commit_protocol.specs.Table.{Branch, Key as BranchKey, Active, Joining, Notes, branch_serials, find, find_serial, first, is_first, same_key}
-use Rattle.commit_protocol.specs.Rows as rows
-use Rattle.commit_protocol.specs.Rows.{Event, blank, row}
-use Rattle.commit_protocol.specs.Allowed.{allowed, is_active, is_prepared, is_working, may_authorise, may_end, may_join, there_is}
-use Rattle.commit_protocol.specs.Standing.{BeginsNothing}
-use Rattle.commit_protocol.specs.Agreement.{Distinct}
-use Rattle.commit_protocol.specs.World.{In}
-use Rattle.commit_protocol.proofs.Lists.{find-key, find_serial-key, find_serial-serial, told_id, told_key, same_key-true}
-use Rattle.log_laws.specs.Slots.{slot_records}
+use Rattle.run_model.specs.transcript_model.Lines as line
+use Rattle.run_model.specs.transcript_model.Lines.{Line, Cause}
+use Rattle.run_model.specs.script_model.Statements.{Request, Init, Boot, Create, SetFile, StartTrans, AddBranch, StartBranch, Records, Direct, EndBranch, EndTrans, AbortTrans, Inquire, DeclareRm, JoinRm, AckEvent, ForgetRm, GetDti, LmcpShow, LmcpDump, Dump, DumpJournal, DumpImages, Backup, Recover, Fuse, Crash, Clock, Named, ByLabel, BySerial, Operation}
+use Rattle.run_model.specs.records_model.History.{same_id}
+use Rattle.run_model.specs.commit_protocol.Messages.{Join, Name, Reply}
+use Rattle.run_model.specs.commit_protocol.Table as table
+use Rattle.run_model.specs.commit_protocol.Table.{Branch, Key as BranchKey, Active, Joining, Notes, branch_serials, find, find_serial, first, is_first, same_key}
+use Rattle.run_model.specs.commit_protocol.Rows as rows
+use Rattle.run_model.specs.commit_protocol.Rows.{Event, blank, row}
+use Rattle.run_model.specs.commit_protocol.Allowed.{allowed, is_active, is_prepared, is_working, may_authorise, may_end, may_join, there_is}
+use Rattle.run_model.specs.commit_protocol.Standing.{BeginsNothing}
+use Rattle.run_model.specs.commit_protocol.Agreement.{Distinct}
+use Rattle.run_model.specs.commit_protocol.World.{In}
+use Rattle.run_model.proofs.commit_protocol.Lists.{find-key, find_serial-key, find_serial-serial, told_id, told_key, same_key-true}
+use Rattle.run_model.specs.log_laws.Slots.{slot_records}
 use Rattle.run_model.specs.World.{Arms, Clocks, Declares, Draws, Falls, Label, Labels, Node, Numbers, Shared, acted, find_branch, labelled, next_id, serial_labelled, tm_of, next_moment, File, find_file}
 use Rattle.run_model.specs.Operations.{data_refused, first_of, form_refused, keys_asked, keys_held, refused_if, changes_of}
 use Rattle.run_model.specs.Answers.{Row, Service, Task, Serves, Ticks, Takes, Hears, LosesLink, RunsDown, Restarts, all_shared, adds, begins, branch_labelled, branch_named, directed, found_refused, in_state, is_first_active, image_lines, is_in_doubt, journal_at, setting_refused, shown_line, is_marked, is_open, is_volume_form, just, keys_refused, made_label, made_name, more_bids, more_branches, more_locks, needs_unit, new_file, of_file, operated, operation_refused, refused_before_reading, records_of, entry_lines, service, starts, task_service, there_is_file, to_branch, told_if, told_rows, unsettled, unsettled_label, direct_refused, changes_at, due_after, Telling, awaited_reply, declared_manager, has_joined, is_declared, is_joinable, known, known_branch, known_manager, known_serial, log_line, more_managers, serial_named, Known, Unheard, images_full}

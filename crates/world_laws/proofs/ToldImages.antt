@@ -3,15 +3,15 @@ use Rattle.std.proofs.Common.{◌≡◌, ℕ, List, [], ◌∷◌, Bool, true, f
 use Rattle.std.specs.List.{AllByRecursion}
 use Rattle.std.proofs.lemmas.Bool.{false_from_ne_true}
 use Rattle.vms_model.specs.Ids.{Id}
-use Rattle.records_model.specs.History.{same_id}
-use Rattle.commit_protocol.specs.Agreement.{Distinct}
-use Rattle.commit_protocol.specs.Allowed.{is_prepared}
-use Rattle.commit_protocol.specs.Table.{Branch, Key as BranchKey, branch_serials, cut, find, put}
-use Rattle.commit_protocol.specs.World.{In}
-use Rattle.commit_protocol.proofs.Lists.{find-key}
-use Rattle.recovery_model.specs.Journal as image
-use Rattle.recovery_model.specs.Journal.{is_settled}
-use Rattle.recovery_model.specs.File.{IsOpenIn}
+use Rattle.run_model.specs.records_model.History.{same_id}
+use Rattle.run_model.specs.commit_protocol.Agreement.{Distinct}
+use Rattle.run_model.specs.commit_protocol.Allowed.{is_prepared}
+use Rattle.run_model.specs.commit_protocol.Table.{Branch, Key as BranchKey, branch_serials, cut, find, put}
+use Rattle.run_model.specs.commit_protocol.World.{In}
+use Rattle.run_model.proofs.commit_protocol.Lists.{find-key}
+use Rattle.run_model.specs.recovery_model.Journal as image
+use Rattle.run_model.specs.recovery_model.Journal.{is_settled}
+use Rattle.run_model.specs.recovery_model.File.{IsOpenIn}
 use Rattle.run_model.specs.World.{File, serial_of_image, state_of, with_changed}
 use Rattle.world_laws.specs.Running.{AllFound, FileImages, IsDrawn, IsDrawnImage, LeavesOpen, TellImages}
 use Rattle.world_laws.proofs.IdLemmas.{id_is}

@@ -5,19 +5,19 @@ use Rattle.std.specs.List.{AllByRecursion}
 use Rattle.std.proofs.lemmas.Bool.{both_ways, false_from_ne_true}
 use Rattle.vms_model.specs.Ids.{Id}
 use Rattle.vms_model.specs.Transactions.{Outcome}
-use Rattle.records_model.specs.Records.{Change}
-use Rattle.records_model.specs.History.{same_id}
-use Rattle.unit_laws.specs.Units.{has_changes}
-use Rattle.unit_laws.specs.Journal.{Journal, JournalEntry, PreparedEntry, SettledEntry, RecoveryUnit, entries_for, find_unit, is_settled_in, is_settling, serial_in, trimmed, units_in, with_entries, with_settled}
-use Rattle.unit_laws.specs.JournalLaws.{HasEntered, HasSettled, is_unit, unit_or_new, with_more}
-use Rattle.unit_laws.proofs.TrimLemmas.{settles_unit, trim_keeps_units}
-use Rattle.unit_laws.proofs.UnitLemmas.{changes_make_unit, prepares_unit}
-use Rattle.commit_protocol.specs.Table.{Branch, Key, Prepared, Prepares, branch_serials, cut, find, put}
-use Rattle.commit_protocol.specs.Allowed.{is_prepared}
-use Rattle.commit_protocol.specs.Agreement.{Distinct}
-use Rattle.commit_protocol.specs.Standing.{IsThere, IsUnchanged}
-use Rattle.commit_protocol.specs.World.{In}
-use Rattle.commit_protocol.proofs.Lists.{find-key, told_key}
+use Rattle.run_model.specs.records_model.Records.{Change}
+use Rattle.run_model.specs.records_model.History.{same_id}
+use Rattle.run_model.specs.unit_laws.Units.{has_changes}
+use Rattle.run_model.specs.unit_laws.Journal.{Journal, JournalEntry, PreparedEntry, SettledEntry, RecoveryUnit, entries_for, find_unit, is_settled_in, is_settling, serial_in, trimmed, units_in, with_entries, with_settled}
+use Rattle.run_model.specs.unit_laws.JournalLaws.{HasEntered, HasSettled, is_unit, unit_or_new, with_more}
+use Rattle.run_model.proofs.unit_laws.TrimLemmas.{settles_unit, trim_keeps_units}
+use Rattle.run_model.proofs.unit_laws.UnitLemmas.{changes_make_unit, prepares_unit}
+use Rattle.run_model.specs.commit_protocol.Table.{Branch, Key, Prepared, Prepares, branch_serials, cut, find, put}
+use Rattle.run_model.specs.commit_protocol.Allowed.{is_prepared}
+use Rattle.run_model.specs.commit_protocol.Agreement.{Distinct}
+use Rattle.run_model.specs.commit_protocol.Standing.{IsThere, IsUnchanged}
+use Rattle.run_model.specs.commit_protocol.World.{In}
+use Rattle.run_model.proofs.commit_protocol.Lists.{find-key, told_key}
 use Rattle.run_model.specs.World.{IsOfTransaction, with_changed, with_prepared}
 use Rattle.world_laws.specs.Ordered.{is_prepared_in, is_preparing}
 use Rattle.world_laws.specs.Running.{AreEntriesOf, IsBranchOf, IsUnitOf}

@@ -8,14 +8,14 @@ use Rattle.vms_model.specs.Ids.{Id}
 use Rattle.vms_model.specs.Keys.{Key}
 use Rattle.vms_model.specs.Transactions.{Abort, SegFail, Outcome}
 use Rattle.vms_model.specs.Limits.{lock_limit}
-use Rattle.records_model.specs.History.{changes_by, changes_key, same_id, settled_at}
-use Rattle.unit_laws.specs.Units.{moves_end}
-use Rattle.unit_laws.specs.Journal.{ChangeEntry, Journal, JournalEntry, PreparedEntry, RecoveryUnit, SettledEntry, active_units, find_unit, is_settled_in, is_settling, serial_in, trimmed, units_in, units_onto, with_entries, with_one_change, with_prepared, with_settled, without_unit}
-use Rattle.unit_laws.specs.JournalLaws.{HasSettled, is_unit}
-use Rattle.unit_laws.proofs.NoteLemmas.{settles_keep_notes}
-use Rattle.commit_protocol.specs.Messages.{LogRecord}
-use Rattle.commit_protocol.specs.World.{In, undo_all}
-use Rattle.log_laws.specs.Slots.{prepared_of, records_in}
+use Rattle.run_model.specs.records_model.History.{changes_by, changes_key, same_id, settled_at}
+use Rattle.run_model.specs.unit_laws.Units.{moves_end}
+use Rattle.run_model.specs.unit_laws.Journal.{ChangeEntry, Journal, JournalEntry, PreparedEntry, RecoveryUnit, SettledEntry, active_units, find_unit, is_settled_in, is_settling, serial_in, trimmed, units_in, units_onto, with_entries, with_one_change, with_prepared, with_settled, without_unit}
+use Rattle.run_model.specs.unit_laws.JournalLaws.{HasSettled, is_unit}
+use Rattle.run_model.proofs.unit_laws.NoteLemmas.{settles_keep_notes}
+use Rattle.run_model.specs.commit_protocol.Messages.{LogRecord}
+use Rattle.run_model.specs.commit_protocol.World.{In, undo_all}
+use Rattle.run_model.specs.log_laws.Slots.{prepared_of, records_in}
 use Rattle.run_model.specs.Locks.{Lock}
 use Rattle.run_model.specs.World.{Boots, Durable, File, IsLogInOrder, IsOfTransaction, IsReached, Node, Settlement, Shared, acted, booted, find_file, next_moment, prepared_left, relocked, relocked_by, settled_file, settlement, without_units}
 use Rattle.run_model.specs.Answers.{boot_rows, left_active, table_rows, unit_key}

@@ -3,9 +3,9 @@ use Rattle.std.proofs.Common.{◌≡◌, ◌+◌, List, [], ◌∷◌, Bool, tru
 use Rattle.std.specs.Prelude.{is_some}
 use Rattle.std.proofs.lemmas.Bool.{both_ways}
 use Rattle.vms_model.specs.Ids.{Id}
-use Rattle.records_model.specs.History.{same_id}
-use Rattle.unit_laws.specs.Journal.{JournalEntry, ChangeEntry, PreparedEntry, SettledEntry, RecoveryUnit, active_units, find_unit, units_in, units_onto, with_one_change, with_prepared, without_unit}
-use Rattle.unit_laws.proofs.UnitLemmas.{found_changed, found_prepared, found_settled}
+use Rattle.run_model.specs.records_model.History.{same_id}
+use Rattle.run_model.specs.unit_laws.Journal.{JournalEntry, ChangeEntry, PreparedEntry, SettledEntry, RecoveryUnit, active_units, find_unit, units_in, units_onto, with_one_change, with_prepared, without_unit}
+use Rattle.run_model.proofs.unit_laws.UnitLemmas.{found_changed, found_prepared, found_settled}
 use Rattle.world_laws.proofs.IdLemmas.{id_is, id_other}
 use Rattle.world_laws.proofs.FindLemmas.{some_is}
 

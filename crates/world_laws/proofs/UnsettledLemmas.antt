@@ -4,11 +4,11 @@ use Rattle.std.specs.Prelude.{is_some}
 use Rattle.std.specs.List.{AllByRecursion}
 use Rattle.std.proofs.lemmas.Bool.{both_ways, false_from_ne_true}
 use Rattle.vms_model.specs.Ids.{Id}
-use Rattle.records_model.specs.History.{same_id}
-use Rattle.unit_laws.specs.Journal.{ChangeEntry, JournalEntry, PreparedEntry, RecoveryUnit, SettledEntry, find_unit, is_settled_in, is_settling, serial_in, units_after, units_onto, without_unit}
-use Rattle.unit_laws.proofs.Tests.{passed}
-use Rattle.unit_laws.proofs.TrimLemmas.{gone_without}
-use Rattle.unit_laws.proofs.UnitLemmas.{found_changed, found_prepared, found_settled}
+use Rattle.run_model.specs.records_model.History.{same_id}
+use Rattle.run_model.specs.unit_laws.Journal.{ChangeEntry, JournalEntry, PreparedEntry, RecoveryUnit, SettledEntry, find_unit, is_settled_in, is_settling, serial_in, units_after, units_onto, without_unit}
+use Rattle.run_model.proofs.unit_laws.Tests.{passed}
+use Rattle.run_model.proofs.unit_laws.TrimLemmas.{gone_without}
+use Rattle.run_model.proofs.unit_laws.UnitLemmas.{found_changed, found_prepared, found_settled}
 use Rattle.world_laws.specs.Ordered.{AreInOrder, MayFollow, UnitsAreUnsettled}
 use Rattle.world_laws.proofs.IdLemmas.{id_is}
 

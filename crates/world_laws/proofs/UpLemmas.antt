@@ -5,23 +5,23 @@ use Rattle.std.specs.List.{AllByRecursion}
 use Rattle.vms_model.specs.Ids.{Id}
 use Rattle.vms_model.specs.Keys.{Key, End}
 use Rattle.vms_model.specs.Limits.{lock_limit}
-use Rattle.records_model.specs.Records.{Change, Records}
-use Rattle.records_model.specs.History.{LiveChanges, same_id, changes_by, settled_at, changed_with, changed_it}
-use Rattle.unit_laws.specs.Units.{moves_end}
-use Rattle.unit_laws.specs.Journal.{RecoveryUnit, entries_for, find_unit, serial_in, units_in}
-use Rattle.unit_laws.proofs.NoteLemmas.{changes_elsewhere_keep_notes}
-use Rattle.commit_protocol.specs.Messages.{LogRecord, Name}
-use Rattle.commit_protocol.specs.Table as table
-use Rattle.commit_protocol.specs.Table.{Branch, Key as BranchKey, Notes, Accepts, Prepares, Settles, Leaves, Acknowledges, Releases, Undoes, Sends, Prints, Prepared, after_act, branch_serials, find, prepared_records, put, record_serials, records_after, table_after}
-use Rattle.commit_protocol.specs.Allowed.{is_prepared}
-use Rattle.commit_protocol.specs.Agreement.{Distinct}
-use Rattle.commit_protocol.specs.Limits.{BranchWithin}
-use Rattle.commit_protocol.specs.World.{In}
-use Rattle.commit_protocol.proofs.Lists.{in_left}
-use Rattle.commit_protocol.proofs.Serials.{keyed, parts_apart}
+use Rattle.run_model.specs.records_model.Records.{Change, Records}
+use Rattle.run_model.specs.records_model.History.{LiveChanges, same_id, changes_by, settled_at, changed_with, changed_it}
+use Rattle.run_model.specs.unit_laws.Units.{moves_end}
+use Rattle.run_model.specs.unit_laws.Journal.{RecoveryUnit, entries_for, find_unit, serial_in, units_in}
+use Rattle.run_model.proofs.unit_laws.NoteLemmas.{changes_elsewhere_keep_notes}
+use Rattle.run_model.specs.commit_protocol.Messages.{LogRecord, Name}
+use Rattle.run_model.specs.commit_protocol.Table as table
+use Rattle.run_model.specs.commit_protocol.Table.{Branch, Key as BranchKey, Notes, Accepts, Prepares, Settles, Leaves, Acknowledges, Releases, Undoes, Sends, Prints, Prepared, after_act, branch_serials, find, prepared_records, put, record_serials, records_after, table_after}
+use Rattle.run_model.specs.commit_protocol.Allowed.{is_prepared}
+use Rattle.run_model.specs.commit_protocol.Agreement.{Distinct}
+use Rattle.run_model.specs.commit_protocol.Limits.{BranchWithin}
+use Rattle.run_model.specs.commit_protocol.World.{In}
+use Rattle.run_model.proofs.commit_protocol.Lists.{in_left}
+use Rattle.run_model.proofs.commit_protocol.Serials.{keyed, parts_apart}
 use Rattle.run_model.specs.Locks.{Lock, not_locked, with_locks, is_locked}
 use Rattle.run_model.specs.World.{Changes, Creates, Declares, Directs, Draws, File, Holds, IsPreparedUnit, Mark, Marks, Saves, Recovers, Node, Sequential, Settlement, acted, find_file, serials_of, tm_of, with_changed, Durable, Volatile, directly_changed, changed_file, marked_file, recovered_file, saved_file, with_file, with_images}
-use Rattle.recovery_model.specs.Journal as image
+use Rattle.run_model.specs.recovery_model.Journal as image
 use Rattle.std.specs.Prelude.{slice_set}
 use Rattle.world_laws.specs.Running.{AllImages, FileImages, IsDrawn, TellTable, no_history, IsFileHeld}
 use Rattle.world_laws.proofs.ImageLemmas.{images_changed, images_marked, images_recovered, images_settled}
@@ -36,7 +36,7 @@ use Rattle.world_laws.proofs.TableLemmas.{in_serials, same_serials, changed_seri
 use Rattle.world_laws.proofs.ToldLemmas.{UnitsTell, changed_tell, trimmed_tell, id_apart}
 use Rattle.std.specs.Str.{bytes_eq}
 use Rattle.world_laws.proofs.FindLemmas.{placed_file, some_is}
-use Rattle.log_laws.proofs.Slotting.{same_tells}
+use Rattle.run_model.proofs.log_laws.Slotting.{same_tells}
 use Rattle.world_laws.specs.Nodes.{IsFiled, IsOf, IsUp}
 
 -- Ids.

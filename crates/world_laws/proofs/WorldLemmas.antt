@@ -5,11 +5,11 @@ use Rattle.std.specs.Str.{bytes_eq}
 use Rattle.std.proofs.lemmas.Bool.{both_ways}
 use Rattle.std.proofs.lemmas.Slice.Eq.{bytes_eq-Decides}
 use Rattle.vms_model.specs.Ids.{Id}
-use Rattle.unit_laws.specs.Journal.{RecoveryUnit, find_unit, is_settled_in, units_in}
-use Rattle.unit_laws.specs.JournalLaws.{is_unit}
-use Rattle.unit_laws.proofs.NoteLemmas.{unchanged_has_notes}
-use Rattle.commit_protocol.specs.Table.{branch_serials}
-use Rattle.commit_protocol.specs.World.{In}
+use Rattle.run_model.specs.unit_laws.Journal.{RecoveryUnit, find_unit, is_settled_in, units_in}
+use Rattle.run_model.specs.unit_laws.JournalLaws.{is_unit}
+use Rattle.run_model.proofs.unit_laws.NoteLemmas.{unchanged_has_notes}
+use Rattle.run_model.specs.commit_protocol.Table.{branch_serials}
+use Rattle.run_model.specs.commit_protocol.World.{In}
 use Rattle.run_model.specs.World.{AreUnitsOf, File, HavePlainEnds, IsLogInOrder, IsOpening, IsPlainCarried, Node, find_file, find_node, opened, serials_of, TellsUnits, Shared, Act}
 use Rattle.run_model.specs.Transcript.{AreOpening}
 use Rattle.world_laws.specs.Restarts.{AllNoted, CanRestart, HasNoName, NamesDiffer}

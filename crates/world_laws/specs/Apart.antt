@@ -5,8 +5,8 @@ use Rattle.std.specs.Ordering.{eq_by_cmp}
 use Rattle.std.specs.FinMap.{get}
 use Rattle.vms_model.specs.Ids.{Id}
 use Rattle.vms_model.specs.Keys.{Key, End}
-use Rattle.script_model.specs.Statements.{Operation}
-use Rattle.records_model.specs.Records.{key_cmp}
+use Rattle.run_model.specs.script_model.Statements.{Operation}
+use Rattle.run_model.specs.records_model.Records.{key_cmp}
 use Rattle.run_model.specs.Locks.{Lock, is_locked, released, with_locks}
 use Rattle.run_model.specs.World.{File}
 use Rattle.run_model.specs.Operations.{current_records, keys_held}

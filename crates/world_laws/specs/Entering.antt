@@ -2,11 +2,11 @@
 use Rattle.std.specs.Prelude.{◌≡◌, List, [], true, None}
 use Rattle.std.specs.List.{AllByRecursion}
 use Rattle.vms_model.specs.Ids.{Id}
-use Rattle.records_model.specs.Records.{Change, Found}
-use Rattle.records_model.specs.History.{changes_by, current}
-use Rattle.unit_laws.specs.Units.{is_free}
-use Rattle.recovery_model.specs.File.{IsOpenIn}
-use Rattle.recovery_model.specs.Room.{full_of}
+use Rattle.run_model.specs.records_model.Records.{Change, Found}
+use Rattle.run_model.specs.records_model.History.{changes_by, current}
+use Rattle.run_model.specs.unit_laws.Units.{is_free}
+use Rattle.run_model.specs.recovery_model.File.{IsOpenIn}
+use Rattle.run_model.specs.recovery_model.Room.{full_of}
 use Rattle.run_model.specs.World.{File, state_of}
 
 -- a branch may make these changes of a file by one statement: it is not settled in the journals where it changed nothing yet; its keys are free for it, and each

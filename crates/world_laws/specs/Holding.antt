@@ -4,9 +4,9 @@ use Rattle.std.specs.List.{AllByRecursion}
 use Rattle.vms_model.specs.Ids.{Id}
 use Rattle.vms_model.specs.Keys.{End}
 use Rattle.vms_model.specs.Limits.{branch_limit, lock_limit}
-use Rattle.records_model.specs.History.{changes_by}
-use Rattle.unit_laws.specs.Units.{moves_end}
-use Rattle.commit_protocol.specs.World.{In}
+use Rattle.run_model.specs.records_model.History.{changes_by}
+use Rattle.run_model.specs.unit_laws.Units.{moves_end}
+use Rattle.run_model.specs.commit_protocol.World.{In}
 use Rattle.run_model.specs.Locks.{Lock, holder}
 use Rattle.run_model.specs.World.{File, Node, Sequential, find_file, serials_of}
 use Rattle.world_laws.specs.Restarts.{AreHeld}

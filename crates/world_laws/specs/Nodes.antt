@@ -5,15 +5,15 @@ use Rattle.std.specs.List.{AllByRecursion}
 use Rattle.vms_model.specs.Ids.{Id}
 use Rattle.vms_model.specs.Keys.{End}
 use Rattle.vms_model.specs.Limits.{lock_limit, slot_limit}
-use Rattle.records_model.specs.History.{History, changes_by, current}
-use Rattle.unit_laws.specs.Journal.{JournalEntry, serial_in}
-use Rattle.log_laws.specs.Slots.{size}
-use Rattle.recovery_model.specs.Journal as image
+use Rattle.run_model.specs.records_model.History.{History, changes_by, current}
+use Rattle.run_model.specs.unit_laws.Journal.{JournalEntry, serial_in}
+use Rattle.run_model.specs.log_laws.Slots.{size}
+use Rattle.run_model.specs.recovery_model.Journal as image
 use Rattle.run_model.specs.World.{Act, ComesUp, DiskCounts, Durable, File, FollowOneAnother, IsLogInOrder, IsPlainCarried, KeepsImages, Node, OneMovesEndOf, Shared, acted, booted, durable_after, find_file, find_node, is_durable, tm_of}
 use Rattle.run_model.specs.Answers.{Row, Task, boot_rows, refused_before_reading, task_service}
 use Rattle.run_model.specs.Steps.{NodeStep, node_after, node_after_rows}
 use Rattle.run_model.specs.Transcript.{InAllRuns}
-use Rattle.transcript_model.specs.Lines.{Line}
+use Rattle.run_model.specs.transcript_model.Lines.{Line}
 use Rattle.world_laws.specs.Restarts.{CanRestart, NamesDiffer}
 use Rattle.world_laws.specs.Running.{AllFound, FileImages, IsHolding, IsRunning, IsUnnoted, TellTable}
 

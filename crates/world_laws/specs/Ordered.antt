@@ -4,13 +4,13 @@ use Rattle.std.specs.List.{AllByRecursion, list_any}
 use Rattle.vms_model.specs.Ids.{Id}
 use Rattle.vms_model.specs.Keys.{Key, Number, Text}
 use Rattle.vms_model.specs.Limits.{branch_limit, change_limit}
-use Rattle.records_model.specs.Records.{Change, Records}
-use Rattle.records_model.specs.History.{same_id}
-use Rattle.unit_laws.specs.Units.{Map, has_changes}
-use Rattle.unit_laws.specs.Journal.{JournalEntry, ChangeEntry, PreparedEntry, SettledEntry, RecoveryUnit, entries_for, entries_size, find_unit, is_of_file, is_settled_in, is_settling, owed, serial_in, units_after, units_in}
-use Rattle.unit_laws.specs.JournalLaws.{is_unit}
-use Rattle.commit_protocol.specs.Table as table
-use Rattle.commit_protocol.specs.Table.{Key as BranchKey, Prepares, Undoes}
+use Rattle.run_model.specs.records_model.Records.{Change, Records}
+use Rattle.run_model.specs.records_model.History.{same_id}
+use Rattle.run_model.specs.unit_laws.Units.{Map, has_changes}
+use Rattle.run_model.specs.unit_laws.Journal.{JournalEntry, ChangeEntry, PreparedEntry, SettledEntry, RecoveryUnit, entries_for, entries_size, find_unit, is_of_file, is_settled_in, is_settling, owed, serial_in, units_after, units_in}
+use Rattle.run_model.specs.unit_laws.JournalLaws.{is_unit}
+use Rattle.run_model.specs.commit_protocol.Table as table
+use Rattle.run_model.specs.commit_protocol.Table.{Key as BranchKey, Prepares, Undoes}
 use Rattle.run_model.specs.World.{Durable, Volatile, File, IsOfTransaction, Organization, Sequential, Relative, Indexed, Settlement, Mark, Boots, Changes, Creates, Directs, Formats, Marks, Saves, Recovers, Tables, changes_made, durable_after, find_file, free_place, tid_in, with_half}
 use Rattle.run_model.specs.Operations.{key_within}
 use Rattle.run_model.specs.Answers.{owed_first}

@@ -4,12 +4,12 @@ use Rattle.std.specs.List.{list_any, AllByRecursion}
 use Rattle.vms_model.specs.Ids.{Id}
 use Rattle.vms_model.specs.Transactions.{Commit}
 use Rattle.vms_model.specs.Keys.{Key}
-use Rattle.records_model.specs.Records.{Change, Found, Records}
-use Rattle.records_model.specs.History.{LiveChanges, changes_by, changes_key, records, current}
-use Rattle.unit_laws.specs.Units.{Map, SerialsDiffer, has_changes, is_free}
-use Rattle.unit_laws.specs.Journal.{Journal, RecoveryUnit, find_unit, is_of_file, is_settled_in, units_in}
-use Rattle.unit_laws.specs.JournalLaws.{HasNotes, is_unit}
-use Rattle.commit_protocol.specs.Table as table
+use Rattle.run_model.specs.records_model.Records.{Change, Found, Records}
+use Rattle.run_model.specs.records_model.History.{LiveChanges, changes_by, changes_key, records, current}
+use Rattle.run_model.specs.unit_laws.Units.{Map, SerialsDiffer, has_changes, is_free}
+use Rattle.run_model.specs.unit_laws.Journal.{Journal, RecoveryUnit, find_unit, is_of_file, is_settled_in, units_in}
+use Rattle.run_model.specs.unit_laws.JournalLaws.{HasNotes, is_unit}
+use Rattle.run_model.specs.commit_protocol.Table as table
 use Rattle.run_model.specs.World.{Shared, Node, Durable, Volatile, File, IsHalfUndone, IsPreparedUnit, Mark, Changes, Creates, Directs, Marks, Saves, Recovers, Tables, durable_after, find_file, with_half}
 use Rattle.run_model.specs.Locks.{Lock, holder}
 use Rattle.run_model.specs.Answers.{boot_rows, held_against, keys_refused}

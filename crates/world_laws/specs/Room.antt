@@ -2,14 +2,14 @@
 use Rattle.std.specs.Prelude.{◌≡◌, ◌≤◌, ◌<◌, ℕ, ◌+◌, ◌*◌, List, true, false, None, length}
 use Rattle.vms_model.specs.Ids.{Id}
 use Rattle.vms_model.specs.Limits.{branch_limit, change_limit}
-use Rattle.records_model.specs.Records.{Change}
-use Rattle.unit_laws.specs.Units.{has_changes}
-use Rattle.unit_laws.specs.Journal.{entries_for, entries_size, find_unit, owed, units_in}
-use Rattle.unit_laws.specs.JournalLaws.{is_unit}
-use Rattle.commit_protocol.specs.Table.{Branch}
+use Rattle.run_model.specs.records_model.Records.{Change}
+use Rattle.run_model.specs.unit_laws.Units.{has_changes}
+use Rattle.run_model.specs.unit_laws.Journal.{entries_for, entries_size, find_unit, owed, units_in}
+use Rattle.run_model.specs.unit_laws.JournalLaws.{is_unit}
+use Rattle.run_model.specs.commit_protocol.Table.{Branch}
 use Rattle.run_model.specs.World.{Node, changes_made, serials_of}
 use Rattle.run_model.specs.Answers.{journal_full, more_changes, owed_first}
-use Rattle.commit_protocol.specs.World.{In}
+use Rattle.run_model.specs.commit_protocol.World.{In}
 use Rattle.world_laws.specs.Ordered.{IsJournalInOrder}
 
 -- With these changes of a file a branch makes no more than it may, and the journal has room for their entries and for what the branch is owed.

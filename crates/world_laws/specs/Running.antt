@@ -5,18 +5,18 @@ use Rattle.std.specs.FinMap.{empty}
 use Rattle.vms_model.specs.Ids.{Id}
 use Rattle.vms_model.specs.Keys.{Key}
 use Rattle.vms_model.specs.Limits.{lock_limit}
-use Rattle.records_model.specs.History.{History, LiveChanges, changes_by, changes_key, same_id}
-use Rattle.unit_laws.specs.Journal.{Journal, JournalEntry, RecoveryUnit, find_unit, is_settled_in, serial_in, units_in}
-use Rattle.unit_laws.specs.JournalLaws.{HasNotes, is_unit}
-use Rattle.commit_protocol.specs.Table.{Branch, branch_serials, record_serials}
-use Rattle.commit_protocol.specs.Limits.{TmWithin}
-use Rattle.commit_protocol.specs.Allowed.{is_prepared}
-use Rattle.commit_protocol.specs.Standing.{HasApartLog}
-use Rattle.commit_protocol.specs.World.{In}
-use Rattle.log_laws.specs.Slots.{LogTells, size}
+use Rattle.run_model.specs.records_model.History.{History, LiveChanges, changes_by, changes_key, same_id}
+use Rattle.run_model.specs.unit_laws.Journal.{Journal, JournalEntry, RecoveryUnit, find_unit, is_settled_in, serial_in, units_in}
+use Rattle.run_model.specs.unit_laws.JournalLaws.{HasNotes, is_unit}
+use Rattle.run_model.specs.commit_protocol.Table.{Branch, branch_serials, record_serials}
+use Rattle.run_model.specs.commit_protocol.Limits.{TmWithin}
+use Rattle.run_model.specs.commit_protocol.Allowed.{is_prepared}
+use Rattle.run_model.specs.commit_protocol.Standing.{HasApartLog}
+use Rattle.run_model.specs.commit_protocol.World.{In}
+use Rattle.run_model.specs.log_laws.Slots.{LogTells, size}
 use Rattle.run_model.specs.Locks.{Lock, holder}
-use Rattle.recovery_model.specs.Journal as image
-use Rattle.recovery_model.specs.File.{all_of}
+use Rattle.run_model.specs.recovery_model.Journal as image
+use Rattle.run_model.specs.recovery_model.File.{all_of}
 use Rattle.run_model.specs.World.{Carried, File, IsOfTransaction, IsPreparedUnit, Node, find_file, serial_of_image, serials_of, tm_of}
 use Rattle.world_laws.specs.Ordered.{is_prepared_in}
 use Rattle.world_laws.specs.Holding.{IsEndHeld}

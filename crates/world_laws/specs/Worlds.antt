@@ -1,13 +1,13 @@
 -- What holds of each node in each world that a legal transcript leads to.
 use Rattle.std.specs.Prelude.{◌≡◌, ◌≤◌, ℕ, List, [], true, false, Some, length}
 use Rattle.vms_model.specs.Ids.{Id}
-use Rattle.script_model.specs.Statements.{Operation}
-use Rattle.records_model.specs.Records.{Found}
-use Rattle.records_model.specs.History.{current}
-use Rattle.unit_laws.specs.Journal.{is_settled_in, notes_in}
-use Rattle.unit_laws.specs.JournalLaws.{is_unit}
-use Rattle.commit_protocol.specs.World.{In}
-use Rattle.log_laws.specs.Slots.{size}
+use Rattle.run_model.specs.script_model.Statements.{Operation}
+use Rattle.run_model.specs.records_model.Records.{Found}
+use Rattle.run_model.specs.records_model.History.{current}
+use Rattle.run_model.specs.unit_laws.Journal.{is_settled_in, notes_in}
+use Rattle.run_model.specs.unit_laws.JournalLaws.{is_unit}
+use Rattle.run_model.specs.commit_protocol.World.{In}
+use Rattle.run_model.specs.log_laws.Slots.{size}
 use Rattle.run_model.specs.World.{AreUnitsOf, File, IsLogInOrder, Node, find_file, find_node, serials_of, tm_of}
 use Rattle.run_model.specs.Operations.{changes_of}
 use Rattle.run_model.specs.Transcript.{InAllRuns}

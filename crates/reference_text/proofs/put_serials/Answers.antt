@@ -2,7 +2,7 @@ use Rattle.std.proofs.Common.{◌∙◌, ◌∷◌, ◌++◌, List, ℕ, ap, sym
 use Rattle.std.specs.Prelude.{map}
 use Rattle.std.proofs.lemmas.Result.{IfOk-equal}
 use Rattle.vms_model.specs.Texts.{id_text}
-use Rattle.transcript_model.specs.Lines.{ids_text}
+use Rattle.reference_index.specs.transcript_model.Lines.{ids_text}
 use Rattle.vms_base.specs.Ids.{serial_of}
 use Rattle.vms_base.specs.declared.ids.Serial.{Serial}
 use Rattle.reference_index.proofs.ListLemmas.{behind_first, parts}

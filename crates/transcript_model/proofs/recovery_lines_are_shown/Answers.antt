@@ -1,6 +1,6 @@
 use Rattle.std.proofs.Common.{refl}
 use Rattle.std.specs.Fmt.{digits}
-use Rattle.vms_model.specs.Times.{time_text, day_after}
+use Rattle.commit_protocol.specs.vms_model.Times.{time_text, day_after}
 use Rattle.transcript_model.proofs.recovery_lines_are_shown.Goals as goal
 
 pub returns : goal.returns

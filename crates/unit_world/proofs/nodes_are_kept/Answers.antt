@@ -1,4 +1,4 @@
-use Rattle.lmcp_log.proofs.SlotLemmas.{none_forgotten}
+use Rattle.recovery_units.proofs.lmcp_log.SlotLemmas.{none_forgotten}
 use Rattle.volume_laws.proofs.WholeLemmas.{volume_falls}
 use Rattle.unit_world.proofs.Keeping.{begins, comes, stays, tables}
 use Rattle.unit_world.proofs.Leaving.{boots, down, formats}

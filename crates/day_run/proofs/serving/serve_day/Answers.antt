@@ -1,8 +1,8 @@
 use Rattle.std.proofs.Common.{◌+◌, ◌^◌, ◌<◌, ◌++◌, length, length-append, refl, sym, ◌∙◌, ap, subst, arith}
 use Rattle.std.specs.Option.{option_map}
-use Rattle.script_model.specs.Grammar.{reading}
+use Rattle.script_lang.specs.script_model.Grammar.{reading}
 use Rattle.script_lang.specs.Statements.{statement_of}
-use Rattle.run_model.specs.World.{opened}
+use Rattle.world_laws.specs.run_model.World.{opened}
 use Rattle.run_nodes.specs.Held.{kept_all, names_of}
 use Rattle.run_nodes.specs.Names.{AreApart}
 use Rattle.run_nodes.specs.Together.{AnswersTogether, disks_of, said_together}

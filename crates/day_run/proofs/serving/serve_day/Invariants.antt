@@ -1,7 +1,7 @@
 use Rattle.std.proofs.Common.{◌≡◌, ◌+◌, ◌≤◌, List, length}
 use Rattle.block_disk.specs.Disk.{CallLog}
-use Rattle.run_model.specs.World.{DiskCounts, Node, opened}
-use Rattle.run_model.specs.Transcript.{AreOpening}
+use Rattle.world_laws.specs.run_model.World.{DiskCounts, Node, opened}
+use Rattle.world_laws.specs.run_model.Transcript.{AreOpening}
 use Rattle.run_nodes.specs.Held.{AreNodes, kept_all, names_of}
 use Rattle.run_nodes.specs.Together.{StandsTogether, disks_of, said_together}
 use Rattle.day_model.specs.Readings.{AllSpeak}

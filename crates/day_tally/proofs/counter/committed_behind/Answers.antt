@@ -1,5 +1,5 @@
 use Rattle.std.proofs.Common.{◌≡◌, ◌+◌, ◌-◌, ◌^◌, ◌<◌, ℕ, Bool, true, false, if◌then◌else◌, min, sym, ◌∙◌, ap, arith}
-use Rattle.commit_protocol.specs.Messages.{same_id}
+use Rattle.net_wire.specs.commit_protocol.Messages.{same_id}
 use Rattle.vms_base.specs.Ids.{serial_of, tid_of}
 use Rattle.emitter_model.specs.Tally.{commits_in}
 use Rattle.transcript.specs.Forms.{line_of}

@@ -1,5 +1,5 @@
 use Rattle.std.proofs.Common.{◌≡◌, ◌≤◌, max, take, length}
-use Rattle.image_room.specs.Room.{images_end}
+use Rattle.recovery_units.specs.image_room.Room.{images_end}
 use Rattle.dtm_node.proofs.boot.last_position.Given as goal
 
 abbrev pub invariant-loop-file : goal.invariant-loop-file

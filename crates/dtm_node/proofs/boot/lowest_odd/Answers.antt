@@ -1,6 +1,6 @@
 use Rattle.std.proofs.Common.{◌≡◌, ◌<◌, ℕ, ap, min, length, sym, ◌∙◌, arith}
 use Rattle.std.specs.Option.{option_copied}
-use Rattle.volume_model.specs.Bars.{odd_ring, odd_root}
+use Rattle.recovery_units.specs.volume_model.Bars.{odd_ring, odd_root}
 use Rattle.dtm_node.proofs.Raising.{lowest_before, lowest_whole, lowest_with}
 use Rattle.dtm_node.proofs.boot.lowest_odd.Goals.{in-Some, in_default}
 use Rattle.dtm_node.proofs.boot.lowest_odd.Goals as goal

@@ -1,5 +1,5 @@
 use Rattle.std.proofs.Common.{◌≡◌, ◌≤◌, take, length}
-use Rattle.volume_model.specs.Bars.{lowest_odd_ring, lowest_odd_root}
+use Rattle.recovery_units.specs.volume_model.Bars.{lowest_odd_ring, lowest_odd_root}
 use Rattle.dtm_node.proofs.boot.lowest_odd.Given as goal
 
 abbrev pub invariant-loop-file : goal.invariant-loop-file

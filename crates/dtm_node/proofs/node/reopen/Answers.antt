@@ -4,11 +4,11 @@ use Rattle.emitter_model.specs.Emitting.{Emits}
 use Rattle.vms_base.specs.Ids.{serial_of}
 use Rattle.vms_base.specs.declared.protocol.LogRec.{LogRec}
 use Rattle.volume_format.specs.declared.home.Home.{Home}
-use Rattle.commit_protocol.specs.Table.{record_serials}
+use Rattle.emitter_model.specs.commit_protocol.Table.{record_serials}
 use Rattle.tm_types.specs.Parts.{log_record_of}
 use Rattle.recovery_units.specs.Told.{ReopenedTold}
 use Rattle.recovery_units.specs.declared.settled.SettledUnit.{SettledUnit}
-use Rattle.node_table.specs.Code.{stored_of}
+use Rattle.node_requests.specs.node_table.Code.{stored_of}
 use Rattle.dtm_node.specs.Nodes.{last_lines_of, undone_line}
 use Rattle.dtm_node.specs.Opening.{prepared_told}
 use Rattle.dtm_node.proofs.Reopening.{reopened_down, reopened_up, three_shown, undone_times}

@@ -1,9 +1,9 @@
 use Rattle.std.proofs.Common.{◌∙◌, ◌+◌, sym, refl, ap, subst, arith}
 use Rattle.script_lang.specs.Statements.{statement_of}
-use Rattle.run_nodes.specs.Held.{kept_all, names_of}
-use Rattle.run_nodes.specs.Names.{AreApart}
-use Rattle.run_nodes.specs.Together.{disks_of, said_together}
-use Rattle.run_nodes.proofs.Entries.{more_nodes, same_names}
+use Rattle.day_run.specs.run_nodes.Held.{kept_all, names_of}
+use Rattle.day_run.specs.run_nodes.Names.{AreApart}
+use Rattle.day_run.specs.run_nodes.Together.{disks_of, said_together}
+use Rattle.day_run.proofs.run_nodes.Entries.{more_nodes, same_names}
 use Rattle.day_run.proofs.Reading.{read_bad, read_blank, read_says, timely}
 use Rattle.dtm_run.proofs.Driving.{going_bad, going_blank, going_cut, going_done, going_first, going_read_fault, going_served, going_too_long, going_too_many, runs_as, stands_leaves}
 use Rattle.dtm_run.proofs.Leading.{all_stay, go_on, tells_go, way_next}

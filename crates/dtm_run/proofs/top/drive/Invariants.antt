@@ -1,9 +1,9 @@
 use Rattle.std.proofs.Common.{◌≡◌, ◌≤◌, List, false}
 use Rattle.transcript.specs.Reading.{IsSound, lines_ahead, taken_bytes}
-use Rattle.run_model.specs.World.{Node}
-use Rattle.run_model.specs.Transcript.{AreOpening}
-use Rattle.run_nodes.specs.Held.{AreNodes, kept_all, names_of}
-use Rattle.run_nodes.specs.Together.{disks_of, said_together}
+use Rattle.world_laws.specs.run_model.World.{Node}
+use Rattle.world_laws.specs.run_model.Transcript.{AreOpening}
+use Rattle.day_run.specs.run_nodes.Held.{AreNodes, kept_all, names_of}
+use Rattle.day_run.specs.run_nodes.Together.{disks_of, said_together}
 use Rattle.dtm_run.specs.Headline.{AllGo, DisksRepresent}
 use Rattle.dtm_run.proofs.Driving.{Going}
 use Rattle.dtm_run.proofs.Telling.{Telling}

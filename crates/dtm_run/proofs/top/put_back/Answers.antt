@@ -1,11 +1,11 @@
 use Rattle.std.proofs.Common.{◌<◌, [], ◌∷◌, ◌++◌, map, take, drop, length, refl, sym, ◌∙◌, ap, subst, arith}
 use Rattle.std.proofs.lemmas.List.{length-map}
-use Rattle.dtm_node.specs.Nodes.{kept_of, state_of}
-use Rattle.node_standing.specs.Standing.{disk_in}
-use Rattle.run_nodes.specs.Held.{kept_all, names_of}
-use Rattle.run_nodes.specs.Names.{is_among}
-use Rattle.run_nodes.specs.Together.{disks_of}
-use Rattle.run_nodes.proofs.Places.{get_map}
+use Rattle.day_run.specs.dtm_node.Nodes.{kept_of, state_of}
+use Rattle.day_run.specs.node_standing.Standing.{disk_in}
+use Rattle.day_run.specs.run_nodes.Held.{kept_all, names_of}
+use Rattle.day_run.specs.run_nodes.Names.{is_among}
+use Rattle.day_run.specs.run_nodes.Together.{disks_of}
+use Rattle.day_run.proofs.run_nodes.Places.{get_map}
 use Rattle.dtm_run.proofs.RackLemmas.{names_more, states_more}
 use Rattle.dtm_run.proofs.Taking.{drop_some, next_out, none_some, not_before, pair_of, take_all, take_next}
 use Rattle.dtm_run.proofs.top.put_back.Goals as goal

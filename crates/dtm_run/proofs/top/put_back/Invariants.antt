@@ -1,7 +1,7 @@
 use Rattle.std.proofs.Common.{◌≡◌, ◌+◌, ◌≤◌, take, drop}
 use Rattle.indexmap.specs.IndexMap.{spare}
-use Rattle.run_nodes.specs.Held.{kept_all, names_of}
-use Rattle.run_nodes.specs.Together.{disks_of}
+use Rattle.day_run.specs.run_nodes.Held.{kept_all, names_of}
+use Rattle.day_run.specs.run_nodes.Together.{disks_of}
 use Rattle.dtm_run.specs.Racks.{names_in, states_in}
 use Rattle.dtm_run.proofs.top.put_back.Given as goal
 

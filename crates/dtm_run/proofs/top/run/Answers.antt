@@ -1,6 +1,6 @@
 use Rattle.std.proofs.Common.{◌≡◌, ◌⊎◌, inl, sym, refl, ap, subst, map, string_bytes, rules}
 use Rattle.day_script.specs.Days.{asked_of}
-use Rattle.day_model.specs.Command.{Asked, day_asked}
+use Rattle.day_script.specs.day_model.Command.{Asked, day_asked}
 use Rattle.script_model.specs.Command.{is_run_form}
 use Rattle.dtm_run.specs.Days.{DayRan, DayTold}
 use Rattle.dtm_run.specs.Headline.{is_command}

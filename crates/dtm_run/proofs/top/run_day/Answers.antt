@@ -1,9 +1,9 @@
 use Rattle.std.proofs.Common.{◌≤◌, inl, inr, map, length, refl, sym, ◌∙◌, ap, subst, arith}
-use Rattle.node_standing.specs.Standing.{counts_of}
-use Rattle.run_nodes.specs.Held.{kept_all, names_of}
-use Rattle.run_nodes.specs.Names.{AreApart}
-use Rattle.run_nodes.specs.Together.{disks_of}
-use Rattle.run_nodes.proofs.Entries.{same_names}
+use Rattle.day_run.specs.node_standing.Standing.{counts_of}
+use Rattle.day_run.specs.run_nodes.Held.{kept_all, names_of}
+use Rattle.day_run.specs.run_nodes.Names.{AreApart}
+use Rattle.day_run.specs.run_nodes.Together.{disks_of}
+use Rattle.day_run.proofs.run_nodes.Entries.{same_names}
 use Rattle.day_run.specs.Serving.{AreLarge}
 use Rattle.day_tally.specs.Counters.{tallied_in}
 use Rattle.transcript.specs.Emitters.{shown_by}

@@ -1,7 +1,7 @@
 use Rattle.std.proofs.Common.{◌≤◌, map, length, refl, sym, ◌∙◌, ap, subst, arith}
-use Rattle.run_nodes.specs.Held.{kept_all, names_of}
-use Rattle.run_nodes.specs.Names.{AreApart}
-use Rattle.run_nodes.specs.Together.{disks_of}
+use Rattle.day_run.specs.run_nodes.Held.{kept_all, names_of}
+use Rattle.day_run.specs.run_nodes.Names.{AreApart}
+use Rattle.day_run.specs.run_nodes.Together.{disks_of}
 use Rattle.dtm_run.specs.Racks.{names_in, states_in}
 use Rattle.dtm_run.specs.Headline.{AllGo}
 use Rattle.dtm_run.proofs.Leading.{all_stay}

@@ -1,7 +1,7 @@
 use Rattle.std.proofs.Common.{◌<◌, [], ◌∷◌, ◌++◌, map, take, drop, length, refl, sym, ◌∙◌, ap, subst, arith}
 use Rattle.std.proofs.lemmas.List.{length-map}
-use Rattle.run_nodes.specs.Names.{is_among}
-use Rattle.run_nodes.proofs.Places.{get_map}
+use Rattle.day_run.specs.run_nodes.Names.{is_among}
+use Rattle.day_run.proofs.run_nodes.Places.{get_map}
 use Rattle.dtm_run.specs.Racks.{names_in}
 use Rattle.dtm_run.specs.Taking.{AreNew}
 use Rattle.dtm_run.proofs.Taking.{drop_all, drop_some, new_more, new_names, next_out, none_some, not_before, take_all, take_map}

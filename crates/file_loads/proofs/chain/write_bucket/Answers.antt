@@ -1,7 +1,7 @@
 use Rattle.std.proofs.Common.{◌-◌, ◌*◌, ℕ, map, take, drop, length, nat_lt, List, subst}
 use Rattle.bucket_page.specs.Pages.{Packs}
-use Rattle.load_laws.specs.Pages.{Slots}
-use Rattle.load_laws.specs.Chains.{next_for}
+use Rattle.load_pages.specs.load_laws.Pages.{Slots}
+use Rattle.load_pages.specs.load_laws.Chains.{next_for}
 use Rattle.load_pages.specs.Given.{raw_of}
 use Rattle.file_loads.proofs.chain.write_bucket.Goals as goal
 

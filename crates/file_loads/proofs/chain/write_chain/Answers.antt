@@ -1,8 +1,8 @@
 use Rattle.std.proofs.Common.{◌-◌, ◌*◌, [], ◌∷◌, map, take, drop, nat_lt, sym, subst, ◌∙◌, arith}
 use Rattle.std.proofs.lemmas.List.{length-map}
-use Rattle.load_laws.specs.Pages.{Slots, Adds}
-use Rattle.load_laws.specs.Chains.{next_for}
-use Rattle.load_laws.proofs.ChainLemmas.{packed_some}
+use Rattle.load_pages.specs.load_laws.Pages.{Slots, Adds}
+use Rattle.load_pages.specs.load_laws.Chains.{next_for}
+use Rattle.load_pages.proofs.load_laws.ChainLemmas.{packed_some}
 use Rattle.load_pages.specs.Given.{raw_of}
 use Rattle.file_loads.proofs.LoopLemmas.{chain_first, chain_more, chain_done, chain_room, stand_none}
 use Rattle.file_loads.proofs.WriteLemmas.{written_more, leaves_later, quiet_more, on_err_any}

@@ -3,7 +3,7 @@ use Rattle.block_disk.specs.Disk.{DiskState}
 use Rattle.careful_write.specs.Down.{Counts}
 use Rattle.careful_write.specs.State.{StoreState}
 use Rattle.careful_write.specs.Steps.{Quiet}
-use Rattle.load_laws.specs.Pages.{Page, IsPage, Adds}
+use Rattle.load_pages.specs.load_laws.Pages.{Page, IsPage, Adds}
 use Rattle.file_loads.proofs.PageLemmas.{adds_one}
 use Rattle.file_loads.proofs.WriteLemmas.{ready_staged, disk_staged, written_staged, written_applied, down_applied, adds_applied, quiet_self}
 use Rattle.file_loads.proofs.group.put_bucket.Goals as goal

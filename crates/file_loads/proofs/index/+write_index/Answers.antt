@@ -1,9 +1,9 @@
 use Rattle.std.proofs.Common.{◌≡◌, ◌<◌, ◌≤◌, ◌+◌, ℕ, List, Option, length, sym, ap, subst, ◌∙◌, arith}
 use Rattle.change_set.specs.Files.{free_frames}
-use Rattle.index_bucket.specs.Entries.{sizes_of}
-use Rattle.load_laws.specs.Pages.{Adds}
+use Rattle.index_blocks.specs.index_bucket.Entries.{sizes_of}
+use Rattle.load_pages.specs.load_laws.Pages.{Adds}
 use Rattle.load_model.specs.Nodes.{level_over}
-use Rattle.load_laws.specs.Keys.{every, entry_pages, index_pages}
+use Rattle.load_pages.specs.load_laws.Keys.{every, entry_pages, index_pages}
 use Rattle.file_loads.proofs.IndexLemmas.{index_more, index_room, kept_up, kept_sized, every_fewer}
 use Rattle.file_loads.proofs.WriteLemmas.{placed_later, leaves_later, on_ok_then, on_err_then}
 use Rattle.file_loads.proofs.index.+write_index.Goals as goal

@@ -1,8 +1,8 @@
 use Rattle.std.proofs.Common.{◌≡◌, ◌+◌, ◌-◌, [], ◌∷◌, take, drop, length, min, refl, ap, subst, ◌∙◌, arith}
-use Rattle.index_bucket.specs.Entries.{sizes_of}
+use Rattle.index_blocks.specs.index_bucket.Entries.{sizes_of}
 use Rattle.load_model.specs.Nodes.{entries_by}
-use Rattle.load_laws.specs.Pages.{Adds}
-use Rattle.load_laws.specs.Keys.{entry_pages}
+use Rattle.load_pages.specs.load_laws.Pages.{Adds}
+use Rattle.load_pages.specs.load_laws.Keys.{entry_pages}
 use Rattle.file_loads.proofs.LoopLemmas.{level_none, level_more, level_room, level_done}
 use Rattle.file_loads.proofs.PageLemmas.{adds_none}
 use Rattle.file_loads.proofs.IndexLemmas.{sized_part}

@@ -1,6 +1,6 @@
 use Rattle.std.proofs.Common.{◌≡◌, ◌≤◌, ◌-◌, length}
 use Rattle.careful_write.specs.Steps.{Quiet}
-use Rattle.index_bucket.specs.Entries.{sizes_of}
+use Rattle.index_blocks.specs.index_bucket.Entries.{sizes_of}
 use Rattle.file_loads.specs.Writes.{HasWritten}
 use Rattle.file_loads.proofs.LoopLemmas.{LevelTo}
 use Rattle.file_loads.proofs.index.write_level.Given as goal

@@ -1,4 +1,4 @@
-use Rattle.load_laws.specs.Pages.{Entries}
+use Rattle.load_pages.specs.load_laws.Pages.{Entries}
 use Rattle.load_model.specs.Nodes.{entries_by}
 use Rattle.file_loads.proofs.WriteLemmas.{on_ok_then}
 use Rattle.file_loads.proofs.index.write_node.Goals as goal

@@ -2,10 +2,10 @@ use Rattle.std.proofs.Common.{◌≡◌, ◌-◌, ◌*◌, ℕ, [], List, map, s
 use Rattle.file_base.specs.declared.head.FileHead.{FileHead}
 use Rattle.file_base.specs.declared.head.Organization.{Organization}
 use Rattle.file_base.specs.declared.head.Organization.TheVariants.{Indexed}
-use Rattle.indexed_file.specs.Chain.{HasKeys, kind_of}
-use Rattle.load_laws.specs.Chains.{packed}
-use Rattle.load_laws.specs.Keys.{lowest_keys}
-use Rattle.load_laws.specs.Loads.{AllSuitBy, HeadBy}
+use Rattle.load_pages.specs.indexed_file.Chain.{HasKeys, kind_of}
+use Rattle.load_pages.specs.load_laws.Chains.{packed}
+use Rattle.load_pages.specs.load_laws.Keys.{lowest_keys}
+use Rattle.load_pages.specs.load_laws.Loads.{AllSuitBy, HeadBy}
 use Rattle.load_pages.specs.declared.records.KeyedRecord.{KeyedRecord}
 use Rattle.load_pages.specs.Given.{keyed, raw_of}
 use Rattle.file_loads.specs.Failing.{HasKeysBy, HasKeysFor}

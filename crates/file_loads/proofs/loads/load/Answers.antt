@@ -2,11 +2,11 @@ use Rattle.std.proofs.Common.{ℕ, List, map, Option, Some, None, IfSome, sym, s
 use Rattle.block_disk.specs.Disk.{DiskState}
 use Rattle.file_base.specs.declared.head.FileHead.{FileHead}
 use Rattle.change_set.specs.Files.{IsPlaced}
-use Rattle.record_files.specs.Any.{IsFile}
-use Rattle.load_laws.specs.Records.{Keyed}
-use Rattle.load_laws.specs.Pages.{StandTold}
-use Rattle.load_laws.specs.Loads.{AreLoadable, IsLoaded, loaded_head, loaded_pages}
-use Rattle.load_laws.proofs.LoadLaws.{pages_load, head_loads}
+use Rattle.load_pages.specs.record_files.Any.{IsFile}
+use Rattle.load_pages.specs.load_laws.Records.{Keyed}
+use Rattle.load_pages.specs.load_laws.Pages.{StandTold}
+use Rattle.load_pages.specs.load_laws.Loads.{AreLoadable, IsLoaded, loaded_head, loaded_pages}
+use Rattle.load_pages.proofs.load_laws.LoadLaws.{pages_load, head_loads}
 use Rattle.load_pages.specs.Given.{keyed}
 use Rattle.file_loads.proofs.loads.load.Goals as goal
 

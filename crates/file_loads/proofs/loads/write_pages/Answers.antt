@@ -1,9 +1,9 @@
 use Rattle.std.proofs.Common.{◌≤◌, ◌-◌, ◌*◌, ℕ, [], List, map, length, sym, subst}
 use Rattle.file_base.specs.declared.head.Organization.{Organization}
 use Rattle.bucket_page.specs.declared.kind.PageKind.TheVariants.{Seq}
-use Rattle.load_laws.specs.Chains.{packed, chain_pages}
-use Rattle.load_laws.specs.Pages.{StandTold}
-use Rattle.load_laws.specs.Loads.{AllSuitBy, pages_by}
+use Rattle.load_pages.specs.load_laws.Chains.{packed, chain_pages}
+use Rattle.load_pages.specs.load_laws.Pages.{StandTold}
+use Rattle.load_pages.specs.load_laws.Loads.{AllSuitBy, pages_by}
 use Rattle.load_pages.specs.Given.{keyed}
 use Rattle.file_loads.proofs.GivenLemmas.{raws_same, seq_raws, climbs_all, cells_short}
 use Rattle.file_loads.proofs.TreeWrites.{seq_fits}

@@ -1,7 +1,7 @@
 use Rattle.std.proofs.Common.{◌≤◌, ◌+◌, ◌-◌, ◌*◌, ℕ, [], List, map, length, sym, subst, arith}
-use Rattle.indexed_file.specs.Chain.{kind_of}
-use Rattle.load_laws.specs.Chains.{packed}
-use Rattle.load_laws.specs.Keys.{index_pages, AllKeys}
+use Rattle.load_pages.specs.indexed_file.Chain.{kind_of}
+use Rattle.load_pages.specs.load_laws.Chains.{packed}
+use Rattle.load_pages.specs.load_laws.Keys.{index_pages, AllKeys}
 use Rattle.load_pages.specs.Given.{keyed}
 use Rattle.file_loads.proofs.GivenLemmas.{raws_same, text_raws}
 use Rattle.file_loads.proofs.TreeWrites.{tree_fits, tree_stands}

@@ -1,8 +1,8 @@
 use Rattle.std.proofs.Common.{◌≡◌, ◌≤◌, ◌*◌, map, length}
 use Rattle.careful_write.specs.Steps.{Quiet}
-use Rattle.relative_file.specs.Cells.{cells_in}
-use Rattle.load_laws.specs.Pages.{StandTold}
-use Rattle.load_laws.specs.Cells.{cell_pages}
+use Rattle.load_pages.specs.relative_file.Cells.{cells_in}
+use Rattle.load_pages.specs.load_laws.Pages.{StandTold}
+use Rattle.load_pages.specs.load_laws.Cells.{cell_pages}
 use Rattle.load_pages.specs.Given.{keyed}
 use Rattle.load_pages.proofs.CellFills.{Between}
 use Rattle.file_loads.specs.Writes.{HasWritten}

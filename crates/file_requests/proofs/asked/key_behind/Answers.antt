@@ -1,5 +1,5 @@
 use Rattle.std.proofs.Common.{option_map, sym, subst}
-use Rattle.script_model.specs.Statements.{Next}
+use Rattle.script_lang.specs.script_model.Statements.{Next}
 use Rattle.script_lang.specs.Statements.{key_in}
 use Rattle.file_requests.specs.Asking.{IsUnkeyed}
 use Rattle.file_requests.proofs.AskingLemmas.{next_unkeyed}

@@ -1,12 +1,12 @@
 use Rattle.std.proofs.Common.{ℕ, ◌<◌, ◌≤◌, ◌*◌, ◌∷◌, [], ap, sym, subst, ◌∙◌, arith}
 use Rattle.extents.specs.Extents.{IsFreeRun, all_extents}
 use Rattle.volume.specs.Limits.{data_area}
-use Rattle.volume_format.specs.Home.{sizes_of}
+use Rattle.volume.specs.volume_format.Home.{sizes_of}
 use Rattle.script_lang.specs.Statements.{form_of}
 use Rattle.emitter_model.specs.Emitting.{Emits}
-use Rattle.transcript_model.specs.Lines as line
-use Rattle.run_model.specs.Answers.{blocks_for}
-use Rattle.node_table.specs.Code.{stored_of}
+use Rattle.emitter_model.specs.transcript_model.Lines as line
+use Rattle.file_images.specs.run_model.Answers.{blocks_for}
+use Rattle.node_standing.specs.node_table.Code.{stored_of}
 use Rattle.node_files.specs.NewFile.{buckets_in}
 use Rattle.file_requests.proofs.Creating.{Room, create_bad, create_crowded, create_exists, create_full, create_made}
 use Rattle.file_requests.proofs.files.create.Goals as goal

@@ -1,6 +1,6 @@
 use Rattle.std.proofs.Common.{option_map, sym, ap, ◌∙◌}
 use Rattle.vms_base.specs.Ids.{serial_of}
-use Rattle.node_table.specs.Code.{stored_of}
+use Rattle.node_standing.specs.node_table.Code.{stored_of}
 use Rattle.file_requests.proofs.DumpAnswers.{show_absent, show_locked, show_up}
 use Rattle.file_requests.proofs.files.dump.Goals as goal
 

@@ -1,8 +1,8 @@
 use Rattle.std.proofs.Common.{refl, subst}
-use Rattle.volume_format.specs.Head.{head_block_of}
+use Rattle.volume.specs.volume_format.Head.{head_block_of}
 use Rattle.recovery_units.specs.Uses.{Caused, down_of}
-use Rattle.node_table.specs.Code.{stored_of}
-use Rattle.node_table.specs.Standing.{Stored}
+use Rattle.node_standing.specs.node_table.Code.{stored_of}
+use Rattle.node_standing.specs.node_table.Standing.{Stored}
 use Rattle.file_requests.proofs.Making.{file_form, file_new, made_done, made_fell, made_first, placed_new}
 use Rattle.file_requests.proofs.Calls.{caused_counts, caused_on, goes_counts, goes_on}
 use Rattle.file_requests.proofs.files.make_file.Goals as goal

@@ -4,13 +4,13 @@ use Rattle.std.specs.Option.{option_copied}
 use Rattle.change_set.specs.Files.{IsPlaced}
 use Rattle.change_set.specs.Maps.{IsNext, EndsAfter}
 use Rattle.change_set.specs.declared.walk.Place.{Place}
-use Rattle.record_files.specs.Any.{Begins, IsFile, IsLaidOut, map_of}
+use Rattle.file_images.specs.record_files.Any.{Begins, IsFile, IsLaidOut, map_of}
 use Rattle.vms_base.specs.Keys.{key_of}
 use Rattle.emitter_model.specs.Emitting.{Emits}
-use Rattle.transcript_model.specs.Lines as line
+use Rattle.emitter_model.specs.transcript_model.Lines as line
 use Rattle.emitter_model.proofs.EmittingLemmas.{emits_nothing, since_on}
-use Rattle.node_table.specs.Code.{stored_of}
-use Rattle.node_table.specs.Standing.{Stored}
+use Rattle.node_standing.specs.node_table.Code.{stored_of}
+use Rattle.node_standing.specs.node_table.Standing.{Stored}
 use Rattle.node_files.proofs.CatalogLemmas.{placed}
 use Rattle.file_requests.proofs.Dumping.{begins_anew, emits_next, shown_few, shows_all, shows_most}
 use Rattle.file_requests.proofs.Reading.{stored_of_volume, stored_on}

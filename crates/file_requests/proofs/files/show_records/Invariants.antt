@@ -5,9 +5,9 @@ use Rattle.emitter_model.specs.Emitting.{Since}
 use Rattle.vms_model.specs.Keys.{Key}
 use Rattle.vms_base.specs.Keys.{key_of}
 use Rattle.records_model.specs.Records.{Records}
-use Rattle.record_files.specs.Any.{Begins, IsFile, IsLaidOut, map_of}
+use Rattle.file_images.specs.record_files.Any.{Begins, IsFile, IsLaidOut, map_of}
 use Rattle.directory_model.specs.Files.{IsShown}
-use Rattle.node_table.specs.Code.{stored_of}
+use Rattle.node_standing.specs.node_table.Code.{stored_of}
 use Rattle.file_requests.specs.Replying.{ShowsQuietly}
 use Rattle.file_requests.specs.Serving.{SameStored}
 use Rattle.file_requests.proofs.Dumping.{ShowsSome}

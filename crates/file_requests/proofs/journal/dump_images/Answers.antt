@@ -1,6 +1,6 @@
 use Rattle.std.proofs.Common.{sym, ◌∙◌}
 use Rattle.script_lang.specs.Statements.{side_of}
-use Rattle.node_table.specs.Code.{stored_of}
+use Rattle.node_standing.specs.node_table.Code.{stored_of}
 use Rattle.file_requests.proofs.DumpAnswers.{images_absent, images_shown, images_unmarked, ring_here, unmarked_by}
 use Rattle.file_requests.proofs.journal.dump_images.Goals as goal
 

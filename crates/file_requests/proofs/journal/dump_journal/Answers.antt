@@ -1,7 +1,7 @@
 use Rattle.std.proofs.Common.{subst, sym}
 use Rattle.file_base.specs.declared.head.Span.{Span}
 use Rattle.journal_store.specs.Rings.{IsRing}
-use Rattle.node_table.specs.Code.{stored_of}
+use Rattle.node_standing.specs.node_table.Code.{stored_of}
 use Rattle.file_requests.proofs.ImagesShown.{units_ring}
 use Rattle.file_requests.proofs.DumpAnswers.{show_journal}
 use Rattle.file_requests.proofs.journal.dump_journal.Goals as goal

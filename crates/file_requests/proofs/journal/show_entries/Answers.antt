@@ -1,10 +1,10 @@
 use Rattle.std.proofs.Common.{◌≡◌, [], ◌∷◌, sym, ap, refl, subst, ◌∙◌, arith, rules}
 use Rattle.emitter_model.specs.Emitting.{Emits}
-use Rattle.transcript_model.specs.Lines as line
-use Rattle.transcript_model.specs.Lines.{Line}
+use Rattle.emitter_model.specs.transcript_model.Lines as line
+use Rattle.emitter_model.specs.transcript_model.Lines.{Line}
 use Rattle.emitter_model.proofs.EmittingLemmas.{emits_nothing, since_on}
-use Rattle.node_table.specs.Code.{stored_of}
-use Rattle.node_table.specs.Standing.{Stored}
+use Rattle.node_standing.specs.node_table.Code.{stored_of}
+use Rattle.node_standing.specs.node_table.Standing.{Stored}
 use Rattle.file_requests.proofs.Reading.{order_still, stored_on, volume_of_stored}
 use Rattle.file_requests.proofs.Replied.{quiet_none, quiet_on, replies_after}
 use Rattle.file_requests.proofs.JournalShown.{HasShown, entry_cut, entry_done, entry_there, shown_all, shown_none}

@@ -1,7 +1,7 @@
 use Rattle.std.proofs.Common.{◌≡◌, ◌-◌, ℕ, List, Some}
 use Rattle.emitter_model.specs.Emitting.{Since}
-use Rattle.unit_laws.specs.Journal.{Journal}
-use Rattle.node_table.specs.Code.{stored_of}
+use Rattle.file_images.specs.unit_laws.Journal.{Journal}
+use Rattle.node_standing.specs.node_table.Code.{stored_of}
 use Rattle.file_requests.specs.Replying.{ShowsQuietly}
 use Rattle.file_requests.specs.Listing.{HasShowable}
 use Rattle.file_requests.specs.Serving.{SameStored}

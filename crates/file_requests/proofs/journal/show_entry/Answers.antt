@@ -1,10 +1,10 @@
 use Rattle.std.proofs.Common.{◌≡◌, [], ◌∷◌, Option, Some, None, ap, subst}
 use Rattle.transcript.specs.Forms.{line_of}
 use Rattle.emitter_model.specs.Emitting.{Emits}
-use Rattle.transcript_model.specs.Lines.{Line}
+use Rattle.emitter_model.specs.transcript_model.Lines.{Line}
 use Rattle.emitter_model.proofs.EmittingLemmas.{emits_nothing}
 use Rattle.careful_write.specs.State.{StoreState}
-use Rattle.run_model.specs.Answers.{entry_line}
+use Rattle.file_images.specs.run_model.Answers.{entry_line}
 use Rattle.file_requests.proofs.Replied.{quiet_none}
 use Rattle.file_requests.proofs.EntryShown.{reads_it, reads_some}
 use Rattle.file_requests.proofs.journal.show_entry.Goals as goal

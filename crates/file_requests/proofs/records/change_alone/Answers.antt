@@ -4,8 +4,8 @@ use Rattle.emitter_model.proofs.EmittingLemmas.{emits_on}
 use Rattle.vms_base.specs.Ids.{id_of}
 use Rattle.recovery_units.specs.Calls.{change_said, position_line}
 use Rattle.record_operations.specs.Asking.{file_in}
-use Rattle.node_table.specs.Code.{stored_of}
-use Rattle.node_table.specs.Standing.{Stored}
+use Rattle.node_standing.specs.node_table.Code.{stored_of}
+use Rattle.node_standing.specs.node_table.Standing.{Stored}
 use Rattle.file_requests.specs.Asking.{ShowsCause}
 use Rattle.file_requests.specs.Replying.{IsPlain, RepliesIf}
 use Rattle.file_requests.proofs.AloneAnswers.{alone_done, alone_fell, alone_refused, change_changes}

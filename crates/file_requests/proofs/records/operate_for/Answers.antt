@@ -7,8 +7,8 @@ use Rattle.record_operations.specs.Asking.{file_in, read_file_in}
 use Rattle.file_requests.specs.Acting.{ActsFor}
 use Rattle.file_requests.specs.Asking.{number_in, said_of}
 use Rattle.file_requests.specs.Replying.{IsPlain}
-use Rattle.node_table.specs.Code.{stored_of}
-use Rattle.node_table.specs.Standing.{Stored}
+use Rattle.node_standing.specs.node_table.Code.{stored_of}
+use Rattle.node_standing.specs.node_table.Standing.{Stored}
 use Rattle.file_requests.proofs.BranchAnswers.{asked_done, asked_err}
 use Rattle.file_requests.proofs.Reading.{stored_of_volume}
 use Rattle.file_requests.proofs.records.operate_for.Goals as goal

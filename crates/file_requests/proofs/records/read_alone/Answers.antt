@@ -3,8 +3,8 @@ use Rattle.emitter_model.specs.Emitting.{Emits}
 use Rattle.vms_base.specs.Keys.{key_of}
 use Rattle.recovery_units.specs.Calls.{read_said, record_line}
 use Rattle.record_operations.specs.Asking.{read_file_in}
-use Rattle.node_table.specs.Code.{stored_of}
-use Rattle.node_table.specs.Standing.{Stored}
+use Rattle.node_standing.specs.node_table.Code.{stored_of}
+use Rattle.node_standing.specs.node_table.Standing.{Stored}
 use Rattle.file_requests.specs.Replying.{IsPlain}
 use Rattle.file_requests.proofs.AloneAnswers.{looked_done, looked_err, read_reads}
 use Rattle.file_requests.proofs.Reading.{stored_of_volume}

@@ -1,10 +1,10 @@
 use Rattle.std.proofs.Common.{Ok, ◌≡◌, ◌+◌, IfSome, length, refl, subst, sym, ◌∙◌}
 use Rattle.careful_write.specs.State.{EachWhole, StoreState}
-use Rattle.recover_rms.specs.Calls.{IsRecovered, NotRecovered}
+use Rattle.recovered_nodes.specs.recover_rms.Calls.{IsRecovered, NotRecovered}
 use Rattle.script_lang.specs.Statements.{recovery_of}
-use Rattle.script_model.specs.Statements.{Recover}
-use Rattle.run_model.specs.Answers.{service}
-use Rattle.node_table.specs.Code.{stored_of}
+use Rattle.script_lang.specs.script_model.Statements.{Recover}
+use Rattle.file_images.specs.run_model.Answers.{service}
+use Rattle.node_standing.specs.node_table.Code.{stored_of}
 use Rattle.file_requests.specs.declared.recovery.Reply.TheVariants.{Told}
 use Rattle.file_requests.specs.Recovering.{Recovers}
 use Rattle.file_requests.proofs.CauseTimes.{has_times}

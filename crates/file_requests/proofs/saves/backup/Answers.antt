@@ -1,6 +1,6 @@
 use Rattle.std.proofs.Common.{◌*◌, ◌≤◌, ℕ, option_map, sym, ap, subst, ◌∙◌, arith}
 use Rattle.vms_base.specs.Ids.{serial_of}
-use Rattle.node_table.specs.Code.{stored_of}
+use Rattle.node_standing.specs.node_table.Code.{stored_of}
 use Rattle.file_requests.proofs.Saving.{blocks_fit, save_absent, save_full, save_locked, save_made, some_blocks_here}
 use Rattle.file_requests.proofs.saves.backup.Goals as goal
 

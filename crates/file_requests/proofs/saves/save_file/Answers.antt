@@ -1,14 +1,14 @@
 use Rattle.std.proofs.Common.{◌≡◌, [], ◌∷◌, ap, refl, subst, ◌∙◌}
 use Rattle.emitter_model.specs.Emitting.{Emits}
-use Rattle.transcript_model.specs.Lines as line
+use Rattle.emitter_model.specs.transcript_model.Lines as line
 use Rattle.volume.specs.declared.catalog.Catalog.{Catalog}
-use Rattle.volume_format.specs.declared.home.Home.{Home}
-use Rattle.volume_format.specs.Head.{head_block_of}
+use Rattle.volume.specs.volume_format.declared.home.Home.{Home}
+use Rattle.volume.specs.volume_format.Head.{head_block_of}
 use Rattle.directory_model.specs.Laws.{saved_head}
 use Rattle.file_requests.specs.Settings.{save_at}
 use Rattle.recovery_units.specs.Uses.{Caused, down_of}
-use Rattle.node_table.specs.Code.{stored_of}
-use Rattle.node_table.specs.Standing.{Stored}
+use Rattle.node_standing.specs.node_table.Code.{stored_of}
+use Rattle.node_standing.specs.node_table.Standing.{Stored}
 use Rattle.file_requests.proofs.Calls.{caused_counts, caused_on, goes_counts, goes_on}
 use Rattle.file_requests.proofs.Saving.{apart_is, copies_out, saved_cut, saved_done, saved_first, source_is, target_is}
 use Rattle.file_requests.proofs.saves.save_file.Goals as goal

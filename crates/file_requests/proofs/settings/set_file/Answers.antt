@@ -1,11 +1,11 @@
 use Rattle.std.proofs.Common.{◌∷◌, [], option_map, refl, sym, ap, subst, ◌∙◌}
 use Rattle.script_lang.specs.Statements.{setting_of}
-use Rattle.volume_format.specs.Head.{head_block_of}
+use Rattle.volume.specs.volume_format.Head.{head_block_of}
 use Rattle.vms_base.specs.Ids.{serial_of}
 use Rattle.emitter_model.specs.Emitting.{Emits}
-use Rattle.transcript_model.specs.Lines as line
-use Rattle.node_table.specs.Code.{stored_of}
-use Rattle.node_table.specs.Standing.{Stored}
+use Rattle.emitter_model.specs.transcript_model.Lines as line
+use Rattle.node_standing.specs.node_table.Code.{stored_of}
+use Rattle.node_standing.specs.node_table.Standing.{Stored}
 use Rattle.file_requests.proofs.Marking.{mark_absent, mark_done, mark_empty, mark_fell, mark_full, mark_locked}
 use Rattle.file_requests.proofs.settings.set_file.Goals as goal
 

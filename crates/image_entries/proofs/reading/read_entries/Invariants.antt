@@ -1,6 +1,6 @@
 use Rattle.std.proofs.Common.{◌-◌, ◌+◌, ◌≤◌, List, IfSome, length}
-use Rattle.journal_model.specs.Entries.{Entry}
-use Rattle.journal_model.specs.Ring.{IsJournal}
+use Rattle.journal_format.specs.journal_model.Entries.{Entry}
+use Rattle.journal_format.specs.journal_model.Ring.{IsJournal}
 use Rattle.journal_store.specs.Refusing.{Stays}
 use Rattle.unit_entries.specs.Reading.{AreRead}
 use Rattle.image_entries.proofs.ReadLemmas.{HaveRead}

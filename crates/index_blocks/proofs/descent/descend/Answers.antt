@@ -1,9 +1,9 @@
 use Rattle.std.proofs.Common.{◌<◌, ◌+◌, ◌-◌, Result, Err, ℕ, ap, arith}
 use Rattle.block_disk.specs.Disk.{DiskState}
-use Rattle.careful_write.specs.State.{StoreState}
-use Rattle.careful_write.specs.Down.{answered}
-use Rattle.careful_write.specs.declared.down.Down.{Down}
-use Rattle.careful_write.proofs.Reading.{more_read, all_read}
+use Rattle.change_set.specs.careful_write.State.{StoreState}
+use Rattle.change_set.specs.careful_write.Down.{answered}
+use Rattle.change_set.specs.careful_write.declared.down.Down.{Down}
+use Rattle.change_set.proofs.careful_write.Reading.{more_read, all_read}
 use Rattle.change_set.proofs.Frames.{read_again}
 use Rattle.index_blocks.proofs.StageLaws.{told_same}
 use Rattle.index_blocks.proofs.WayLaws.{way_step, way_noted, noted}

@@ -1,5 +1,5 @@
 use Rattle.std.proofs.Common.{◌≡◌, ◌≤◌, ◌<◌, ◌+◌, ◌*◌, ℕ, IfSome, slice_index_or}
-use Rattle.careful_write.specs.Reads.{SameButReads}
+use Rattle.change_set.specs.careful_write.Reads.{SameButReads}
 use Rattle.frame_pool.specs.Pool.{IsOut}
 use Rattle.change_set.specs.Buckets.{frame_of, with_frame}
 use Rattle.index_blocks.specs.Levels.{IsWay, way}

@@ -1,7 +1,7 @@
 use Rattle.std.proofs.Common.{◌≡◌, ◌*◌, List, ℕ, refl, arith}
 use Rattle.change_set.specs.Buckets.{frame_of}
 use Rattle.change_set.proofs.Frames.{frame_is}
-use Rattle.index_model.specs.Indexes.{child_for}
+use Rattle.index_bucket.specs.index_model.Indexes.{child_for}
 use Rattle.index_bucket.specs.Entries.{entries_at, IsIndexBucket}
 use Rattle.index_blocks.proofs.StageLaws.{bucket_read}
 use Rattle.index_blocks.proofs.descent.visit.Goals as goal

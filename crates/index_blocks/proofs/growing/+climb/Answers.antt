@@ -1,7 +1,7 @@
 use Rattle.std.proofs.Common.{◌-◌, ℕ, Option, Some, None, Result, Ok, Err, IfOk, slice_index_or, refl, ap, subst, arith, ◌+◌, ◌*◌, OnOk}
-use Rattle.careful_write.specs.State.{StoreState}
-use Rattle.careful_write.specs.Down.{answered}
-use Rattle.careful_write.proofs.Reading.{same_so}
+use Rattle.change_set.specs.careful_write.State.{StoreState}
+use Rattle.change_set.specs.careful_write.Down.{answered}
+use Rattle.change_set.proofs.careful_write.Reading.{same_so}
 use Rattle.change_set.specs.Files.{StagesIn}
 use Rattle.index_bucket.specs.declared.hand.Handed.{Handed}
 use Rattle.index_bucket.specs.Takes.{entries_of}

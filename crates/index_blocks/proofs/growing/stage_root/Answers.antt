@@ -1,5 +1,5 @@
 use Rattle.std.proofs.Common.{length, ap, arith}
-use Rattle.careful_write.specs.State.{StoreState}
+use Rattle.change_set.specs.careful_write.State.{StoreState}
 use Rattle.index_bucket.specs.Takes.{entries_of}
 use Rattle.index_blocks.proofs.StageLaws.{blocks_few, stages_one}
 use Rattle.index_blocks.proofs.ClimbLaws.{root_told}

@@ -1,7 +1,7 @@
 use Rattle.std.proofs.Common.{◌≡◌, ◌+◌, ℕ, List, Option, Some, None, IfSome, length, sym, subst, ◌∙◌}
-use Rattle.careful_write.specs.Reads.{SameButReads}
-use Rattle.careful_write.specs.State.{StoreState}
-use Rattle.careful_write.proofs.Reading.{same_as}
+use Rattle.change_set.specs.careful_write.Reads.{SameButReads}
+use Rattle.change_set.specs.careful_write.State.{StoreState}
+use Rattle.change_set.proofs.careful_write.Reading.{same_as}
 use Rattle.change_set.specs.Buckets.{frame_of, with_frame}
 use Rattle.index_bucket.specs.declared.hand.Handed.{Handed}
 use Rattle.index_bucket.specs.Takes.{entries_of}

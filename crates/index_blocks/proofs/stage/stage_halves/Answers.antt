@@ -1,5 +1,5 @@
 use Rattle.std.proofs.Common.{◌≡◌, Bool, length, option_map, sym, ap, subst, arith}
-use Rattle.careful_write.specs.State.{StoreState}
+use Rattle.change_set.specs.careful_write.State.{StoreState}
 use Rattle.change_set.specs.Buckets.{frame_of, with_frame}
 use Rattle.index_blocks.specs.Writes.{with_halves, with_blocks_of_halves}
 use Rattle.index_blocks.proofs.StageLaws.{both_staged, blocks_few}

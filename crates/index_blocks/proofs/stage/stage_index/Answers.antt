@@ -1,5 +1,5 @@
 use Rattle.std.proofs.Common.{ap}
-use Rattle.careful_write.specs.State.{StoreState}
+use Rattle.change_set.specs.careful_write.State.{StoreState}
 use Rattle.index_blocks.proofs.StageLaws.{bucket_lies, bucket_staged}
 use Rattle.index_blocks.proofs.stage.stage_index.Goals as goal
 

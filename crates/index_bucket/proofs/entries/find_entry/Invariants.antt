@@ -1,6 +1,6 @@
 use Rattle.std.proofs.Common.{◌≡◌, ◌≤◌, ◌<◌, ◌-◌, ℕ, true, false, length}
 use Rattle.bucket_page.specs.Pages.{slots_of}
-use Rattle.records_model.specs.Slots.{bytes_before}
+use Rattle.index_model.specs.records_model.Slots.{bytes_before}
 use Rattle.index_bucket.specs.Entries.{index_kind}
 use Rattle.index_bucket.proofs.EntryLaws.{separator_at}
 use Rattle.index_bucket.proofs.entries.find_entry.Given as goal

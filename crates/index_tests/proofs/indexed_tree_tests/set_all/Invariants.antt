@@ -1,8 +1,8 @@
 use Rattle.std.proofs.Common.{◌≤◌}
 use Rattle.careful_write.specs.State.{IsIdle}
 use Rattle.change_set.specs.Files.{IsPlaced, free_frames}
-use Rattle.index_blocks.specs.Levels.{HasRoot}
-use Rattle.indexed_file.specs.Chain.{HasKeys}
+use Rattle.indexed_tree.specs.index_blocks.Levels.{HasRoot}
+use Rattle.indexed_tree.specs.indexed_file.Chain.{HasKeys}
 use Rattle.indexed_tree.specs.Samples.{HasLongKeys}
 use Rattle.index_tests.proofs.indexed_tree_tests.set_all.Given as goal
 

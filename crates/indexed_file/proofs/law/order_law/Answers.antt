@@ -1,4 +1,4 @@
-use Rattle.records_model.proofs.SlotLaws.{put_keeps_order, tidy_keeps_order}
+use Rattle.change_set.proofs.records_model.SlotLaws.{put_keeps_order, tidy_keeps_order}
 use Rattle.indexed_file.proofs.law.order_law.Goals as goal
 
 pub returns-clause-put : goal.returns-clause-put

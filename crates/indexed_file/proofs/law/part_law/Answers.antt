@@ -1,4 +1,4 @@
-use Rattle.records_model.proofs.PartLaws.{parts_keep}
+use Rattle.change_set.proofs.records_model.PartLaws.{parts_keep}
 use Rattle.indexed_file.proofs.PartedLaws.{adds_few}
 use Rattle.indexed_file.proofs.law.part_law.Goals as goal
 

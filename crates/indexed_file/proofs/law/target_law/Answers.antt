@@ -1,4 +1,4 @@
-use Rattle.records_model.proofs.SlotLaws.{target_tells}
+use Rattle.change_set.proofs.records_model.SlotLaws.{target_tells}
 use Rattle.indexed_file.proofs.law.target_law.Goals as goal
 
 pub returns : goal.returns

@@ -1,6 +1,6 @@
 use Rattle.std.proofs.Common.{◌≡◌, ◌≤◌, ◌<◌, ◌-◌, ℕ, true, length}
 use Rattle.bucket_page.specs.Pages.{slots_of}
-use Rattle.records_model.specs.Slots.{bytes_before}
+use Rattle.change_set.specs.records_model.Slots.{bytes_before}
 use Rattle.indexed_file.specs.Chain.{kind_of}
 use Rattle.indexed_file.specs.Places.{key_at}
 use Rattle.indexed_file.proofs.leaf.find_place.Given as goal

@@ -1,9 +1,9 @@
 use Rattle.std.proofs.Common.{◌≡◌, ◌-◌, Result, Ok, Err, OnErr, Option, option_map, None, set, List, ℕ, sym, ap, subst, ◌∙◌, arith}
 use Rattle.block_disk.specs.Disk.{DiskState}
-use Rattle.careful_write.specs.State.{StoreState, IsEither, content}
-use Rattle.careful_write.proofs.Reading.{same_all, same_so}
+use Rattle.change_set.specs.careful_write.State.{StoreState, IsEither, content}
+use Rattle.change_set.proofs.careful_write.Reading.{same_all, same_so}
 use Rattle.file_base.specs.declared.head.FileHead.{FileHead}
-use Rattle.careful_write.specs.Content.{content_of}
+use Rattle.change_set.specs.careful_write.Content.{content_of}
 use Rattle.change_set.specs.Buckets.{frame_of, with_frame, with_bucket, with_numbers, WasFree}
 use Rattle.change_set.proofs.Frames.{lent_taken, lent_read, lent_staged, lent_given}
 use Rattle.indexed_file.specs.Chain.{bucket_first}

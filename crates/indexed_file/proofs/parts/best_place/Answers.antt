@@ -2,7 +2,7 @@ use Rattle.std.proofs.Common.{◌≡◌, ◌+◌, ◌-◌, length, map, ℕ, sub
 use Rattle.std.proofs.lemmas.List.{length-map, take_all}
 use Rattle.bucket_page.specs.Pages.{slots_of, inserted}
 use Rattle.bucket_page.proofs.PageLaws.{length-inserted}
-use Rattle.records_model.specs.Parts.{bytes_of}
+use Rattle.change_set.specs.records_model.Parts.{bytes_of}
 use Rattle.indexed_file.specs.Chain.{kind_of, slot_of}
 use Rattle.indexed_file.specs.Raws.{BestTo}
 use Rattle.indexed_file.proofs.PlaceLaws.{best_none, best_more, best_found, best_missing, bytes_all}

@@ -2,7 +2,7 @@ use Rattle.std.proofs.Common.{◌≡◌, ◌≤◌, ◌+◌, ◌-◌, true, fals
 use Rattle.bucket_page.specs.Pages.{slots_of, next_of, inserted}
 use Rattle.indexed_file.specs.Chain.{kind_of, slot_of}
 use Rattle.std.proofs.lemmas.List.{length-take-le}
-use Rattle.records_model.specs.Parts.{fits_at, has_place, IsBest}
+use Rattle.change_set.specs.records_model.Parts.{fits_at, has_place, IsBest}
 use Rattle.indexed_file.proofs.AddLaws.{parts_two, parts_three}
 use Rattle.indexed_file.proofs.parts.part.Goals as goal
 

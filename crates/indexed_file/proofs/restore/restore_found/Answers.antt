@@ -1,7 +1,7 @@
 use Rattle.std.proofs.Common.{true, inr, List, ℕ, take, is_some, refl, ap, ◌∙◌, arith, length}
 use Rattle.std.specs.Option.{option_copied}
 use Rattle.bucket_page.specs.Pages.{u16_at, slots_of}
-use Rattle.records_model.specs.Slots.{room_in}
+use Rattle.change_set.specs.records_model.Slots.{room_in}
 use Rattle.indexed_file.specs.Chain.{kind_of}
 use Rattle.indexed_file.specs.Backs.{changed, lacking}
 use Rattle.indexed_file.proofs.TargetLaws.{found_at}

@@ -1,5 +1,5 @@
 use Rattle.std.proofs.Common.{◌≡◌, ◌<◌, ◌+◌, false, List, ℕ, length, take, subst, sym, ap, refl, ◌∙◌}
-use Rattle.vms_model.specs.Keys.{Text}
+use Rattle.vms_base.specs.vms_model.Keys.{Text}
 use Rattle.bucket_page.specs.declared.kind.PageKind.{PageKind}
 use Rattle.bucket_page.specs.Pages.{slots_of, next_of, joined, inserted, IsPacked, Packs}
 use Rattle.indexed_file.specs.Chain.{kind_of}

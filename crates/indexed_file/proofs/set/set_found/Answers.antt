@@ -1,9 +1,9 @@
 use Rattle.std.proofs.Common.{◌≡◌, ◌<◌, List, ℕ, length, take, Option, Some, None, subst, sym, ap, refl, ◌∙◌, arith}
-use Rattle.vms_model.specs.Keys.{Text}
+use Rattle.vms_base.specs.vms_model.Keys.{Text}
 use Rattle.std.specs.Option.{option_copied}
 use Rattle.bucket_page.specs.declared.kind.PageKind.{PageKind}
 use Rattle.bucket_page.specs.Pages.{u16_at, slots_of, next_of, slot_at, removed, IsPacked, Packs}
-use Rattle.records_model.specs.Slots.{size_of}
+use Rattle.change_set.specs.records_model.Slots.{size_of}
 use Rattle.indexed_file.specs.Chain.{kind_of, SuitsText}
 use Rattle.indexed_file.specs.Raws.{slot_bytes, Means}
 use Rattle.indexed_file.proofs.RawLaws.{means_some, record_key}

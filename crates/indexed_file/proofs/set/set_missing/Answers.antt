@@ -1,5 +1,5 @@
 use Rattle.std.proofs.Common.{◌≡◌, List, ℕ, length, take, Option, Some, None, subst, sym, ap, refl, ◌∙◌, arith}
-use Rattle.vms_model.specs.Keys.{Text}
+use Rattle.vms_base.specs.vms_model.Keys.{Text}
 use Rattle.std.specs.Option.{option_copied}
 use Rattle.indexed_file.specs.Chain.{SuitsText}
 use Rattle.indexed_file.specs.Raws.{slot_bytes, Means}

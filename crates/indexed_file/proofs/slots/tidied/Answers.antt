@@ -1,5 +1,5 @@
 use Rattle.std.proofs.Common.{take, sym, ◌∙◌, arith}
-use Rattle.vms_model.specs.Keys.{Text}
+use Rattle.vms_base.specs.vms_model.Keys.{Text}
 use Rattle.bucket_page.specs.Pages.{key_in}
 use Rattle.indexed_file.specs.Chain.{kind_of}
 use Rattle.indexed_file.proofs.RawLaws.{written_short}

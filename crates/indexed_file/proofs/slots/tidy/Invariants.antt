@@ -1,5 +1,5 @@
 use Rattle.std.proofs.Common.{◌≡◌, ◌≤◌, length, take}
-use Rattle.vms_model.specs.Keys.{Text}
+use Rattle.vms_base.specs.vms_model.Keys.{Text}
 use Rattle.bucket_page.specs.Pages.{slots_of, next_of, Packs}
 use Rattle.indexed_file.specs.Chain.{kind_of}
 use Rattle.indexed_file.proofs.TidyLaws.{half_tidied, moved_to}

@@ -6,7 +6,7 @@ use Rattle.careful_write.specs.State.{StoreState}
 use Rattle.careful_write.specs.Down.{answered}
 use Rattle.careful_write.specs.declared.down.Down.{Down}
 use Rattle.bucket_page.specs.Pages.{no_next}
-use Rattle.change_set.proofs.Frames.{read_again}
+use Rattle.indexed_file.proofs.change_set.Frames.{read_again}
 use Rattle.index_blocks.proofs.StageLaws.{told_same}
 use Rattle.indexed_file.proofs.NextLaws.{if_some_then, if_none_then, none_if_some, none_gives}
 use Rattle.indexed_tree.proofs.NextLaws.{told_starts, told_steps, told_found, told_ends}

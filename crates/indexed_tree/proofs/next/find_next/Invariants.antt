@@ -2,7 +2,7 @@ use Rattle.std.proofs.Common.{◌≡◌, ◌<◌, IfSome}
 use Rattle.std.specs.Option.{option_copied}
 use Rattle.careful_write.specs.Reads.{SameButReads}
 use Rattle.frame_pool.specs.Pool.{IsOut}
-use Rattle.change_set.specs.Buckets.{frame_of, with_frame}
+use Rattle.indexed_file.specs.change_set.Buckets.{frame_of, with_frame}
 use Rattle.indexed_tree.specs.Rooted.{IsRooted}
 use Rattle.indexed_tree.proofs.NextLaws.{StandsAt}
 use Rattle.indexed_tree.proofs.next.find_next.Given as goal

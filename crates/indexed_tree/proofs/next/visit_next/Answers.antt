@@ -1,7 +1,7 @@
 use Rattle.std.proofs.Common.{◌≡◌, List, ℕ, None, arith}
 use Rattle.std.specs.Option.{option_copied}
-use Rattle.change_set.specs.Buckets.{frame_of}
-use Rattle.change_set.proofs.Frames.{frame_is}
+use Rattle.indexed_file.specs.change_set.Buckets.{frame_of}
+use Rattle.indexed_file.proofs.change_set.Frames.{frame_is}
 use Rattle.indexed_file.specs.Behind.{first_behind, IsFound}
 use Rattle.indexed_file.specs.Raws.{slots_at}
 use Rattle.indexed_file.proofs.NextLaws.{if_some_then, if_none_then}

@@ -1,8 +1,8 @@
 use Rattle.std.proofs.Common.{◌≤◌, ◌+◌, ◌-◌, ◌*◌, Result, Ok, Err, IfOk, OnOk, ap, arith}
 use Rattle.careful_write.specs.State.{StoreState}
 use Rattle.careful_write.specs.Down.{answered}
-use Rattle.change_set.specs.Files.{StagesIn}
-use Rattle.index_bucket.specs.Takes.{entries_of}
+use Rattle.indexed_file.specs.change_set.Files.{StagesIn}
+use Rattle.index_blocks.specs.index_bucket.Takes.{entries_of}
 use Rattle.indexed_tree.specs.Puts.{MayPart}
 use Rattle.indexed_tree.proofs.StoreLaws.{sets_whole, sets_parted, stages_leaves, stages_whole, stages_all, rest_staged}
 use Rattle.indexed_tree.proofs.put.stage_set.Goals as goal

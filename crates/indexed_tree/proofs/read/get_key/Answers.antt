@@ -1,7 +1,7 @@
 use Rattle.std.proofs.Common.{ap, arith}
 use Rattle.careful_write.specs.State.{StoreState}
 use Rattle.careful_write.specs.Down.{answered}
-use Rattle.change_set.proofs.Frames.{lent_taken, lent_read, lent_given}
+use Rattle.indexed_file.proofs.change_set.Frames.{lent_taken, lent_read, lent_given}
 use Rattle.indexed_tree.proofs.read.get_key.Goals as goal
 
 pub returns-clause-state : goal.returns-clause-state

@@ -1,7 +1,7 @@
 use Rattle.std.proofs.Common.{◌-◌, ◌+◌, Some, None, ap, arith}
 use Rattle.careful_write.specs.State.{StoreState}
 use Rattle.careful_write.specs.Down.{answered}
-use Rattle.change_set.proofs.Frames.{read_again}
+use Rattle.indexed_file.proofs.change_set.Frames.{read_again}
 use Rattle.index_blocks.proofs.StageLaws.{told_same}
 use Rattle.indexed_file.proofs.ReadLaws.{on_ok}
 use Rattle.indexed_tree.proofs.ReadLaws.{key_told}

@@ -1,6 +1,6 @@
 use Rattle.std.proofs.Common.{◌≡◌, List, ℕ, Bool, Option, true, false, Some, None, ap, ◌∙◌, arith}
-use Rattle.change_set.specs.Buckets.{frame_of}
-use Rattle.change_set.proofs.Frames.{frame_is}
+use Rattle.indexed_file.specs.change_set.Buckets.{frame_of}
+use Rattle.indexed_file.proofs.change_set.Frames.{frame_is}
 use Rattle.indexed_file.specs.Places.{Decides}
 use Rattle.indexed_file.specs.Raws.{slots_at}
 use Rattle.indexed_tree.proofs.ReadLaws.{leaf_read, decided}

@@ -1,6 +1,6 @@
 use Rattle.std.proofs.Common.{Result, Ok, Err, OnOk}
 use Rattle.careful_write.specs.Down.{answered}
-use Rattle.change_set.specs.Files.{StagesIn}
+use Rattle.indexed_file.specs.change_set.Files.{StagesIn}
 use Rattle.indexed_tree.proofs.StoreLaws.{rest_given, stages_given}
 use Rattle.indexed_tree.proofs.restore.restore_key.Goals as goal
 

@@ -1,7 +1,7 @@
 use Rattle.std.proofs.Common.{true, false, ap, arith}
 use Rattle.careful_write.specs.State.{StoreState}
 use Rattle.std.specs.Option.{option_copied}
-use Rattle.change_set.specs.Buckets.{frame_of}
+use Rattle.indexed_file.specs.change_set.Buckets.{frame_of}
 use Rattle.index_blocks.proofs.StageLaws.{told_same}
 use Rattle.indexed_file.proofs.BackLaws.{tries_bytes}
 use Rattle.indexed_tree.proofs.StoreLaws.{rest_own}

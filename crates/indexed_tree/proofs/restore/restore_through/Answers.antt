@@ -3,7 +3,7 @@ use Rattle.block_disk.specs.Disk.{DiskState}
 use Rattle.careful_write.specs.Down.{answered}
 use Rattle.careful_write.specs.declared.down.Down.{Down}
 use Rattle.careful_write.proofs.Reading.{same_so}
-use Rattle.change_set.proofs.Frames.{read_again}
+use Rattle.indexed_file.proofs.change_set.Frames.{read_again}
 use Rattle.indexed_tree.proofs.StoreLaws.{rest_read, rest_same}
 use Rattle.indexed_tree.proofs.restore.restore_through.Goals as goal
 

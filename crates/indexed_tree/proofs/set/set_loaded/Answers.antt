@@ -3,9 +3,9 @@ use Rattle.std.proofs.lemmas.Nat.{mul-le}
 use Rattle.std.specs.Option.{option_copied}
 use Rattle.careful_write.specs.State.{StoreState}
 use Rattle.careful_write.proofs.Reading.{same_so}
-use Rattle.vms_model.specs.Keys.{Text}
-use Rattle.change_set.specs.Buckets.{frame_of, with_frame}
-use Rattle.change_set.proofs.Frames.{with_frame_own}
+use Rattle.vms_base.specs.vms_model.Keys.{Text}
+use Rattle.indexed_file.specs.change_set.Buckets.{frame_of, with_frame}
+use Rattle.indexed_file.proofs.change_set.Frames.{with_frame_own}
 use Rattle.indexed_file.specs.Sets.{SetsBytes}
 use Rattle.indexed_file.proofs.ThroughLaws.{sets_bytes}
 use Rattle.index_blocks.proofs.StageLaws.{told_same}

@@ -1,5 +1,5 @@
 use Rattle.std.proofs.Common.{◌≡◌, ◌∙◌, sym, ap, Some, None, option_map, arith}
-use Rattle.vms_model.specs.Ids.{Id}
+use Rattle.vms_base.specs.vms_model.Ids.{Id}
 use Rattle.vms_base.specs.Ids.{id_of}
 use Rattle.journal_format.proofs.IdSpellings.{piece_small, told_id}
 use Rattle.journal_format.proofs.coding.id_at.Goals as goal

@@ -1,5 +1,5 @@
 use Rattle.std.proofs.Common.{◌≡◌, ◌+◌, drop}
-use Rattle.journal_model.specs.Ring.{put_bytes}
+use Rattle.journal_format.specs.journal_model.Ring.{put_bytes}
 use Rattle.journal_store.proofs.appending.overlay.Given as goal
 
 abbrev pub invariant-loop-i : goal.invariant-loop-i

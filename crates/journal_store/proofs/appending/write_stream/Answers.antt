@@ -1,5 +1,5 @@
 use Rattle.std.proofs.Common.{◌≡◌, ℕ, ◌≤◌, ◌+◌, ◌*◌, ◌%◌, arith, ◌∙◌, ap, length, inr, refl, ⊎_elim}
-use Rattle.journal_model.specs.Ring.{ring_size}
+use Rattle.journal_format.specs.journal_model.Ring.{ring_size}
 use Rattle.journal_store.proofs.Streams.{wraps, goes_on, block_more_at}
 use Rattle.journal_store.proofs.appending.write_stream.Goals as goal
 

@@ -1,5 +1,5 @@
 use Rattle.std.proofs.Common.{◌≡◌, ℕ, ◌+◌, ◌-◌, ◌*◌, ◌<◌, ◌≤◌, ◌⊎◌, ◌%◌, length, drop, option_map, List}
-use Rattle.journal_model.specs.Ring.{put_stream, ring_size}
+use Rattle.journal_format.specs.journal_model.Ring.{put_stream, ring_size}
 use Rattle.journal_store.proofs.appending.write_stream.Given as goal
 
 abbrev pub invariant-loop-done : goal.invariant-loop-done

@@ -1,5 +1,5 @@
 use Rattle.std.proofs.Common.{◌≡◌, ℕ, ◌+◌, ◌*◌, ◌%◌, arith, ◌∙◌, ap}
-use Rattle.journal_model.specs.Ring.{ring_size}
+use Rattle.journal_format.specs.journal_model.Ring.{ring_size}
 use Rattle.journal_store.proofs.Streams.{wraps, goes_on}
 use Rattle.journal_store.proofs.Readings.{held_step}
 use Rattle.journal_store.proofs.entry.read_stream.Goals as goal

@@ -1,5 +1,5 @@
 use Rattle.std.proofs.Common.{◌≡◌, ℕ, ◌+◌, ◌-◌, ◌*◌, ◌<◌, ◌≤◌, ◌%◌, length, List, IfSome}
-use Rattle.journal_model.specs.Ring.{ring_size}
+use Rattle.journal_format.specs.journal_model.Ring.{ring_size}
 use Rattle.journal_store.specs.Reading.{Holds}
 use Rattle.journal_store.specs.Refusing.{Stays}
 use Rattle.journal_store.proofs.entry.read_stream.Given as goal

@@ -4,8 +4,8 @@ use Rattle.vms_base.specs.Ids.{serial_of, tid_of}
 use Rattle.vms_base.specs.Outcomes.{outcome_of}
 use Rattle.file_settlements.proofs.Behind.{breaks_behind}
 use Rattle.file_settlements.specs.Settling.{SettlesFiles}
-use Rattle.unit_journal.specs.Entries.{settled_entry}
-use Rattle.unit_journal.specs.Settling.{entry_if}
+use Rattle.file_settlements.specs.unit_journal.Entries.{settled_entry}
+use Rattle.file_settlements.specs.unit_journal.Settling.{entry_if}
 use Rattle.kept_files.proofs.Kept.{count_kept, kept_takes, settles_alike}
 use Rattle.kept_files.proofs.settling.settle_in_files.Goals as goal
 

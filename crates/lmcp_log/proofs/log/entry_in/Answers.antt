@@ -1,5 +1,5 @@
 use Rattle.std.proofs.Common.{Some, ap}
-use Rattle.commit_protocol.specs.Messages.{LogRecord}
+use Rattle.log_laws.specs.commit_protocol.Messages.{LogRecord}
 use Rattle.tm_types.specs.Parts.{log_record_of}
 use Rattle.lmcp_log.proofs.Readings.{same_some}
 use Rattle.lmcp_log.proofs.log.entry_in.Goals as goal

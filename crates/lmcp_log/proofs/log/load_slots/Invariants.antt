@@ -1,8 +1,8 @@
 use Rattle.std.proofs.Common.{◌≡◌, ◌≤◌, IfSome, length, map, vec_capacity}
-use Rattle.commit_protocol.specs.Messages.{LogRecord}
-use Rattle.commit_protocol.specs.Table.{record_serials}
-use Rattle.commit_protocol.specs.World.{In}
-use Rattle.commit_protocol.specs.Agreement.{Distinct}
+use Rattle.log_laws.specs.commit_protocol.Messages.{LogRecord}
+use Rattle.log_laws.specs.commit_protocol.Table.{record_serials}
+use Rattle.log_laws.specs.commit_protocol.World.{In}
+use Rattle.log_laws.specs.commit_protocol.Agreement.{Distinct}
 use Rattle.log_laws.specs.Slots.{records_in}
 use Rattle.careful_write.specs.Reads.{SameButReads}
 use Rattle.lmcp_log.specs.Slot.{IsRecord}

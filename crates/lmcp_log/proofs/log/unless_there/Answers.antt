@@ -1,6 +1,6 @@
 use Rattle.std.proofs.Common.{◌≡◌, false, Some, sym, ◌∙◌, ap, subst, map}
 use Rattle.vms_base.specs.Ids.{serial_of}
-use Rattle.commit_protocol.specs.Messages.{LogRecord}
+use Rattle.log_laws.specs.commit_protocol.Messages.{LogRecord}
 use Rattle.tm_types.specs.Parts.{log_record_of}
 use Rattle.log_laws.specs.Slots.{has_slot}
 use Rattle.lmcp_log.specs.Log.{slot_of}

@@ -1,6 +1,6 @@
 use Rattle.std.proofs.Common.{◌≡◌, map, take}
 use Rattle.std.specs.List.{concat}
-use Rattle.vms_model.specs.Ids.{padded}
+use Rattle.vms_base.specs.vms_model.Ids.{padded}
 use Rattle.lmcp_log.specs.Slot.{name_bytes, AllNames}
 use Rattle.lmcp_log.proofs.places.manager_places.Given as goal
 

@@ -1,5 +1,5 @@
 use Rattle.std.proofs.Common.{◌∙◌, ap, refl, [], ◌∷◌}
-use Rattle.vms_model.specs.Names.{label_named}
+use Rattle.vms_base.specs.vms_model.Names.{label_named}
 use Rattle.vms_base.specs.Ids.{until_zero}
 use Rattle.volume_format.proofs.Names.{until_padded}
 use Rattle.lmcp_log.proofs.places.name_at.Goals as goal

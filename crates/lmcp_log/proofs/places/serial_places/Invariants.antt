@@ -1,6 +1,6 @@
 use Rattle.std.proofs.Common.{◌≡◌, map, take}
 use Rattle.std.specs.List.{concat}
-use Rattle.vms_model.specs.Ids.{id_bytes, padded}
+use Rattle.vms_base.specs.vms_model.Ids.{id_bytes, padded}
 use Rattle.vms_base.specs.Ids.{serial_of}
 use Rattle.lmcp_log.specs.Slot.{AllIds}
 use Rattle.lmcp_log.proofs.places.serial_places.Given as goal

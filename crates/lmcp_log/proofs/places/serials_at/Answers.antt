@@ -1,6 +1,6 @@
 use Rattle.std.proofs.Common.{ℕ, ◌+◌, ◌<◌, [], length, arith, ◌∙◌, ap}
 use Rattle.std.proofs.lemmas.List.{length_push}
-use Rattle.vms_model.specs.Ids.{Id}
+use Rattle.vms_base.specs.vms_model.Ids.{Id}
 use Rattle.vms_base.specs.Ids.{id_of, serial_of}
 use Rattle.lmcp_log.proofs.Fields.{serial_stands, taken_more}
 use Rattle.lmcp_log.proofs.Readings.{no_such, some_is}

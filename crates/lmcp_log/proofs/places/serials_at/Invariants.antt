@@ -1,6 +1,6 @@
 use Rattle.std.proofs.Common.{◌≡◌, ◌≤◌, List, length, map, take}
 use Rattle.std.specs.List.{concat}
-use Rattle.vms_model.specs.Ids.{Id, id_bytes, padded}
+use Rattle.vms_base.specs.vms_model.Ids.{Id, id_bytes, padded}
 use Rattle.vms_base.specs.Ids.{serial_of}
 use Rattle.file_base.specs.Bytes.{piece_at}
 use Rattle.lmcp_log.specs.Slot.{AllIds}

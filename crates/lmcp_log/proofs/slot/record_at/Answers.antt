@@ -1,7 +1,7 @@
 use Rattle.std.proofs.Common.{length, Some, sym, ◌∙◌}
 use Rattle.vms_base.specs.Ids.{id_of}
 use Rattle.tm_types.specs.Parts.{log_kind_of}
-use Rattle.commit_protocol.specs.Messages.{LogRecord}
+use Rattle.log_laws.specs.commit_protocol.Messages.{LogRecord}
 use Rattle.lmcp_log.specs.Slot.{kind_number}
 use Rattle.lmcp_log.proofs.Fields.{slot_fields}
 use Rattle.lmcp_log.proofs.Readings.{no_such, some_is, same_some}

@@ -1,8 +1,8 @@
 use Rattle.std.proofs.Common.{◌+◌, ◌-◌, ◌*◌, ℕ, map, sym, ap, ◌∙◌, List}
 use Rattle.file_base.specs.declared.head.Organization.{Organization}
-use Rattle.tree_model.specs.Layouts.{index_size}
-use Rattle.tree_model.specs.Loads.{index_over}
-use Rattle.seq_file.specs.Placing.{buckets_for}
+use Rattle.relative_file.specs.tree_model.Layouts.{index_size}
+use Rattle.relative_file.specs.tree_model.Loads.{index_over}
+use Rattle.load_laws.specs.seq_file.Placing.{buckets_for}
 use Rattle.load_laws.specs.Loads.{buckets_by}
 use Rattle.load_pages.specs.Given.{keyed}
 use Rattle.load_pages.proofs.TreeCounts.{seq_sizes, tree_counted}

@@ -2,7 +2,7 @@ use Rattle.std.proofs.Common.{◌≤◌, ◌-◌, ◌*◌, ℕ, map, sym, ap, su
 use Rattle.std.proofs.lemmas.List.{length-map}
 use Rattle.file_base.specs.declared.head.Organization.{Organization}
 use Rattle.file_base.specs.declared.head.Organization.TheVariants.{Sequential, Indexed}
-use Rattle.seq_file.specs.Placing.{buckets_for}
+use Rattle.load_laws.specs.seq_file.Placing.{buckets_for}
 use Rattle.load_laws.specs.Loads.{buckets_by, head_by}
 use Rattle.load_pages.specs.Given.{keyed}
 use Rattle.load_pages.proofs.TreeCounts.{seq_sizes, tree_counted, tree_told, tells_by, few_records}

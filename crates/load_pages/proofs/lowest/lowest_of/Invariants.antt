@@ -1,5 +1,5 @@
 use Rattle.std.proofs.Common.{◌≤◌, ◌-◌, ◌*◌, map}
-use Rattle.indexed_file.specs.Chain.{kind_of}
+use Rattle.load_laws.specs.indexed_file.Chain.{kind_of}
 use Rattle.load_pages.specs.Given.{raw_of}
 use Rattle.load_pages.proofs.KeyLemmas.{KeysTo}
 use Rattle.load_pages.proofs.lowest.lowest_of.Given as goal

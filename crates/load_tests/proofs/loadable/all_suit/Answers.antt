@@ -1,5 +1,5 @@
 use Rattle.std.proofs.Common.{[], ◌∷◌, subst, sym, arith}
-use Rattle.load_laws.specs.Loads.{AllSuitBy}
+use Rattle.load_pages.specs.load_laws.Loads.{AllSuitBy}
 use Rattle.load_pages.specs.declared.records.KeyedRecord.{KeyedRecord}
 use Rattle.load_pages.specs.Given.{keyed}
 use Rattle.load_tests.proofs.OrderLemmas.{suit_more, none_left}

@@ -1,5 +1,5 @@
 use Rattle.std.proofs.Common.{map, drop}
-use Rattle.load_laws.specs.Loads.{AllSuitBy}
+use Rattle.load_pages.specs.load_laws.Loads.{AllSuitBy}
 use Rattle.load_pages.specs.Given.{keyed}
 use Rattle.load_tests.proofs.loadable.all_suit.Given as goal
 

@@ -1,5 +1,5 @@
 use Rattle.std.proofs.Common.{◌+◌, subst, sym, arith}
-use Rattle.load_laws.specs.Loads.{AreNumbered}
+use Rattle.load_pages.specs.load_laws.Loads.{AreNumbered}
 use Rattle.load_tests.proofs.OrderLemmas.{numbered_more, none_left}
 use Rattle.load_tests.proofs.loadable.counts_on.Goals as goal
 

@@ -1,5 +1,5 @@
 use Rattle.std.proofs.Common.{◌+◌, map, drop}
-use Rattle.load_laws.specs.Loads.{AreNumbered}
+use Rattle.load_pages.specs.load_laws.Loads.{AreNumbered}
 use Rattle.load_pages.specs.Given.{keyed}
 use Rattle.load_tests.proofs.loadable.counts_on.Given as goal
 

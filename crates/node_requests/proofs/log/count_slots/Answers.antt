@@ -1,6 +1,6 @@
 use Rattle.std.proofs.Common.{◌≡◌, ◌+◌, ◌∷◌, [], take, length, ◌∙◌, ap, sym, arith}
 use Rattle.std.proofs.lemmas.List.{take_all}
-use Rattle.log_laws.specs.Slots.{committed_of, free_slots, prepared_of, records_in}
+use Rattle.world_laws.specs.log_laws.Slots.{committed_of, free_slots, prepared_of, records_in}
 use Rattle.node_requests.proofs.SlotLoops.{committed_more, free_more, prepared_more}
 use Rattle.node_requests.proofs.log.count_slots.Goals as goal
 

@@ -1,5 +1,5 @@
 use Rattle.std.proofs.Common.{◌≡◌, ◌≤◌, length, take}
-use Rattle.log_laws.specs.Slots.{committed_of, free_slots, prepared_of, records_in}
+use Rattle.world_laws.specs.log_laws.Slots.{committed_of, free_slots, prepared_of, records_in}
 use Rattle.node_requests.proofs.log.count_slots.Given as goal
 
 abbrev pub invariant-loop-slot : goal.invariant-loop-slot

@@ -1,9 +1,9 @@
 use Rattle.std.proofs.Common.{◌∷◌, [], Option, if◌then◌else◌, sym, subst, ◌∙◌}
-use Rattle.commit_protocol.specs.Messages.{LogRecord}
+use Rattle.emitter_model.specs.commit_protocol.Messages.{LogRecord}
 use Rattle.tm_types.specs.Parts.{log_record_of}
 use Rattle.emitter_model.specs.Emitting.{Emits}
 use Rattle.emitter_model.proofs.EmittingLemmas.{emits_nothing}
-use Rattle.run_model.specs.Answers.{owed_line}
+use Rattle.world_laws.specs.run_model.Answers.{owed_line}
 use Rattle.node_requests.specs.Managers.{owed_lines_at}
 use Rattle.node_requests.proofs.log.show_if_owed.Goals as goal
 

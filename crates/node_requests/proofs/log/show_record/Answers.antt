@@ -1,6 +1,6 @@
 use Rattle.std.proofs.Common.{◌∷◌, [], Option, ap, subst}
 use Rattle.std.specs.Prelude.{is_some}
-use Rattle.commit_protocol.specs.Messages.{LogRecord}
+use Rattle.emitter_model.specs.commit_protocol.Messages.{LogRecord}
 use Rattle.emitter_model.specs.Emitting.{Emits}
 use Rattle.emitter_model.proofs.EmittingLemmas.{emits_nothing}
 use Rattle.node_requests.specs.Managers.{entry_lines_at}

@@ -1,10 +1,10 @@
 use Rattle.std.proofs.Common.{◌≡◌, ◌+◌, ◌++◌, map, take, length, ◌∙◌, ap, sym, subst, refl, arith}
 use Rattle.std.proofs.lemmas.List.{take_all}
-use Rattle.log_laws.specs.Slots.{records_in, slot_records}
-use Rattle.run_model.specs.Answers.{log_line}
+use Rattle.world_laws.specs.log_laws.Slots.{records_in, slot_records}
+use Rattle.world_laws.specs.run_model.Answers.{log_line}
 use Rattle.emitter_model.specs.Emitting.{Emits}
 use Rattle.emitter_model.proofs.EmittingLemmas.{emits_on, since_on}
-use Rattle.lmcp_log.specs.Log.{slot_at}
+use Rattle.node_table.specs.lmcp_log.Log.{slot_at}
 use Rattle.node_requests.proofs.SlotLoops.{entries_more, no_record, one_record, records_more}
 use Rattle.node_requests.proofs.log.show_records.Goals.{then-show_record, else-show_record}
 use Rattle.node_requests.proofs.log.show_records.Goals as goal

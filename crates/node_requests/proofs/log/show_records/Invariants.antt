@@ -1,6 +1,6 @@
 use Rattle.std.proofs.Common.{◌≡◌, ◌≤◌, length, map, take}
-use Rattle.log_laws.specs.Slots.{records_in, slot_records}
-use Rattle.run_model.specs.Answers.{log_line}
+use Rattle.world_laws.specs.log_laws.Slots.{records_in, slot_records}
+use Rattle.world_laws.specs.run_model.Answers.{log_line}
 use Rattle.emitter_model.specs.Emitting.{Emits, Since}
 use Rattle.node_requests.proofs.log.show_records.Given as goal
 

@@ -4,8 +4,8 @@ use Rattle.script_lang.specs.Statements.{named_of}
 use Rattle.tm_types.specs.Events.{event_of}
 use Rattle.tm_types.specs.Parts.{reply_of}
 use Rattle.transcript.specs.Forms.{line_of}
-use Rattle.transcript_model.specs.Lines as line
-use Rattle.transcript_model.specs.Lines.{Line}
+use Rattle.emitter_model.specs.transcript_model.Lines as line
+use Rattle.emitter_model.specs.transcript_model.Lines.{Line}
 use Rattle.vms_base.specs.Ids.{serial_of}
 use Rattle.participants.specs.Refusing.{refusal_line}
 use Rattle.node_table.specs.Code.{up_of}

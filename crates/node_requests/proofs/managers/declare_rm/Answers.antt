@@ -1,10 +1,10 @@
 use Rattle.std.proofs.Common.{◌∷◌, [], List, sym, subst}
-use Rattle.commit_protocol.specs.Messages.{Name}
-use Rattle.script_model.specs.Statements as said
+use Rattle.emitter_model.specs.commit_protocol.Messages.{Name}
+use Rattle.script_lang.specs.script_model.Statements as said
 use Rattle.emitter_model.specs.Emitting.{Emits}
 use Rattle.emitter_model.proofs.EmittingLemmas.{emits_on, since_on}
-use Rattle.transcript_model.specs.Lines as line
-use Rattle.transcript_model.specs.Lines.{Line}
+use Rattle.emitter_model.specs.transcript_model.Lines as line
+use Rattle.emitter_model.specs.transcript_model.Lines.{Line}
 use Rattle.participants.specs.Refusing.{refusal_line}
 use Rattle.node_table.specs.Code.{up_of}
 use Rattle.node_table.specs.Standing.{Up}

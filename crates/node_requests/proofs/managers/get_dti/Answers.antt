@@ -1,9 +1,9 @@
 use Rattle.std.proofs.Common.{◌∷◌, [], Option, ap, subst, ◌∙◌}
 use Rattle.emitter_model.specs.Emitting.{Emits}
 use Rattle.script_lang.specs.Statements.{named_of}
-use Rattle.run_model.specs.Answers.{standing}
-use Rattle.transcript_model.specs.Lines as line
-use Rattle.transcript_model.specs.Lines.{Standing}
+use Rattle.world_laws.specs.run_model.Answers.{standing}
+use Rattle.emitter_model.specs.transcript_model.Lines as line
+use Rattle.emitter_model.specs.transcript_model.Lines.{Standing}
 use Rattle.vms_model.specs.Ids.{Id}
 use Rattle.node_table.specs.Code.{up_of}
 use Rattle.node_table.specs.Standing.{Up}

@@ -1,13 +1,13 @@
 use Rattle.std.proofs.Common.{◌≡◌, ◌∷◌, [], true, subst}
 use Rattle.std.specs.List.{list_any}
-use Rattle.commit_protocol.specs.Effects.{effects_of}
-use Rattle.commit_protocol.specs.Rows.{row}
-use Rattle.commit_protocol.specs.Table.{find_serial}
+use Rattle.emitter_model.specs.commit_protocol.Effects.{effects_of}
+use Rattle.emitter_model.specs.commit_protocol.Rows.{row}
+use Rattle.emitter_model.specs.commit_protocol.Table.{find_serial}
 use Rattle.tm_types.specs.Events.{event_of}
 use Rattle.transcript.specs.Forms.{line_of}
 use Rattle.emitter_model.specs.Emitting.{Emits}
-use Rattle.transcript_model.specs.Lines as line
-use Rattle.transcript_model.specs.Lines.{Line}
+use Rattle.emitter_model.specs.transcript_model.Lines as line
+use Rattle.emitter_model.specs.transcript_model.Lines.{Line}
 use Rattle.vms_base.specs.Ids.{serial_of}
 use Rattle.participants.specs.Refusing.{refusal_line}
 use Rattle.node_table.specs.Code.{up_of}

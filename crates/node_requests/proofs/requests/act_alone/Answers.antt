@@ -1,6 +1,6 @@
 use Rattle.std.proofs.Common.{Err, Ok, ◌+◌, sym, subst}
 use Rattle.record_operations.specs.Asking.{file_in, read_file_in}
-use Rattle.recovery_units.specs.Calls.{change_said, read_said}
+use Rattle.node_table.specs.recovery_units.Calls.{change_said, read_said}
 use Rattle.vms_base.specs.Ids.{id_of}
 use Rattle.file_requests.specs.Acting.{ActsAlone}
 use Rattle.file_requests.specs.Asking.{number_in, said_of}

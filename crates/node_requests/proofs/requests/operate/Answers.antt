@@ -1,7 +1,7 @@
 use Rattle.std.proofs.Common.{Ok, ap, refl, sym, subst, ◌∙◌}
-use Rattle.script_model.specs.Statements as said
+use Rattle.script_lang.specs.script_model.Statements as said
 use Rattle.transcript.specs.Forms.{line_of}
-use Rattle.transcript_model.specs.Lines as line
+use Rattle.emitter_model.specs.transcript_model.Lines as line
 use Rattle.script_lang.specs.Statements.{operation_of}
 use Rattle.directory_model.specs.Files.{IsNamed}
 use Rattle.vms_base.specs.Ids.{serial_of}

@@ -1,6 +1,6 @@
 use Rattle.std.proofs.Common.{ap, refl, sym, subst, ◌∙◌}
-use Rattle.script_model.specs.Statements as said
-use Rattle.transcript_model.specs.Lines as line
+use Rattle.script_lang.specs.script_model.Statements as said
+use Rattle.emitter_model.specs.transcript_model.Lines as line
 use Rattle.script_lang.specs.Statements.{operation_of}
 use Rattle.directory_model.specs.Files.{IsNamed}
 use Rattle.file_requests.specs.Asking.{number_in, said_of}

@@ -1,8 +1,8 @@
 use Rattle.std.proofs.Common.{map, refl, sym, subst}
 use Rattle.script_lang.specs.Statements.{form_of, request_of, setting_of, side_of}
-use Rattle.script_model.specs.Statements as said
-use Rattle.run_model.specs.Answers.{blocks_for, blocks_of, created, entry_lines, image_lines, journal_at, on_free, records_of, shown_line}
-use Rattle.run_model.specs.World.{Saves}
+use Rattle.script_lang.specs.script_model.Statements as said
+use Rattle.world_laws.specs.run_model.Answers.{blocks_for, blocks_of, created, entry_lines, image_lines, journal_at, on_free, records_of, shown_line}
+use Rattle.world_laws.specs.run_model.World.{Saves}
 use Rattle.node_table.specs.Code.{stored_of, up_of}
 use Rattle.node_table.specs.Standing.{Stored, Up}
 use Rattle.node_requests.specs.Requests.{DoesRequest}

@@ -3,7 +3,7 @@ use Rattle.script_lang.specs.Statements.{recovery_of, request_of}
 use Rattle.node_table.specs.Code.{stored_of, up_of}
 use Rattle.node_table.specs.Standing.{Stored, Up}
 use Rattle.node_requests.specs.Requests.{AnswersRequest}
-use Rattle.node_standing.specs.Moments.{CanBeTold}
+use Rattle.file_requests.specs.node_standing.Moments.{CanBeTold}
 use Rattle.node_requests.proofs.Recoveries.{recovery_answers}
 use Rattle.node_requests.proofs.RequestKinds.{of_reserved}
 use Rattle.node_requests.proofs.requests.serve_up.Goals as goal

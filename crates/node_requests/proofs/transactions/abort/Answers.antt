@@ -1,13 +1,13 @@
 use Rattle.std.proofs.Common.{ap, not, refl, sym, ◌∙◌}
-use Rattle.commit_protocol.specs.Rows as rows
-use Rattle.commit_protocol.specs.Table.{Branch}
-use Rattle.script_model.specs.Statements as said
-use Rattle.script_model.specs.Statements.{ByLabel}
+use Rattle.emitter_model.specs.commit_protocol.Rows as rows
+use Rattle.emitter_model.specs.commit_protocol.Table.{Branch}
+use Rattle.script_lang.specs.script_model.Statements as said
+use Rattle.script_lang.specs.script_model.Statements.{ByLabel}
 use Rattle.tm_types.specs.Branches.{branch_of}
 use Rattle.transcript.specs.Forms.{line_of}
-use Rattle.transcript_model.specs.Lines as line
+use Rattle.emitter_model.specs.transcript_model.Lines as line
 use Rattle.vms_model.specs.Transactions.{Aborted}
-use Rattle.run_model.specs.Answers.{is_open}
+use Rattle.world_laws.specs.run_model.Answers.{is_open}
 use Rattle.node_table.specs.Code.{up_of}
 use Rattle.node_requests.proofs.Statements.{allowed_serial, asked_fails, asked_serves, missing_refuses, named_again, state_refuses, aborts_trans}
 use Rattle.node_requests.proofs.transactions.abort.Goals as goal

@@ -1,9 +1,9 @@
 use Rattle.std.proofs.Common.{sym, ◌∙◌}
-use Rattle.script_model.specs.Statements.{ByLabel}
+use Rattle.script_lang.specs.script_model.Statements.{ByLabel}
 use Rattle.tm_types.specs.Branches.{branch_of}
 use Rattle.transcript.specs.Forms.{line_of}
 use Rattle.vms_base.specs.Ids.{id_of}
-use Rattle.commit_protocol.specs.Table.{find, first}
+use Rattle.emitter_model.specs.commit_protocol.Table.{find, first}
 use Rattle.node_table.specs.Code.{up_of}
 use Rattle.node_table.specs.Standing.{Up}
 use Rattle.node_requests.proofs.Adding.{add_done, add_full, add_inactive, add_missing, add_unlabelled, adds_allowed}

@@ -1,12 +1,12 @@
 use Rattle.std.proofs.Common.{map, refl, sym, ◌∙◌}
-use Rattle.commit_protocol.specs.Rows as rows
-use Rattle.commit_protocol.specs.Table.{Branch}
-use Rattle.script_model.specs.Statements as said
-use Rattle.script_model.specs.Statements.{ByLabel}
+use Rattle.emitter_model.specs.commit_protocol.Rows as rows
+use Rattle.emitter_model.specs.commit_protocol.Table.{Branch}
+use Rattle.script_lang.specs.script_model.Statements as said
+use Rattle.script_lang.specs.script_model.Statements.{ByLabel}
 use Rattle.tm_types.specs.Branches.{branch_of}
 use Rattle.tm_types.specs.Effects.{effect_of}
 use Rattle.transcript.specs.Forms.{line_of}
-use Rattle.run_model.specs.Answers.{is_first_active}
+use Rattle.world_laws.specs.run_model.Answers.{is_first_active}
 use Rattle.node_table.specs.Code.{up_of}
 use Rattle.node_table.specs.Standing.{Up}
 use Rattle.node_requests.specs.Transacting.{ended_in}

@@ -1,15 +1,15 @@
 use Rattle.std.proofs.Common.{refl, sym, ◌∙◌}
-use Rattle.commit_protocol.specs.Rows as rows
-use Rattle.commit_protocol.specs.Table.{Branch}
+use Rattle.emitter_model.specs.commit_protocol.Rows as rows
+use Rattle.emitter_model.specs.commit_protocol.Table.{Branch}
 use Rattle.script_lang.specs.Statements.{named_of}
-use Rattle.script_model.specs.Statements as said
+use Rattle.script_lang.specs.script_model.Statements as said
 use Rattle.tm_types.specs.Branches.{branch_of}
 use Rattle.transcript.specs.Forms.{line_of}
-use Rattle.transcript_model.specs.Lines as line
-use Rattle.run_model.specs.Answers.{is_in_doubt}
+use Rattle.emitter_model.specs.transcript_model.Lines as line
+use Rattle.world_laws.specs.run_model.Answers.{is_in_doubt}
 use Rattle.node_table.specs.Code.{up_of}
 use Rattle.node_requests.proofs.Statements.{allowed_serial, asked_serves, inquires, missing_refuses, named_again, named_made, state_refuses}
-use Rattle.commit_protocol.specs.Table.{find_serial}
+use Rattle.emitter_model.specs.commit_protocol.Table.{find_serial}
 use Rattle.node_requests.proofs.Statements.{asks_surely}
 use Rattle.node_requests.proofs.transactions.inquire.Goals as goal
 

@@ -1,9 +1,9 @@
 use Rattle.std.proofs.Common.{◌≡◌, true, false, List, Option, Some, None, map, not, refl, ap, ◌∙◌, arith}
 use Rattle.std.specs.Prelude.{is_some}
 use Rattle.std.specs.Option.{option_map}
-use Rattle.commit_protocol.specs.Rows.{is_noted}
+use Rattle.emitter_model.specs.commit_protocol.Rows.{is_noted}
 use Rattle.net_wire.specs.Messages.{kind_of}
-use Rattle.run_model.specs.Answers.{missing}
+use Rattle.world_laws.specs.run_model.Answers.{missing}
 use Rattle.tm_types.specs.Parts.{child_of}
 use Rattle.tm_types.specs.declared.lists.Child.{Child}
 use Rattle.tm_types.proofs.ListLemmas.{all_turned, passed, pushed}

@@ -1,5 +1,5 @@
 use Rattle.std.proofs.Common.{◌≡◌, ◌≤◌, ◌++◌, length, drop, map}
-use Rattle.run_model.specs.Answers.{missing}
+use Rattle.world_laws.specs.run_model.Answers.{missing}
 use Rattle.tm_types.specs.Parts.{child_of}
 use Rattle.vms_base.specs.Ids.{serial_of}
 use Rattle.node_requests.proofs.transactions.missing.Given as goal

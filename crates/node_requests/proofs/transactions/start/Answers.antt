@@ -1,6 +1,6 @@
 use Rattle.std.proofs.Common.{[], None, sym, subst, ◌++◌}
-use Rattle.commit_protocol.specs.Table.{branch_serials, record_serials}
-use Rattle.commit_protocol.specs.World.{In}
+use Rattle.emitter_model.specs.commit_protocol.Table.{branch_serials, record_serials}
+use Rattle.emitter_model.specs.commit_protocol.World.{In}
 use Rattle.transcript.specs.Forms.{line_of}
 use Rattle.vms_base.specs.Ids.{id_of}
 use Rattle.node_table.specs.Code.{up_of}

@@ -1,7 +1,7 @@
 use Rattle.std.proofs.Common.{◌++◌, [], ap, sym, subst, ◌∙◌}
 use Rattle.std.specs.Option.{option_map}
-use Rattle.commit_protocol.specs.Table.{branch_serials, record_serials}
-use Rattle.commit_protocol.specs.World.{In}
+use Rattle.emitter_model.specs.commit_protocol.Table.{branch_serials, record_serials}
+use Rattle.emitter_model.specs.commit_protocol.World.{In}
 use Rattle.run_shared.specs.LabelTable.{label_of}
 use Rattle.transcript.specs.Forms.{line_of}
 use Rattle.vms_base.specs.Ids.{bid_of, id_of}

@@ -1,5 +1,5 @@
 use Rattle.std.proofs.Common.{◌≡◌, ◌≤◌, ◌++◌, length, drop, map}
-use Rattle.run_model.specs.Answers.{unreplied}
+use Rattle.world_laws.specs.run_model.Answers.{unreplied}
 use Rattle.tm_types.specs.Parts.{manager_of}
 use Rattle.node_requests.proofs.transactions.unreplied.Given as goal
 

@@ -1,8 +1,8 @@
 use Rattle.std.proofs.Common.{◌≡◌, Bool, true, false, List, [], ◌∷◌, not, map, refl, ap, ◌∙◌, arith, rules}
 use Rattle.std.specs.List.{filter}
 use Rattle.std.proofs.lemmas.Fn.{filter_same}
-use Rattle.commit_protocol.specs.Messages.{same_id}
-use Rattle.commit_protocol.specs.Table.{without}
+use Rattle.net_wire.specs.commit_protocol.Messages.{same_id}
+use Rattle.net_wire.specs.commit_protocol.Table.{without}
 use Rattle.vms_base.specs.Ids.{serial_of}
 use Rattle.vms_model.specs.Ids.{Id}
 use Rattle.vms_base.specs.declared.ids.Serial.{Serial}

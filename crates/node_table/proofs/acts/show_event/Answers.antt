@@ -1,6 +1,6 @@
 use Rattle.std.proofs.Common.{◌∷◌, [], if◌then◌else◌, ◌∙◌, sym, subst}
 use Rattle.emitter_model.specs.Emitting.{Emits}
-use Rattle.transcript_model.specs.Lines.{ManagerTold}
+use Rattle.emitter_model.specs.transcript_model.Lines.{ManagerTold}
 use Rattle.emitter_model.proofs.EmittingLemmas.{emits_nothing}
 use Rattle.tm_types.specs.Parts.{rm_event_of}
 use Rattle.vms_base.specs.Ids.{serial_of, tid_of}

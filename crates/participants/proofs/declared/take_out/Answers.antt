@@ -1,8 +1,8 @@
 use Rattle.std.proofs.Common.{◌≡◌, Bool, true, false, List, [], ◌∷◌, not, refl, ap, ◌∙◌, rules}
 use Rattle.std.specs.List.{filter}
 use Rattle.std.proofs.lemmas.Fn.{filter_same}
-use Rattle.commit_protocol.specs.Messages.{Name, same_name}
-use Rattle.commit_protocol.specs.Table.{without_rm}
+use Rattle.run_model.specs.commit_protocol.Messages.{Name, same_name}
+use Rattle.run_model.specs.commit_protocol.Table.{without_rm}
 use Rattle.participants.proofs.declared.take_out.Goals as goal
 
 left : (rm : Name) (xs : List Name) → filter (λ x. not (same_name x rm)) xs ≡ without_rm rm xs

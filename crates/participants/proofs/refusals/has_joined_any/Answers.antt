@@ -1,8 +1,8 @@
 use Rattle.std.proofs.Common.{◌≡◌, ℕ, suc, zero, ◌||◌, Bool, true, false, List, [], ◌∷◌, drop, refl, sym, ap, ◌∙◌, add-one, arith}
 use Rattle.std.proofs.lemmas.List.{at_drop_all}
 use Rattle.std.specs.List.{list_any, slice_get}
-use Rattle.commit_protocol.specs.Allowed.{there_is}
-use Rattle.commit_protocol.specs.Table.{Branch}
+use Rattle.run_model.specs.commit_protocol.Allowed.{there_is}
+use Rattle.run_model.specs.commit_protocol.Table.{Branch}
 use Rattle.run_model.specs.Answers.{has_joined}
 use Rattle.participants.proofs.refusals.has_joined_any.Goals as goal
 

@@ -2,7 +2,7 @@ use Rattle.std.proofs.Common.{◌<◌, Some, is_some, cond, subst, sym, ap, ◌�
 use Rattle.indexmap.specs.IndexMap.{IndexMap, spare}
 use Rattle.table_keys.specs.declared.key.BranchKey.{BranchKey}
 use Rattle.vms_base.specs.Ids.{serial_of}
-use Rattle.records_model.specs.History.{same_id}
+use Rattle.table_keys.specs.records_model.History.{same_id}
 use Rattle.record_locks.specs.declared.turns.Turn.{Turn}
 use Rattle.record_locks.specs.Turns.{turn_of}
 use Rattle.record_locks.proofs.LockLemmas.{of_ok}

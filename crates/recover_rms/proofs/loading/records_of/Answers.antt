@@ -1,6 +1,6 @@
 use Rattle.std.proofs.Common.{◌≡◌, List, length, map, rules, ap, subst, sym, arith}
 use Rattle.std.specs.FinMap.{empty, entries, len-entries}
-use Rattle.load_laws.specs.Records.{Keyed}
+use Rattle.load_pages.specs.load_laws.Records.{Keyed}
 use Rattle.load_pages.specs.Given.{keyed}
 use Rattle.load_pages.specs.declared.records.KeyedRecord.{KeyedRecord}
 use Rattle.recover_rms.proofs.LoadLemmas.{Keeps, all_kept, all_there, next_kept, none_left, nothing_kept}

@@ -1,8 +1,8 @@
 use Rattle.std.proofs.Common.{map, sym, ap}
 use Rattle.std.proofs.lemmas.List.{length-map}
 use Rattle.load_pages.specs.Given.{keyed}
-use Rattle.volume_format.specs.declared.home.Home.{Home}
-use Rattle.volume_format.specs.Head.{head_block_of}
+use Rattle.volume.specs.volume_format.declared.home.Home.{Home}
+use Rattle.volume.specs.volume_format.Head.{head_block_of}
 use Rattle.recover_rms.proofs.DoneLemmas.{before_loadable, before_placed, fell_so, not_loaded_so, replaced_so}
 use Rattle.recover_rms.proofs.replacing.replace_records.Goals as goal
 

@@ -1,6 +1,6 @@
 use Rattle.std.proofs.Common.{◌∙◌, ◌∷◌, List, ap, sym}
 use Rattle.std.specs.Prelude.{map}
-use Rattle.run_model.specs.Answers.{owed_line}
+use Rattle.reference_index.specs.run_model.Answers.{owed_line}
 use Rattle.tm_types.specs.Parts.{log_record_of}
 use Rattle.reference_world.specs.Standing.{line_of}
 use Rattle.reference_world.specs.declared.line.Line.{Line}

@@ -1,6 +1,6 @@
 use Rattle.std.proofs.Common.{◌≡◌, ◌∷◌, ◌∙◌, List, ap}
 use Rattle.std.specs.Prelude.{map}
-use Rattle.commit_protocol.specs.Table.{Key, record_key}
+use Rattle.log_laws.specs.commit_protocol.Table.{Key, record_key}
 use Rattle.tm_types.specs.Parts.{log_record_of}
 use Rattle.reference_world.specs.declared.world.BranchKey.{BranchKey}
 use Rattle.reference_world.specs.Standing.{branch_key_of}

@@ -4,7 +4,7 @@ use Rattle.std.specs.FinMap.{get, get-entries}
 use Rattle.std.specs.FinMap.Entries.{find}
 use Rattle.records_model.specs.Records.{key_cmp}
 use Rattle.records_model.specs.History.{current}
-use Rattle.run_model.specs.World as world
+use Rattle.reference_index.specs.run_model.World as world
 use Rattle.reference_world.specs.declared.world.Row.{Row}
 use Rattle.reference_index.specs.Standing.{key_of, lent_key, value_of}
 use Rattle.reference_world.specs.Standing.{entry_of, history_of}

@@ -1,9 +1,9 @@
 use Rattle.std.proofs.Common.{◌≡◌, ap, ◌∙◌, sym, false}
 use Rattle.std.specs.Prelude.{nat_le}
-use Rattle.vms_model.specs.Keys.{Text}
+use Rattle.vms_base.specs.vms_model.Keys.{Text}
 use Rattle.run_model.specs.Locks.{is_locked}
-use Rattle.records_model.specs.Slots.{put}
-use Rattle.records_model.specs.Parts.{bytes_of}
+use Rattle.run_model.specs.records_model.Slots.{put}
+use Rattle.run_model.specs.records_model.Parts.{bytes_of}
 use Rattle.reference_index.specs.Standing.{lent_value, locks_of, slots_of}
 use Rattle.reference_index.proofs.ListLemmas.{if_ok_so}
 use Rattle.reference_index.proofs.PartLemmas.{bucket_parted}

@@ -1,6 +1,6 @@
 use Rattle.std.proofs.Common.{◌≡◌, suc, Some, arith, subst, refl, sym}
 use Rattle.std.specs.Prelude.{◌-◌}
-use Rattle.records_model.specs.Parts.{best_below}
+use Rattle.run_model.specs.records_model.Parts.{best_below}
 use Rattle.reference_index.specs.Standing.{slots_of}
 use Rattle.reference_index.proofs.PartLemmas.{best_with}
 use Rattle.reference_index.proofs.parts.+best_below.Goals as goal

@@ -1,7 +1,7 @@
 use Rattle.std.proofs.Common.{ap, ◌∙◌, sym, refl, drop}
 use Rattle.std.specs.Prelude.{map}
 use Rattle.std.proofs.lemmas.List.{drop-map}
-use Rattle.run_model.specs.Operations.{removed}
+use Rattle.reference_index.specs.run_model.Operations.{removed}
 use Rattle.reference_world.specs.Standing.{entry_of}
 use Rattle.reference_index.proofs.ListLemmas.{if_ok_so}
 use Rattle.reference_records.proofs.records.changes_asked.Goals as goal

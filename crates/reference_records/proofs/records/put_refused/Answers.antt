@@ -2,8 +2,8 @@ use Rattle.std.proofs.Common.{◌≡◌, ◌∙◌, ℕ, List, Bool, Option, Som
 use Rattle.std.specs.FinMap.{contains_key}
 use Rattle.vms_model.specs.Keys as key
 use Rattle.reference_world.specs.declared.line.Line.TheVariants as line
-use Rattle.run_model.specs.Operations as operations
-use Rattle.run_model.specs.Operations.{current_records}
+use Rattle.reference_index.specs.run_model.Operations as operations
+use Rattle.reference_index.specs.run_model.Operations.{current_records}
 use Rattle.reference_index.specs.Standing.{lent_value}
 use Rattle.reference_world.specs.Standing.{file_of, line_of, organization_of}
 use Rattle.reference_world.specs.declared.world.Organization.{Organization}

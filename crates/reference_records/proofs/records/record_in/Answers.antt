@@ -1,8 +1,8 @@
 use Rattle.std.proofs.Common.{ap, ◌∙◌, sym}
 use Rattle.std.specs.FinMap.{get-entries}
 use Rattle.std.specs.FinMap.Entries.{find}
-use Rattle.records_model.specs.Records.{key_cmp}
-use Rattle.run_model.specs.Operations.{current_records}
+use Rattle.reference_index.specs.records_model.Records.{key_cmp}
+use Rattle.reference_index.specs.run_model.Operations.{current_records}
 use Rattle.reference_index.specs.Standing.{lent_key}
 use Rattle.reference_world.specs.Standing.{file_of}
 use Rattle.reference_records.proofs.records.record_in.Goals as goal

@@ -1,6 +1,6 @@
 use Rattle.std.proofs.Common.{ap, ◌∙◌, ◌++◌, ◌∷◌}
 use Rattle.std.specs.Prelude.{map}
-use Rattle.run_model.specs.Answers.{image_lines}
+use Rattle.reference_index.specs.run_model.Answers.{image_lines}
 use Rattle.reference_index.proofs.ListLemmas.{if_ok_so, behind_first}
 use Rattle.reference_world.specs.Standing.{line_of, placed_of}
 use Rattle.reference_recovery.proofs.LineLemmas.{first_line}

@@ -3,7 +3,7 @@ use Rattle.std.specs.Prelude.{map}
 use Rattle.std.specs.FinMap.{entries}
 use Rattle.std.specs.FinMap.Entries.{put}
 use Rattle.records_model.specs.Records.{key_cmp}
-use Rattle.run_model.specs.World.{records_from}
+use Rattle.reference_index.specs.run_model.World.{records_from}
 use Rattle.reference_index.proofs.ListLemmas.{behind_first, if_ok_so}
 use Rattle.reference_world.specs.Standing.{entry_of}
 use Rattle.reference_recovery.proofs.NumberLemmas.{first_at, no_numbers}

@@ -2,8 +2,8 @@ use Rattle.std.proofs.Common.{◌+◌, List, ℕ, ap, refl, sym, ◌∙◌, leng
 use Rattle.std.specs.Prelude.{map}
 use Rattle.vms_model.specs.Keys.{Key}
 use Rattle.records_model.specs.Placing as placing
-use Rattle.tree_model.specs.Layouts.{used_of}
-use Rattle.run_model.specs.World.{buckets_taken, layout_loaded, sizes_of}
+use Rattle.reference_index.specs.tree_model.Layouts.{used_of}
+use Rattle.reference_index.specs.run_model.World.{buckets_taken, layout_loaded, sizes_of}
 use Rattle.reference_world.specs.Standing.{file_of, organization_of, rows_of}
 use Rattle.reference_recovery.proofs.loading.buckets_taken.Goals as goal
 

@@ -1,6 +1,6 @@
 use Rattle.std.proofs.Common.{ap, sym, ◌∙◌}
 use Rattle.std.specs.FinMap.{entries}
-use Rattle.run_model.specs.World.{loaded_map, records_from}
+use Rattle.reference_index.specs.run_model.World.{loaded_map, records_from}
 use Rattle.reference_index.proofs.ListLemmas.{if_ok_so}
 use Rattle.reference_world.specs.Standing.{organization_of}
 use Rattle.reference_recovery.proofs.loading.loaded_rows.Goals as goal

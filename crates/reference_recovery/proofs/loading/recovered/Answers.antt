@@ -2,9 +2,9 @@ use Rattle.std.proofs.Common.{◌≡◌, ap, sym, ◌∙◌}
 use Rattle.std.specs.Prelude.{◌*◌, map, max}
 use Rattle.std.specs.FinMap.{entries, from_entries}
 use Rattle.records_model.specs.Records.{Records}
-use Rattle.recovery_model.specs.Recovery.{rolled}
-use Rattle.run_model.specs.Answers.{records_recovered, way_of}
-use Rattle.run_model.specs.World.{buckets_taken, state_of}
+use Rattle.reference_index.specs.recovery_model.Recovery.{rolled}
+use Rattle.reference_index.specs.run_model.Answers.{records_recovered, way_of}
+use Rattle.reference_index.specs.run_model.World.{buckets_taken, state_of}
 use Rattle.script_lang.specs.Statements.{recovery_of}
 use Rattle.reference_world.specs.Standing.{entry_of, file_of, kept_of, rows_of}
 use Rattle.reference_world.proofs.EntryLemmas.{from_all}

@@ -1,7 +1,7 @@
 use Rattle.std.proofs.Common.{◌∙◌}
 use Rattle.std.specs.Prelude.{nat_lt}
-use Rattle.transcript_model.specs.Lines as line
-use Rattle.run_model.specs.Operations.{refused_if}
+use Rattle.reference_index.specs.transcript_model.Lines as line
+use Rattle.reference_index.specs.run_model.Operations.{refused_if}
 use Rattle.reference_recovery.proofs.refusals.early_refused.Goals as goal
 
 pub returns : goal.returns

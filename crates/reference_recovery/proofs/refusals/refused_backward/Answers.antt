@@ -1,6 +1,6 @@
 use Rattle.std.proofs.Common.{sym, ◌∙◌}
 use Rattle.records_model.specs.History.{first_to_change}
-use Rattle.run_model.specs.World.{state_of}
+use Rattle.reference_index.specs.run_model.World.{state_of}
 use Rattle.reference_index.proofs.ListLemmas.{if_ok_so}
 use Rattle.reference_world.specs.Standing.{file_of, history_of, serials_of}
 use Rattle.reference_recovery.proofs.RefusalLemmas.{backward_line, backward_unmarked}

@@ -2,8 +2,8 @@ use Rattle.std.proofs.Common.{◌≡◌, ap, ◌∙◌}
 use Rattle.std.specs.Prelude.{map}
 use Rattle.std.specs.FinMap.{entries}
 use Rattle.records_model.specs.History.{current}
-use Rattle.recovery_model.specs.File.{all_of}
-use Rattle.recovery_model.specs.Journal as images
+use Rattle.reference_index.specs.recovery_model.File.{all_of}
+use Rattle.reference_index.specs.recovery_model.Journal as images
 use Rattle.reference_index.proofs.ListLemmas.{if_ok_so}
 use Rattle.reference_world.specs.Standing.{entry_of, history_of, placed_of}
 use Rattle.reference_recovery.proofs.rolling.rolled_back.Goals as goal

@@ -1,8 +1,8 @@
 use Rattle.std.proofs.Common.{Option, ap, sym, ◌∙◌}
 use Rattle.std.specs.Option.{option_map}
 use Rattle.std.specs.FinMap.{entries}
-use Rattle.recovery_model.specs.Recovery.{rolled_on}
-use Rattle.run_model.specs.World.{state_of}
+use Rattle.reference_index.specs.recovery_model.Recovery.{rolled_on}
+use Rattle.reference_index.specs.run_model.World.{state_of}
 use Rattle.reference_index.proofs.ListLemmas.{if_ok_so}
 use Rattle.reference_world.specs.Standing.{file_of, save_of}
 use Rattle.reference_world.specs.declared.world.Save.{Save}

@@ -3,8 +3,8 @@ use Rattle.std.specs.Option.{option_map}
 use Rattle.std.specs.Prelude.{map}
 use Rattle.std.specs.FinMap.{entries}
 use Rattle.records_model.specs.History.{reached}
-use Rattle.recovery_model.specs.File.{all_of, since}
-use Rattle.recovery_model.specs.Journal as images
+use Rattle.reference_index.specs.recovery_model.File.{all_of, since}
+use Rattle.reference_index.specs.recovery_model.Journal as images
 use Rattle.reference_index.proofs.ListLemmas.{if_ok_so}
 use Rattle.reference_world.specs.Standing.{entry_of, placed_of, rows_of}
 use Rattle.reference_recovery.proofs.rolling.rolled_from.Goals as goal

@@ -1,6 +1,6 @@
 use Rattle.std.proofs.Common.{sym, ◌∙◌}
 use Rattle.std.specs.Prelude.{map}
-use Rattle.recovery_model.specs.File.{all_of}
+use Rattle.reference_index.specs.recovery_model.File.{all_of}
 use Rattle.reference_world.specs.Standing.{placed_of}
 use Rattle.reference_recovery.proofs.RoomLemmas.{none_unsettled, one_unsettled}
 use Rattle.reference_recovery.proofs.room.+unsettled_in.Goals as goal

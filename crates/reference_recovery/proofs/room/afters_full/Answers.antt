@@ -1,8 +1,8 @@
 use Rattle.std.proofs.Common.{◌≡◌, ◌∙◌, ap}
 use Rattle.std.specs.Prelude.{◌&&◌, nat_lt}
-use Rattle.transcript_model.specs.Lines as line
-use Rattle.recovery_model.specs.Room.{free_in}
-use Rattle.run_model.specs.Operations.{refused_if}
+use Rattle.reference_index.specs.transcript_model.Lines as line
+use Rattle.reference_index.specs.recovery_model.Room.{free_in}
+use Rattle.reference_index.specs.run_model.Operations.{refused_if}
 use Rattle.reference_world.specs.Standing.{file_of}
 use Rattle.reference_recovery.proofs.room.afters_full.Goals as goal
 

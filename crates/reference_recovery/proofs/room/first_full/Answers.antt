@@ -1,5 +1,5 @@
 use Rattle.std.proofs.Common.{◌∙◌}
-use Rattle.run_model.specs.Operations.{first_of}
+use Rattle.reference_index.specs.run_model.Operations.{first_of}
 use Rattle.reference_recovery.proofs.room.first_full.Goals as goal
 
 pub returns : goal.returns

@@ -1,7 +1,7 @@
 use Rattle.std.proofs.Common.{◌-◌, ap, ◌∙◌, map, length, take, drop}
 use Rattle.std.proofs.lemmas.Result.{IfOk-weaker}
 use Rattle.vms_base.specs.Ids.{id_of}
-use Rattle.reference_node.specs.Nodes.{node_of}
+use Rattle.reference_tasks.specs.reference_node.Nodes.{node_of}
 use Rattle.reference_run.specs.Served.{part_of}
 use Rattle.reference_run.proofs.RackLemmas.{parted}
 use Rattle.reference_run.proofs.StatementLemmas.{all_asked}

@@ -1,9 +1,9 @@
 use Rattle.std.proofs.Common.{not, sym, ap, ◌∙◌, map}
-use Rattle.transcript_model.specs.Lines as model
+use Rattle.world_laws.specs.transcript_model.Lines as model
 use Rattle.script_lang.specs.Statements.{request_of}
-use Rattle.run_model.specs.Operations.{refused_if}
-use Rattle.run_model.specs.Statements.{other_node}
-use Rattle.reference_node.specs.Nodes.{node_of}
+use Rattle.world_laws.specs.run_model.Operations.{refused_if}
+use Rattle.world_laws.specs.run_model.Statements.{other_node}
+use Rattle.reference_tasks.specs.reference_node.Nodes.{node_of}
 use Rattle.reference_run.specs.Served.{moved}
 use Rattle.reference_run.proofs.StatementLemmas.{named_is}
 use Rattle.reference_run.proofs.rack.has_other.Goals as goal

@@ -1,8 +1,8 @@
 use Rattle.std.proofs.Common.{◌≡◌, ◌+◌, None, arith, false, refl, subst}
-use Rattle.commit_protocol.specs.Allowed.{is_working}
-use Rattle.run_model.specs.Answers.{branch_labelled, in_state, is_marked, keys_refused, made_label, of_file, powers, refused_before_reading, service, there_is_file, unsettled_label}
-use Rattle.run_model.specs.Operations.{first_of, form_refused, keys_asked}
-use Rattle.run_model.specs.World.{serial_labelled}
+use Rattle.log_laws.specs.commit_protocol.Allowed.{is_working}
+use Rattle.reference_index.specs.run_model.Answers.{branch_labelled, in_state, is_marked, keys_refused, made_label, of_file, powers, refused_before_reading, service, there_is_file, unsettled_label}
+use Rattle.reference_index.specs.run_model.Operations.{first_of, form_refused, keys_asked}
+use Rattle.reference_index.specs.run_model.World.{serial_labelled}
 use Rattle.script_lang.specs.Statements.{operation_of, request_of}
 use Rattle.script_lang.specs.declared.statement.Request.{Request}
 use Rattle.script_lang.specs.declared.statement.Request.TheVariants as request

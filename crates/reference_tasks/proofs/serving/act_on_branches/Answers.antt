@@ -1,7 +1,7 @@
 use Rattle.std.proofs.Common.{◌≡◌, None, false, subst}
-use Rattle.commit_protocol.specs.Allowed.{may_end}
-use Rattle.run_model.specs.Answers.{authorised, branch_labelled, branch_named, in_state, is_first_active, is_in_doubt, is_open, made_label, made_name, new_label, of_label, service, unsettled, unsettled_label}
-use Rattle.run_model.specs.Operations.{first_of}
+use Rattle.log_laws.specs.commit_protocol.Allowed.{may_end}
+use Rattle.reference_index.specs.run_model.Answers.{authorised, branch_labelled, branch_named, in_state, is_first_active, is_in_doubt, is_open, made_label, made_name, new_label, of_label, service, unsettled, unsettled_label}
+use Rattle.reference_index.specs.run_model.Operations.{first_of}
 use Rattle.script_lang.specs.Statements.{named_of, request_of}
 use Rattle.script_lang.specs.declared.statement.Request.{Request}
 use Rattle.reference_node.specs.Nodes.{node_of}

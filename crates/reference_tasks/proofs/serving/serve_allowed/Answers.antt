@@ -1,5 +1,5 @@
 use Rattle.std.proofs.Common.{◌+◌, arith}
-use Rattle.run_model.specs.Answers.{service}
+use Rattle.reference_index.specs.run_model.Answers.{service}
 use Rattle.script_lang.specs.Statements.{request_of}
 use Rattle.reference_branches.specs.Branches.{shared_of}
 use Rattle.reference_node.specs.Nodes.{node_of}

@@ -1,9 +1,9 @@
 use Rattle.std.proofs.Common.{◌≡◌, ◌∙◌, ◌∷◌, [], List, ap, sym, subst}
 use Rattle.std.specs.Prelude.{map, IfOk}
-use Rattle.transcript_model.specs.Lines as line
-use Rattle.commit_protocol.specs.Rows.{Clock, Got, LinkDown, RunDown}
-use Rattle.run_model.specs.Answers as answers
-use Rattle.run_model.specs.Answers.{task_service}
+use Rattle.reference_index.specs.transcript_model.Lines as line
+use Rattle.log_laws.specs.commit_protocol.Rows.{Clock, Got, LinkDown, RunDown}
+use Rattle.reference_index.specs.run_model.Answers as answers
+use Rattle.reference_index.specs.run_model.Answers.{task_service}
 use Rattle.net_wire.specs.Messages.{message_of}
 use Rattle.reference_world.specs.Standing.{line_of}
 use Rattle.reference_node.specs.Nodes.{node_of}

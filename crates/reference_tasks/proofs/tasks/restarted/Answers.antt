@@ -1,7 +1,7 @@
 use Rattle.std.proofs.Common.{◌≡◌, ◌+◌, ◌∙◌, true, ap, sym, refl}
 use Rattle.std.specs.Prelude.{map}
 use Rattle.std.proofs.lemmas.List.{map-append}
-use Rattle.run_model.specs.Answers.{Restarts, task_service}
+use Rattle.reference_index.specs.run_model.Answers.{Restarts, task_service}
 use Rattle.reference_world.specs.Standing.{line_of}
 use Rattle.reference_node.specs.Nodes.{node_of}
 use Rattle.reference_branches.specs.Branches.{shared_of}

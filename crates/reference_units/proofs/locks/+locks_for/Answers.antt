@@ -1,6 +1,6 @@
 use Rattle.std.proofs.Common.{◌≡◌, ◌∷◌, ◌∙◌, List, ap, sym, false}
 use Rattle.std.specs.Prelude.{map}
-use Rattle.run_model.specs.Locks as locks
+use Rattle.reference_index.specs.run_model.Locks as locks
 use Rattle.vms_base.specs.Ids.{id_of}
 use Rattle.reference_index.specs.declared.locks.Lock.{Lock}
 use Rattle.reference_index.specs.Standing.{key_of, locks_of}

@@ -1,5 +1,5 @@
 use Rattle.std.proofs.Common.{◌+◌, ◌-◌, ◌≤◌}
-use Rattle.run_model.specs.World.{extents_of}
+use Rattle.reference_index.specs.run_model.World.{extents_of}
 use Rattle.reference_world.specs.Standing.{directory_of}
 use Rattle.reference_world.specs.Directories.{IsRuns}
 use Rattle.reference_world.proofs.directory.free_runs.Given as goal

@@ -1,7 +1,7 @@
 use Rattle.std.proofs.Common.{◌∙◌, ap}
 use Rattle.std.specs.Prelude.{map}
 use Rattle.std.specs.FinMap.{from_entries}
-use Rattle.records_model.specs.History.{current}
+use Rattle.reference_index.specs.records_model.History.{current}
 use Rattle.reference_world.specs.Standing.{entry_of, history_of}
 use Rattle.reference_index.proofs.ListLemmas.{if_ok_so}
 use Rattle.reference_world.proofs.EntryLemmas.{from_all}

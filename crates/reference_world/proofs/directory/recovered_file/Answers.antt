@@ -1,6 +1,6 @@
 use Rattle.std.proofs.Common.{ap, refl, ◌∙◌}
 use Rattle.std.specs.Prelude.{map}
-use Rattle.run_model.specs.World.{carried_recovered}
+use Rattle.reference_index.specs.run_model.World.{carried_recovered}
 use Rattle.reference_world.specs.Standing.{carried_of, file_of, kept_of, rows_of}
 use Rattle.reference_world.proofs.FileLemmas.{recovered_is}
 use Rattle.reference_world.proofs.directory.recovered_file.Goals as goal

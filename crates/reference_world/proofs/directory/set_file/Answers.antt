@@ -1,4 +1,4 @@
-use Rattle.run_model.specs.Locks.{is_locked}
+use Rattle.reference_index.specs.run_model.Locks.{is_locked}
 use Rattle.vms_base.specs.Ids.{id_of}
 use Rattle.reference_index.specs.Standing.{changes_of, locks_of}
 use Rattle.reference_world.proofs.FileLemmas.{set_is}

@@ -1,7 +1,7 @@
 use Rattle.std.proofs.Common.{ap, sym, ◌∙◌}
 use Rattle.std.specs.Prelude.{map}
 use Rattle.std.specs.FinMap.Entries.{put}
-use Rattle.records_model.specs.Records.{key_cmp}
+use Rattle.reference_index.specs.records_model.Records.{key_cmp}
 use Rattle.reference_index.specs.Standing.{key_of}
 use Rattle.reference_index.proofs.ListLemmas.{if_ok_so}
 use Rattle.reference_world.specs.Standing.{entry_of}

@@ -1,7 +1,7 @@
 use Rattle.std.proofs.Common.{ap, ◌∙◌, ◌≡◌}
 use Rattle.std.specs.Prelude.{map}
 use Rattle.std.specs.FinMap.{entries}
-use Rattle.records_model.specs.Records.{applied, set_key}
+use Rattle.reference_index.specs.records_model.Records.{applied, set_key}
 use Rattle.reference_index.specs.Standing.{changes_of, key_of, lent_value}
 use Rattle.reference_world.specs.Standing.{entry_of}
 use Rattle.reference_index.proofs.ListLemmas.{if_ok_so, behind_first}

@@ -1,4 +1,4 @@
-use Rattle.records_model.specs.History.{records}
+use Rattle.reference_index.specs.records_model.History.{records}
 use Rattle.reference_world.specs.Standing.{history_of}
 use Rattle.reference_world.proofs.dump.records_of.Goals as goal
 

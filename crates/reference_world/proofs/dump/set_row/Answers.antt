@@ -1,7 +1,7 @@
 use Rattle.std.proofs.Common.{ap, ◌∙◌, sym}
 use Rattle.std.specs.FinMap.{entries}
 use Rattle.std.specs.FinMap.Entries.{put, where_key}
-use Rattle.records_model.specs.Records.{key_cmp, set_key}
+use Rattle.reference_index.specs.records_model.Records.{key_cmp, set_key}
 use Rattle.reference_world.specs.Rows.{is_other}
 use Rattle.reference_index.specs.Standing.{lent_key, lent_value}
 use Rattle.reference_index.proofs.ListLemmas.{if_ok_so}

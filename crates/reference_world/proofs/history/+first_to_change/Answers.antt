@@ -1,6 +1,6 @@
 use Rattle.std.proofs.Common.{◌≡◌, sym, false, ◌∙◌}
 use Rattle.std.specs.Prelude.{map}
-use Rattle.records_model.specs.History.{changed_it}
+use Rattle.reference_index.specs.records_model.History.{changed_it}
 use Rattle.vms_base.specs.Ids.{id_of}
 use Rattle.reference_world.specs.Standing.{live_of, history_of}
 use Rattle.reference_world.specs.Histories.{only_live}

@@ -1,8 +1,8 @@
 use Rattle.std.proofs.Common.{◌≡◌, ◌∙◌, List, true, ap}
 use Rattle.std.specs.Prelude.{map, Vec}
 use Rattle.std.specs.declared.alloc.Global.{Global}
-use Rattle.records_model.specs.History.{changes_by, without}
-use Rattle.run_model.specs.World.{settled_layout, with_outcome}
+use Rattle.reference_index.specs.records_model.History.{changes_by, without}
+use Rattle.reference_index.specs.run_model.World.{settled_layout, with_outcome}
 use Rattle.vms_base.specs.Ids.{id_of}
 use Rattle.vms_base.specs.Outcomes.{outcome_of}
 use Rattle.reference_world.specs.declared.world.LiveChanges.{LiveChanges}

@@ -1,5 +1,5 @@
 use Rattle.std.proofs.Common.{ap, arith}
-use Rattle.careful_write.specs.State.{StoreState}
+use Rattle.change_set.specs.careful_write.State.{StoreState}
 use Rattle.change_set.specs.Buckets.{frame_of}
 use Rattle.change_set.proofs.Frames.{put_more}
 use Rattle.relative_file.proofs.bucket.read_bucket.Goals as goal

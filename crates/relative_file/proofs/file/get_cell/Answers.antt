@@ -1,8 +1,8 @@
 use Rattle.std.proofs.Common.{Result, Err, ◌≡◌, ◌-◌, ◌*◌, ℕ, List, Option, Some, None, IfSome, take, ap, subst, arith}
 use Rattle.block_disk.specs.Disk.{DiskState}
-use Rattle.careful_write.specs.Down.{answered}
-use Rattle.careful_write.specs.declared.down.Down.{Down}
-use Rattle.careful_write.specs.State.{StoreState}
+use Rattle.change_set.specs.careful_write.Down.{answered}
+use Rattle.change_set.specs.careful_write.declared.down.Down.{Down}
+use Rattle.change_set.specs.careful_write.State.{StoreState}
 use Rattle.change_set.proofs.Frames.{read_and_given, frame_is}
 use Rattle.relative_file.specs.Cells.{cells_in, place_of, first_of, record_in, cell_at, bucket_at}
 use Rattle.relative_file.proofs.Places.{bucket_within, cell_within}

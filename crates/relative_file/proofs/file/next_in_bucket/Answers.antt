@@ -1,8 +1,8 @@
 use Rattle.std.proofs.Common.{Result, Err, ◌≡◌, ◌≤◌, ◌<◌, min, ◌+◌, ◌-◌, ◌*◌, ℕ, List, Option, IfSome, take, ap, subst, refl, ◌%◌, arith}
 use Rattle.block_disk.specs.Disk.{DiskState}
-use Rattle.careful_write.specs.Down.{answered}
-use Rattle.careful_write.specs.declared.down.Down.{Down}
-use Rattle.careful_write.specs.State.{StoreState}
+use Rattle.change_set.specs.careful_write.Down.{answered}
+use Rattle.change_set.specs.careful_write.declared.down.Down.{Down}
+use Rattle.change_set.specs.careful_write.State.{StoreState}
 use Rattle.change_set.proofs.Frames.{read_and_given, frame_is}
 use Rattle.relative_file.specs.Cells.{FindsCell, NoneFrom, last_in, bucket_at}
 use Rattle.relative_file.proofs.Places.{in_range}

@@ -1,8 +1,8 @@
 use Rattle.std.proofs.Common.{Result, Err, ◌≡◌, ◌-◌, ◌*◌, ℕ, List, Option, IfSome, option_map, length, take, ap, ◌∙◌, subst, arith}
-use Rattle.careful_write.specs.declared.down.Down.{Down}
+use Rattle.change_set.specs.careful_write.declared.down.Down.{Down}
 use Rattle.block_disk.specs.Disk.{DiskState}
-use Rattle.careful_write.specs.Down.{answered}
-use Rattle.careful_write.specs.State.{StoreState}
+use Rattle.change_set.specs.careful_write.Down.{answered}
+use Rattle.change_set.specs.careful_write.State.{StoreState}
 use Rattle.file_base.specs.Bytes.{spliced}
 use Rattle.change_set.specs.Buckets.{frame_of, with_bucket, with_numbers}
 use Rattle.change_set.proofs.Frames.{lent_taken, lent_read, lent_written, lent_staged, lent_out, lent_given, put_more}

@@ -1,7 +1,7 @@
 use Rattle.std.proofs.Common.{◌≡◌, ◌-◌, ◌≤◌, IfSome}
-use Rattle.careful_write.specs.State.{IsIdle}
+use Rattle.change_set.specs.careful_write.State.{IsIdle}
 use Rattle.change_set.specs.Files.{in_extent, AgreesOut}
-use Rattle.careful_write.specs.Steps.{Quiet}
+use Rattle.change_set.specs.careful_write.Steps.{Quiet}
 use Rattle.relative_file.specs.Cells.{EmptyTo}
 use Rattle.relative_file.proofs.make.make_file.Given as goal
 

@@ -1,5 +1,5 @@
 use Rattle.std.proofs.Common.{◌<◌, ◌+◌, ◌-◌, ap, ◌∙◌, arith}
-use Rattle.careful_write.specs.State.{StoreState}
+use Rattle.change_set.specs.careful_write.State.{StoreState}
 use Rattle.change_set.proofs.Extents.{ranges_apart}
 use Rattle.relative_file.proofs.MakeLaws.{out_bucket, empty_more}
 use Rattle.relative_file.proofs.make.stage_many.Goals as goal

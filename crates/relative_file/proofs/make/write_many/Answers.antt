@@ -1,6 +1,6 @@
 use Rattle.std.proofs.Common.{◌≡◌, ℕ, List, Option, Result, Ok, Err, OnErr, sym, ap, subst, ◌∙◌}
-use Rattle.careful_write.specs.Content.{content_of}
-use Rattle.careful_write.specs.State.{StoreState, Leaves, IsEither, content}
+use Rattle.change_set.specs.careful_write.Content.{content_of}
+use Rattle.change_set.specs.careful_write.State.{StoreState, Leaves, IsEither, content}
 use Rattle.change_set.specs.Files.{in_extent}
 use Rattle.relative_file.proofs.MakeLaws.{either_agrees}
 use Rattle.relative_file.proofs.make.write_many.Goals as goal

@@ -1,7 +1,7 @@
 -- A unit is aborted: the units that are left stay in order with the volume.
 use Rattle.std.proofs.Common.{◌≡◌, ◌≤◌, ◌^◌, ℕ, List, Option, Some, IfSome, ap, sym, subst, ◌∙◌}
 use Rattle.std.specs.List.{All}
-use Rattle.unit_aborts.specs.Aborting.{Aborts, BreaksOff, HasRoom, ImagesHaveRoom}
+use Rattle.unit_restarts.specs.unit_aborts.Aborting.{Aborts, BreaksOff, HasRoom, ImagesHaveRoom}
 use Rattle.unit_journal.specs.Settling.{next_moment}
 use Rattle.unit_table.specs.Units.{OpenUnit, unit_at}
 use Rattle.vms_base.specs.Ids.{serial_of, tid_of}
@@ -9,7 +9,7 @@ use Rattle.rms_units.specs.Aborting.{abortion_of}
 use Rattle.rms_units.specs.State.{UnitsState, without_place}
 use Rattle.rms_units.proofs.AbortLemmas.{low_changes, may_abort, order_aborted, room_to_abort}
 use Rattle.rms_units.proofs.ImageSound.{all_have_room}
-use Rattle.unit_cuts.proofs.Outcomes.{of_some, the_one}
+use Rattle.key_changes.proofs.unit_cuts.Outcomes.{of_some, the_one}
 use Rattle.rms_units.proofs.SettledLemmas.{grows_next}
 use Rattle.rms_units.proofs.aborting.abort_branch.Goals as goal
 

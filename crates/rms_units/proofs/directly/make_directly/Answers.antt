@@ -20,8 +20,8 @@ use Rattle.kept_files.specs.Own.{own_change}
 use Rattle.key_changes.specs.Changing.{after_change, before_change}
 use Rattle.rms_units.specs.Making.{AreLow, CommitsBranch, CommitsKey}
 use Rattle.rms_units.specs.State.{UnitsState}
-use Rattle.unit_cuts.proofs.EntrySizes.{spelled_size}
-use Rattle.unit_cuts.proofs.Outcomes.{breaks_so, three_ok}
+use Rattle.key_changes.proofs.unit_cuts.EntrySizes.{spelled_size}
+use Rattle.key_changes.proofs.unit_cuts.Outcomes.{breaks_so, three_ok}
 use Rattle.rms_units.proofs.ImageSound.{low_by, rooms_to_settle}
 use Rattle.rms_units.proofs.MakingLemmas.{commits_own}
 use Rattle.rms_units.proofs.OrderLemmas.{changed_grows, imaged_long, sound_imaged}

@@ -1,7 +1,7 @@
 -- A key was set and that was committed; or the disk went down meanwhile.
 use Rattle.std.proofs.Common.{◌≡◌, ◌+◌, ◌≤◌, ◌^◌, length, refl, sym, subst, ap, ◌∙◌, arith}
 use Rattle.journal_format.proofs.Decoding.{entry_size as bytes_few}
-use Rattle.unit_cuts.proofs.EntrySizes.{spelled_size}
+use Rattle.key_changes.proofs.unit_cuts.EntrySizes.{spelled_size}
 use Rattle.rms_units.proofs.ImageSound.{low_by}
 use Rattle.std.proofs.lemmas.Result.{on_err_weaker, on_ok_weaker}
 use Rattle.std.specs.Option.{option_copied}

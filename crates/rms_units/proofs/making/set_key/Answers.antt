@@ -15,7 +15,7 @@ use Rattle.rms_units.specs.Making.{EntersKey}
 use Rattle.rms_units.proofs.MakingLemmas.{enters_as, enters_grows, enters_images, enters_key}
 use Rattle.rms_units.proofs.ImageLemmas.{staged_room}
 use Rattle.image_appends.specs.declared.side.Side.TheVariants.{After, Before}
-use Rattle.unit_cuts.proofs.EntrySizes.{spelled_size}
+use Rattle.key_changes.proofs.unit_cuts.EntrySizes.{spelled_size}
 use Rattle.rms_units.proofs.making.set_key.Goals as goal
 
 pub append_change-requires-clause-afters : goal.append_change-requires-clause-afters

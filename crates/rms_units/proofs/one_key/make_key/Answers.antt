@@ -24,9 +24,9 @@ use Rattle.rms_units.specs.Making.{EntersKey}
 use Rattle.rms_units.specs.State.{UnitsState}
 use Rattle.rms_units.proofs.MakingLemmas.{makes_entry}
 use Rattle.rms_units.proofs.OrderLemmas.{order_changed}
-use Rattle.unit_cuts.proofs.Outcomes.{breaks_so, of_some, the_one}
+use Rattle.key_changes.proofs.unit_cuts.Outcomes.{breaks_so, of_some, the_one}
 use Rattle.rms_units.proofs.RoomLemmas.{room_for}
-use Rattle.unit_cuts.proofs.EntrySizes.{spelled_size}
+use Rattle.key_changes.proofs.unit_cuts.EntrySizes.{spelled_size}
 use Rattle.rms_units.proofs.one_key.make_key.Goals as goal
 
 pub set_key-requires-clause-afters : goal.set_key-requires-clause-afters

@@ -4,8 +4,8 @@ use Rattle.record_operations.specs.Causes.{Cause, cause_of, first_cause}
 use Rattle.vms_base.specs.Ids.{serial_of}
 use Rattle.vms_model.specs.Keys.{Key, Number, End}
 use Rattle.key_changes.specs.Changing.{held_against, locks_refuse}
-use Rattle.unit_cuts.specs.Truncating.{keys_cut, keys_down}
-use Rattle.unit_cuts.proofs.CutLemmas.{keys_step}
+use Rattle.key_changes.specs.unit_cuts.Truncating.{keys_cut, keys_down}
+use Rattle.key_changes.proofs.unit_cuts.CutLemmas.{keys_step}
 use Rattle.rms_units.proofs.CutLocks.{passes, stops}
 use Rattle.rms_units.proofs.truncating.cut_lock_refusal.Goals as goal
 

@@ -1,7 +1,7 @@
 use Rattle.std.proofs.Common.{◌≡◌, ◌-◌, option_map}
 use Rattle.vms_base.specs.Ids.{serial_of}
 use Rattle.key_changes.specs.Changing.{locks_refuse}
-use Rattle.unit_cuts.specs.Truncating.{keys_cut, keys_down}
+use Rattle.key_changes.specs.unit_cuts.Truncating.{keys_cut, keys_down}
 use Rattle.rms_units.proofs.truncating.cut_lock_refusal.Given as goal
 
 -- what is left answers for all

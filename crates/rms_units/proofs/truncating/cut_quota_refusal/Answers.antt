@@ -1,8 +1,8 @@
 use Rattle.std.proofs.Common.{◌≡◌, ◌+◌, ◌-◌, ◌∷◌, [], List, length, ap, ◌∙◌, arith}
 use Rattle.record_locks.specs.Locks.{not_locked}
 use Rattle.vms_model.specs.Keys.{Key, Number}
-use Rattle.unit_cuts.specs.Truncating.{keys_down}
-use Rattle.unit_cuts.proofs.CutLemmas.{keys_step}
+use Rattle.key_changes.specs.unit_cuts.Truncating.{keys_down}
+use Rattle.key_changes.proofs.unit_cuts.CutLemmas.{keys_step}
 use Rattle.rms_units.proofs.CutLocks.{free_one, one_at_most}
 use Rattle.rms_units.proofs.truncating.cut_quota_refusal.Goals as goal
 

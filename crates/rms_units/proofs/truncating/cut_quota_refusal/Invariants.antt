@@ -1,7 +1,7 @@
 use Rattle.std.proofs.Common.{◌≡◌, ◌≤◌, ◌+◌, ◌-◌, length}
 use Rattle.record_locks.specs.Locks.{not_locked}
 use Rattle.rms_units.specs.Truncating.{cut_asked}
-use Rattle.unit_cuts.specs.Truncating.{keys_down}
+use Rattle.key_changes.specs.unit_cuts.Truncating.{keys_down}
 use Rattle.rms_units.proofs.truncating.cut_quota_refusal.Given as goal
 
 -- what is left is still to be counted

@@ -5,8 +5,8 @@ use Rattle.vms_base.specs.Ids.{serial_of}
 use Rattle.vms_model.specs.Keys.{Key, Number, End}
 use Rattle.key_changes.specs.Changing.{locks_refuse}
 use Rattle.rms_units.specs.Truncating.{cut_asked}
-use Rattle.unit_cuts.specs.Truncating.{keys_cut, keys_down, removed_from}
-use Rattle.unit_cuts.proofs.CutLemmas.{keys_front, keys_whole, removed_lies, upper_keys}
+use Rattle.key_changes.specs.unit_cuts.Truncating.{keys_cut, keys_down, removed_from}
+use Rattle.key_changes.proofs.unit_cuts.CutLemmas.{keys_front, keys_whole, removed_lies, upper_keys}
 use Rattle.rms_units.proofs.CutLocks.{above_down, end_apart, few_behind, few_held, few_with, holds_more, may_hold}
 use Rattle.rms_units.proofs.truncating.hold_cut.Goals as goal
 

@@ -1,7 +1,7 @@
 use Rattle.std.proofs.Common.{◌≡◌, ◌+◌, ◌-◌}
 use Rattle.record_locks.specs.Locks.{with_locks}
 use Rattle.vms_base.specs.Ids.{serial_of}
-use Rattle.unit_cuts.specs.Truncating.{keys_down}
+use Rattle.key_changes.specs.unit_cuts.Truncating.{keys_down}
 use Rattle.rms_units.proofs.truncating.hold_cut.Given as goal
 
 abbrev pub invariant-loop-i : goal.invariant-loop-i

@@ -2,7 +2,7 @@
 use Rattle.std.proofs.Common.{◌≡◌, ◌+◌, ◌*◌, ◌≤◌, ◌^◌, ℕ, true, List, Some, None, slice_set, ap, sym, subst, ◌∙◌, arith}
 use Rattle.std.specs.List.{flat_map}
 use Rattle.change_set.specs.Maps.{empty_map}
-use Rattle.record_files.specs.Any.{map_of}
+use Rattle.volume_files.specs.record_files.Any.{map_of}
 use Rattle.image_room.specs.Room.{images_refused}
 use Rattle.record_operations.specs.Causes.{first_cause}
 use Rattle.unit_journal.specs.Room.{journal_refused}
@@ -13,10 +13,10 @@ use Rattle.volume.specs.State.{VolumeState}
 use Rattle.volume_files.proofs.Places.{within_list}
 use Rattle.rms_units.specs.State.{UnitsState}
 use Rattle.rms_units.specs.Truncating.{IsCut, with_positions}
-use Rattle.unit_cuts.specs.Truncating.{CutEntries, MakesCut, begins_at, entry_sizes, keys_cut}
-use Rattle.unit_cuts.proofs.CutMade.{breaks_cut_so}
+use Rattle.key_changes.specs.unit_cuts.Truncating.{CutEntries, MakesCut, begins_at, entry_sizes, keys_cut}
+use Rattle.key_changes.proofs.unit_cuts.CutMade.{breaks_cut_so}
 use Rattle.rms_units.proofs.CutOrder.{order_cut}
-use Rattle.unit_cuts.proofs.Outcomes.{of_some, the_one}
+use Rattle.key_changes.proofs.unit_cuts.Outcomes.{of_some, the_one}
 use Rattle.rms_units.proofs.CutRooms.{had_fits, images_fit, late_none}
 use Rattle.rms_units.proofs.ImageSound.{low_by}
 use Rattle.rms_units.proofs.RoomLemmas.{room_for}

@@ -1,8 +1,8 @@
 -- A prepared unit is aborted: the units that are left stay in order with the volume.
 use Rattle.std.proofs.Common.{◌≡◌, ◌+◌, ◌≤◌, ◌^◌, ℕ, List, Option, Some, IfSome, length, ap, sym, subst, ◌∙◌}
 use Rattle.std.specs.List.{All}
-use Rattle.log_laws.specs.Slots.{forgotten}
-use Rattle.unit_aborts.specs.Aborting.{HasRoom, ImagesHaveRoom}
+use Rattle.unit_entries.specs.log_laws.Slots.{forgotten}
+use Rattle.unit_restarts.specs.unit_aborts.Aborting.{HasRoom, ImagesHaveRoom}
 use Rattle.kept_files.specs.Keeping.{StandBehind}
 use Rattle.unit_journal.specs.Settling.{next_moment}
 use Rattle.unit_table.specs.Units.{OpenUnit, unit_at}
@@ -14,7 +14,7 @@ use Rattle.rms_units.proofs.AbortLemmas.{low_changes, may_abort, room_to_abort}
 use Rattle.rms_units.proofs.SettledLemmas.{grows_next}
 use Rattle.rms_units.proofs.VoteLemmas.{order_aborted_logged}
 use Rattle.rms_units.proofs.ImageSound.{all_have_room, stand_behind}
-use Rattle.unit_cuts.proofs.Outcomes.{of_some, the_one}
+use Rattle.key_changes.proofs.unit_cuts.Outcomes.{of_some, the_one}
 use Rattle.rms_units.proofs.voting.abort_prepared.Goals as goal
 
 pub abort_logged-requires-clause-may : goal.abort_logged-requires-clause-may

@@ -3,7 +3,7 @@ use Rattle.std.proofs.Common.{◌≡◌, ◌+◌, ◌-◌, ◌==◌, ℕ, Bool, 
 use Rattle.std.specs.Prelude.{if◌then◌else◌}
 use Rattle.journal_model.specs.Ring.{ring_size}
 use Rattle.lmcp_log.specs.Log.{slot_of}
-use Rattle.log_laws.specs.Slots.{settled_in}
+use Rattle.unit_entries.specs.log_laws.Slots.{settled_in}
 use Rattle.std.specs.Prelude.{option_copied}
 use Rattle.unit_journal.specs.Entries.{settled_entry}
 use Rattle.unit_journal.specs.Groups.{Breaks}
@@ -22,7 +22,7 @@ use Rattle.rms_units.proofs.SettledLemmas.{grows_next, has_change}
 use Rattle.rms_units.proofs.VoteLemmas.{is_changed, order_committed_logged}
 use Rattle.image_appends.specs.Settling.{AllHaveRoom}
 use Rattle.rms_units.proofs.ImageSound.{all_have_room, stand_behind}
-use Rattle.unit_cuts.proofs.Outcomes.{of_some, the_one}
+use Rattle.key_changes.proofs.unit_cuts.Outcomes.{of_some, the_one}
 use Rattle.rms_units.proofs.voting.commit.Goals as goal
 
 pub commit_logged-requires-clause-room : goal.commit_logged-requires-clause-room

@@ -2,7 +2,7 @@
 use Rattle.std.proofs.Common.{◌≡◌, ◌+◌, ◌-◌, ◌∙◌, ℕ, Bool, true, false, List, Option, Some, IfSome, not, refl, sym, ap, subst, inl, inr}
 use Rattle.std.specs.Prelude.{◌⊎◌, if◌then◌else◌}
 use Rattle.journal_model.specs.Ring.{ring_size}
-use Rattle.log_laws.specs.Slots.{has_free, has_slot, put_in}
+use Rattle.unit_entries.specs.log_laws.Slots.{has_free, has_slot, put_in}
 use Rattle.unit_journal.specs.Groups.{Breaks}
 use Rattle.unit_table.specs.Units.{OpenUnit, Units, prepared_unit, unit_at, with_unit}
 use Rattle.unit_votes.specs.Voting.{vote_entry, vote_record}
@@ -14,7 +14,7 @@ use Rattle.rms_units.specs.Voting.{votes_yes}
 use Rattle.rms_units.proofs.RoomLemmas.{room_to_settle}
 use Rattle.rms_units.proofs.SettledLemmas.{has_change}
 use Rattle.rms_units.proofs.VoteLemmas.{is_changed, order_spent, order_voted, vote_of}
-use Rattle.unit_cuts.proofs.Outcomes.{of_some, the_one}
+use Rattle.key_changes.proofs.unit_cuts.Outcomes.{of_some, the_one}
 use Rattle.rms_units.proofs.voting.vote.Goals as goal
 
 pub enter_vote-requires-clause-room : goal.enter_vote-requires-clause-room

@@ -10,7 +10,7 @@ use Rattle.records_model.specs.Records.{Records, set_key}
 use Rattle.record_files.specs.Any.{Begins, IsFile, IsLaidOut, map_of}
 use Rattle.record_files.specs.Local.{begins_first_law}
 use Rattle.vms_base.specs.Keys.{key_of}
-use Rattle.unit_entries.proofs.StoreLemmas.{stays_so, stays_read, fell_later, of_any, of_content, of_both}
+use Rattle.image_laws.proofs.unit_entries.StoreLemmas.{stays_so, stays_read, fell_later, of_any, of_content, of_both}
 use Rattle.rolled_records.proofs.ReadLemmas.{HasRead, nothing_read, has_next, has_all, all_counted, same_stays, same_fell}
 use Rattle.rolled_records.proofs.reading.read_records.Goals as goal
 

@@ -1,5 +1,5 @@
 use Rattle.std.proofs.Common.{◌<◌, ◌≤◌, Some, None, List, ℕ, Option, IfSome, arith}
-use Rattle.unit_entries.proofs.StoreLemmas.{of_content}
+use Rattle.image_laws.proofs.unit_entries.StoreLemmas.{of_content}
 use Rattle.rolled_records.proofs.RollLemmas.{read_so, none_read}
 use Rattle.rolled_records.proofs.rolling.read_from.Goals as goal
 

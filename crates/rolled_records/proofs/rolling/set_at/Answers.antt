@@ -1,4 +1,4 @@
-use Rattle.unit_entries.proofs.StoreLemmas.{of_any, of_content}
+use Rattle.image_laws.proofs.unit_entries.StoreLemmas.{of_any, of_content}
 use Rattle.rolled_records.proofs.RollLemmas.{behind_there, get_some, on_ok, set_there}
 use Rattle.rolled_records.proofs.rolling.set_at.Goals as goal
 

@@ -1,5 +1,5 @@
 use Rattle.std.proofs.Common.{Some, None, List, ℕ, Option, IfSome}
-use Rattle.unit_entries.proofs.StoreLemmas.{of_content, stays_read, stays_so}
+use Rattle.image_laws.proofs.unit_entries.StoreLemmas.{of_content, stays_read, stays_so}
 use Rattle.rolled_records.proofs.RollLemmas.{none_here, sets_read, on_ok, memory_fails}
 use Rattle.rolled_records.proofs.rolling.set_entry.Goals as goal
 

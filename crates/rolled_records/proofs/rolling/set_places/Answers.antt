@@ -1,5 +1,5 @@
 use Rattle.std.proofs.Common.{◌+◌}
-use Rattle.unit_entries.proofs.StoreLemmas.{stays_so, stays_read, ring_stays, of_any, of_content}
+use Rattle.image_laws.proofs.unit_entries.StoreLemmas.{stays_so, stays_read, ring_stays, of_any, of_content}
 use Rattle.rolled_records.proofs.RollLemmas.{none_set, next_set, all_set, fails_later}
 use Rattle.rolled_records.proofs.rolling.set_places.Goals as goal
 

@@ -3,15 +3,15 @@ use Rattle.std.specs.Option.{option_map}
 use Rattle.std.proofs.Common.{◌≡◌, ◌<◌, length, Some, None, true, false, refl, sym, ◌∙◌, ap, subst}
 use Rattle.net_wire.specs.Messages.{message_of}
 use Rattle.vms_base.specs.Ids.{serial_of}
-use Rattle.run_model.specs.Answers.{Hears}
-use Rattle.run_model.specs.World.{Node}
-use Rattle.run_model.proofs.NodeLists.{some_is}
+use Rattle.said_steps.specs.run_model.Answers.{Hears}
+use Rattle.said_steps.specs.run_model.World.{Node}
+use Rattle.said_steps.proofs.run_model.NodeLists.{some_is}
 use Rattle.dtm_node.specs.Asking.{is_over}
 use Rattle.statement_steps.specs.Settling.{question_in}
 use Rattle.statement_steps.proofs.Rising.{up_at}
 use Rattle.run_nodes.specs.Held.{kept_all, names_of}
 use Rattle.run_nodes.specs.Names.{AreApart, is_among}
-use Rattle.node_standing.specs.Standing.{NodeState}
+use Rattle.dtm_node.specs.node_standing.Standing.{NodeState}
 use Rattle.run_nodes.specs.Told.{TurnOver, TurnTold, kept_names}
 use Rattle.run_nodes.specs.Phases.{AskedOne}
 use Rattle.run_nodes.specs.Tasks.{DoesTask}

@@ -2,7 +2,7 @@ use Rattle.std.specs.Prelude.{slice_get}
 use Rattle.std.proofs.Common.{◌≡◌, ◌≤◌, ℕ, List, Some, true}
 use Rattle.block_disk.specs.Disk.{CallLog}
 use Rattle.emitter_model.specs.Emitting.{Shown, Since}
-use Rattle.run_model.specs.World.{Node, World}
+use Rattle.said_steps.specs.run_model.World.{Node, World}
 use Rattle.statement_steps.specs.Settling.{AreUp, asks_of, doubts_of}
 use Rattle.run_nodes.specs.Held.{AreNodes, kept_all, names_of}
 use Rattle.run_nodes.specs.Phases.{AskingAt, PartsDone}

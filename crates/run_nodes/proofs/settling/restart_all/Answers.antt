@@ -1,10 +1,10 @@
 use Rattle.std.specs.Prelude.{slice_get}
 use Rattle.std.proofs.Common.{◌≡◌, ◌<◌, ◌≤◌, length, Some, true, refl, sym, ◌∙◌, ap, subst, arith}
 use Rattle.emitter_model.proofs.EmittingLemmas.{since_on, since_same}
-use Rattle.script_model.specs.Statements.{Settle}
-use Rattle.run_model.specs.Statements.{begun_with}
+use Rattle.script_lang.specs.script_model.Statements.{Settle}
+use Rattle.said_steps.specs.run_model.Statements.{begun_with}
 use Rattle.statement_steps.specs.Settling.{restart_of}
-use Rattle.node_standing.specs.Standing.{NodeState, is_up}
+use Rattle.dtm_node.specs.node_standing.Standing.{NodeState, is_up}
 use Rattle.run_nodes.specs.Held.{kept_all}
 use Rattle.run_nodes.specs.Names.{AreApart}
 use Rattle.run_nodes.specs.Told.{RestartsTold, kept_names}

@@ -1,10 +1,10 @@
 use Rattle.std.proofs.Common.{◌≡◌, ℕ, List, true}
 use Rattle.block_disk.specs.Disk.{CallLog}
 use Rattle.emitter_model.specs.Emitting.{Since}
-use Rattle.script_model.specs.Statements.{Settle}
-use Rattle.run_model.specs.Statements.{begun_with}
-use Rattle.run_model.specs.World.{World}
-use Rattle.run_agreement.specs.Laws.{NamesApart}
+use Rattle.script_lang.specs.script_model.Statements.{Settle}
+use Rattle.said_steps.specs.run_model.Statements.{begun_with}
+use Rattle.said_steps.specs.run_model.World.{World}
+use Rattle.statement_steps.specs.run_agreement.Laws.{NamesApart}
 use Rattle.statement_steps.specs.Settling.{restart_of}
 use Rattle.run_nodes.specs.Held.{AreNodes, kept_all, names_of}
 use Rattle.run_nodes.specs.Phases.{AreTold, Enters, GoesUp}

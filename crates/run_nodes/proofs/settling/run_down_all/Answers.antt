@@ -1,6 +1,6 @@
 use Rattle.std.proofs.Common.{◌<◌, length, refl, sym, ◌∙◌, ap, subst, arith}
 use Rattle.emitter_model.proofs.EmittingLemmas.{since_on, since_same}
-use Rattle.run_model.specs.Answers.{RunsDown}
+use Rattle.said_steps.specs.run_model.Answers.{RunsDown}
 use Rattle.statement_steps.specs.Settling.{run_down_of}
 use Rattle.run_nodes.specs.Held.{kept_all, names_of}
 use Rattle.run_nodes.specs.Names.{AreApart}

@@ -1,7 +1,7 @@
 use Rattle.std.proofs.Common.{◌≡◌, ℕ, List, true}
 use Rattle.block_disk.specs.Disk.{CallLog}
 use Rattle.emitter_model.specs.Emitting.{Since}
-use Rattle.run_model.specs.World.{World}
+use Rattle.said_steps.specs.run_model.World.{World}
 use Rattle.statement_steps.specs.Settling.{AreUp, run_down_of}
 use Rattle.run_nodes.specs.Held.{AreNodes, kept_all, names_of}
 use Rattle.run_nodes.specs.Phases.{Enters, PartsDone}

@@ -1,8 +1,8 @@
 use Rattle.std.proofs.Common.{◌≤◌, length, refl, sym, ◌∙◌, ap, subst, arith}
-use Rattle.transcript_model.specs.Lines.{Normal}
-use Rattle.script_model.specs.Statements.{Settle}
-use Rattle.run_model.specs.Statements.{begun_with}
-use Rattle.run_shared.specs.Sharing.{SharedState}
+use Rattle.emitter_model.specs.transcript_model.Lines.{Normal}
+use Rattle.script_lang.specs.script_model.Statements.{Settle}
+use Rattle.said_steps.specs.run_model.Statements.{begun_with}
+use Rattle.dtm_node.specs.run_shared.Sharing.{SharedState}
 use Rattle.run_nodes.specs.Held.{kept_all, names_of}
 use Rattle.run_nodes.specs.Names.{AreApart}
 use Rattle.run_nodes.specs.Phases.{Enters}

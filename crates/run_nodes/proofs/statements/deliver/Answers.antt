@@ -1,6 +1,6 @@
 use Rattle.std.proofs.Common.{◌≡◌, Some, None, rules}
 use Rattle.net_wire.specs.Messages.{message_of}
-use Rattle.run_model.specs.Statements.{message_at}
+use Rattle.said_steps.specs.run_model.Statements.{message_at}
 use Rattle.run_nodes.specs.Held.{kept_all, names_of}
 use Rattle.run_nodes.proofs.Each.{lost_serves, lost_tells, no_message_serves, no_message_tells, on_serves, on_tells, over_serves, over_tells, within_names}
 use Rattle.run_nodes.proofs.Entries.{same_names}

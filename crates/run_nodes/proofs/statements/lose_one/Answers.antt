@@ -1,4 +1,4 @@
-use Rattle.run_model.specs.Answers.{LosesLink}
+use Rattle.said_steps.specs.run_model.Answers.{LosesLink}
 use Rattle.run_nodes.proofs.Turns.{down_turn}
 use Rattle.run_nodes.proofs.statements.lose_one.Goals as goal
 

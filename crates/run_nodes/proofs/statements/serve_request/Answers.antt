@@ -1,7 +1,7 @@
 use Rattle.std.proofs.Common.{◌<◌, length, subst, sym, rules}
 use Rattle.script_lang.specs.Statements.{request_of}
 use Rattle.run_nodes.specs.Held.{kept_all, names_of}
-use Rattle.script_model.specs.Statements.{At}
+use Rattle.script_lang.specs.script_model.Statements.{At}
 use Rattle.run_nodes.specs.Names.{IsOtherThere}
 use Rattle.run_nodes.specs.Together.{AnswersTogether, ServesTogether}
 use Rattle.run_nodes.proofs.Each.{alone_serves, alone_tells, can_be_told, clock_is_served, clock_tells, not_clock, nowhere_serves, nowhere_tells, request_is_served, request_tells, within_names}

@@ -1,4 +1,4 @@
-use Rattle.run_model.specs.Answers.{Ticks}
+use Rattle.said_steps.specs.run_model.Answers.{Ticks}
 use Rattle.run_nodes.proofs.Turns.{down_turn}
 use Rattle.run_nodes.proofs.statements.tick.Goals as goal
 

@@ -1,5 +1,5 @@
 use Rattle.std.proofs.Common.{◌-◌, ◌*◌, arith}
-use Rattle.block_disk.specs.Disk.{DiskState}
+use Rattle.change_set.specs.block_disk.Disk.{DiskState}
 use Rattle.bucket_page.specs.declared.kind.PageKind.TheVariants.{Seq}
 use Rattle.bucket_page.specs.Frames.{bucket_in}
 use Rattle.bucket_page.specs.Pages.{slots_of}

@@ -2,9 +2,9 @@ use Rattle.std.proofs.Common.{◌≡◌, ◌+◌, ◌-◌, ◌*◌, ℕ, List, I
 use Rattle.seq_file.specs.Frames.{page_in}
 use Rattle.change_set.specs.Buckets.{bucket_bytes}
 use Rattle.seq_file.specs.Layout.{bucket_first}
-use Rattle.block_disk.specs.Disk.{DiskState}
-use Rattle.careful_write.specs.State.{StoreState}
-use Rattle.careful_write.proofs.Reading.{same_so}
+use Rattle.change_set.specs.block_disk.Disk.{DiskState}
+use Rattle.change_set.specs.careful_write.State.{StoreState}
+use Rattle.change_set.proofs.careful_write.Reading.{same_so}
 use Rattle.change_set.proofs.Frames.{read_again}
 use Rattle.seq_file.proofs.FrameSteps.{reads}
 use Rattle.seq_file.proofs.bucket.load_slots.Goals as goal

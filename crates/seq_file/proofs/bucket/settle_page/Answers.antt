@@ -1,5 +1,5 @@
 use Rattle.std.proofs.Common.{inl, inr, ap}
-use Rattle.careful_write.specs.State.{StoreState}
+use Rattle.change_set.specs.careful_write.State.{StoreState}
 use Rattle.seq_file.specs.Frames.{page_in}
 use Rattle.seq_file.proofs.bucket.settle_page.Goals as goal
 

@@ -1,7 +1,7 @@
 use Rattle.std.proofs.Common.{◌-◌, ℕ, List, Option, IfSome, take, Result, Err, refl, ap, sym, subst}
-use Rattle.careful_write.specs.Down.{answered}
-use Rattle.careful_write.specs.declared.down.Down.{Down}
-use Rattle.careful_write.specs.State.{StoreState}
+use Rattle.change_set.specs.careful_write.Down.{answered}
+use Rattle.change_set.specs.careful_write.declared.down.Down.{Down}
+use Rattle.change_set.specs.careful_write.State.{StoreState}
 use Rattle.change_set.specs.Files.{IsPlaced}
 use Rattle.change_set.proofs.Frames.{read_and_given}
 use Rattle.seq_file.specs.Layout.{CountsBefore, IsLaidOut}

@@ -1,6 +1,6 @@
 use Rattle.std.proofs.Common.{◌≡◌, ℕ, List, true, false, Option, Some, IfOk, IfSome, refl, sym, ap, subst, arith}
-use Rattle.careful_write.specs.Down.{answered}
-use Rattle.careful_write.specs.State.{StoreState}
+use Rattle.change_set.specs.careful_write.Down.{answered}
+use Rattle.change_set.specs.careful_write.State.{StoreState}
 use Rattle.change_set.specs.Files.{IsPlaced}
 use Rattle.change_set.proofs.Frames.{read_and_given}
 use Rattle.seq_file.specs.Records.{record_at}

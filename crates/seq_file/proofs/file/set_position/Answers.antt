@@ -1,8 +1,8 @@
 use Rattle.std.proofs.Common.{List, ℕ, Option, IfSome, Result, Err, refl, ap, sym, subst}
 use Rattle.std.specs.Option.{option_copied}
-use Rattle.careful_write.specs.Down.{answered}
-use Rattle.careful_write.specs.declared.down.Down.{Down}
-use Rattle.careful_write.specs.State.{StoreState}
+use Rattle.change_set.specs.careful_write.Down.{answered}
+use Rattle.change_set.specs.careful_write.declared.down.Down.{Down}
+use Rattle.change_set.specs.careful_write.State.{StoreState}
 use Rattle.change_set.specs.Files.{IsPlaced}
 use Rattle.change_set.proofs.Frames.{read_and_given}
 use Rattle.seq_file.specs.Records.{list_set}

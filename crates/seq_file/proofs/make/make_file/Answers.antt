@@ -1,6 +1,6 @@
 use Rattle.std.proofs.Common.{◌≡◌, ℕ, Result, Ok, Err, OnOk, OnErr, Option, List, sym, ap, subst, ◌∙◌, arith}
-use Rattle.careful_write.specs.State.{StoreState, IsEither, content}
-use Rattle.careful_write.specs.Content.{content_of}
+use Rattle.change_set.specs.careful_write.State.{StoreState, IsEither, content}
+use Rattle.change_set.specs.careful_write.Content.{content_of}
 use Rattle.change_set.specs.Buckets.{frame_of}
 use Rattle.change_set.proofs.Extents.{either_out}
 use Rattle.seq_file.proofs.MakeLaws.{staged_first, made, outside}

@@ -1,6 +1,6 @@
 use Rattle.std.proofs.Common.{Some}
-use Rattle.block_disk.specs.Disk.{DiskState}
-use Rattle.careful_write.proofs.Reading.{same_so}
+use Rattle.change_set.specs.block_disk.Disk.{DiskState}
+use Rattle.change_set.proofs.careful_write.Reading.{same_so}
 use Rattle.change_set.proofs.Frames.{read_again}
 use Rattle.seq_file.specs.Frames.{page_in}
 use Rattle.seq_file.proofs.RewriteLaws.{overwrite_leads, overwrite_none, overwrite_may, never_laid_out}

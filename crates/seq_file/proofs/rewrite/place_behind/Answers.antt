@@ -1,4 +1,4 @@
-use Rattle.block_disk.specs.Disk.{DiskState}
+use Rattle.change_set.specs.block_disk.Disk.{DiskState}
 use Rattle.seq_file.proofs.FrameSteps.{in_frame_more}
 use Rattle.seq_file.proofs.rewrite.place_behind.Goals as goal
 

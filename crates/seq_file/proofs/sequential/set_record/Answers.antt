@@ -1,7 +1,7 @@
 use Rattle.std.proofs.Common.{Result, Ok, Err, OnOk, ap, subst}
 use Rattle.std.specs.Option.{option_copied}
-use Rattle.vms_base.specs.Keys.{key_of}
-use Rattle.vms_model.specs.Keys.{Key}
+use Rattle.file_base.specs.vms_base.Keys.{key_of}
+use Rattle.file_base.specs.vms_model.Keys.{Key}
 use Rattle.seq_file.specs.Records.{list_set}
 use Rattle.seq_file.specs.Layout.{Suits, TakesAt}
 use Rattle.seq_file.specs.Frames.{Changes}

@@ -1,5 +1,5 @@
 use Rattle.std.proofs.Common.{◌-◌, ◌+◌, ◌*◌, ◌≤◌, ℕ, arith}
-use Rattle.careful_write.proofs.Reading.{all_read}
+use Rattle.change_set.proofs.careful_write.Reading.{all_read}
 use Rattle.seq_file.specs.Frames.{page_in}
 use Rattle.seq_file.proofs.WalkLaws.{last_found, last_none, is_read}
 use Rattle.seq_file.proofs.walk.last_spot.Goals as goal

@@ -1,7 +1,7 @@
 use Rattle.std.proofs.Common.{◌≡◌, List, map, refl, sym, ◌∙◌, true, false, rules}
 use Rattle.vms_base.specs.Ids.{serial_of}
 use Rattle.vms_base.specs.declared.ids.Serial.{Serial}
-use Rattle.vms_model.specs.Ids.{Id}
+use Rattle.vms_base.specs.vms_model.Ids.{Id}
 use Rattle.commit_protocol.specs.Messages.{same_id}
 use Rattle.commit_protocol.specs.Table.{without}
 use Rattle.tm_types.proofs.ListLemmas.{pushed, passed}

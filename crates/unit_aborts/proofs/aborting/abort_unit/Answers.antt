@@ -1,6 +1,6 @@
 use Rattle.std.proofs.Common.{ℕ, Bool, List, Option, subst, sym, ap, inl, inr, arith}
 use Rattle.std.proofs.lemmas.Result.{on_err_weaker, on_ok_weaker}
-use Rattle.journal_model.specs.Entries.{Entry}
+use Rattle.journal_format.specs.journal_model.Entries.{Entry}
 use Rattle.unit_entries.proofs.StoreLemmas.{of_content}
 use Rattle.unit_table.specs.Units.{unit_at}
 use Rattle.vms_base.specs.Ids.{serial_of, tid_of}
@@ -9,7 +9,7 @@ use Rattle.volume_format.specs.declared.home.Ending.TheVariants as ending
 use Rattle.unit_journal.specs.Entries.{settled_entry}
 use Rattle.unit_journal.specs.Groups.{Breaks}
 use Rattle.unit_journal.specs.Settling.{entry_if}
-use Rattle.file_settlements.specs.Settling.{SettlesFiles}
+use Rattle.kept_files.specs.file_settlements.Settling.{SettlesFiles}
 use Rattle.unit_undo.specs.Way.{Undoes, FailsOnTheWay}
 use Rattle.unit_aborts.specs.Aborting.{has_changes}
 use Rattle.unit_aborts.proofs.AbortLemmas.{is_changed}

@@ -1,9 +1,9 @@
 use Rattle.std.proofs.Common.{List, IfSome, map, subst}
 use Rattle.careful_write.specs.State.{StoreState}
 use Rattle.file_base.specs.declared.head.Span.{Span}
-use Rattle.journal_model.specs.Entries.{Entry}
-use Rattle.journal_model.specs.Ring.{IsJournal}
-use Rattle.tm_types.specs.Parts.{log_record_of}
+use Rattle.journal_format.specs.journal_model.Entries.{Entry}
+use Rattle.journal_format.specs.journal_model.Ring.{IsJournal}
+use Rattle.unit_entries.specs.tm_types.Parts.{log_record_of}
 use Rattle.unit_entries.specs.Opening.{AreChangesIn, AreFiledOf}
 use Rattle.unit_entries.specs.Reading.{placed}
 use Rattle.unit_entries.specs.Voting.{IsVoted}

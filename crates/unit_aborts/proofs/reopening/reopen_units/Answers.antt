@@ -1,7 +1,7 @@
 use Rattle.std.proofs.Common.{◌≡◌, ℕ, suc, ◌+◌, ◌-◌, ◌*◌, ◌<◌, ◌≤◌, [], ◌∷◌, List, Some, length, map, ap, subst, sym, ◌∙◌, arith, inl, inr}
 use Rattle.std.proofs.lemmas.List.{length-append, length-map}
 use Rattle.careful_write.specs.Steps.{Quiet}
-use Rattle.journal_model.specs.Ring.{ring_size}
+use Rattle.journal_format.specs.journal_model.Ring.{ring_size}
 use Rattle.ru_journal.specs.Units.{unit_of}
 use Rattle.unit_entries.specs.Opening.{AreAlike, AreFiledIn, AreFilesAt}
 use Rattle.unit_entries.proofs.OpenLemmas.{alike_long, all_less, first_holds}

@@ -1,5 +1,5 @@
 use Rattle.std.proofs.Common.{◌≡◌, ◌≤◌, ◌+◌, ◌-◌, ◌*◌, [], Option, IfSome, length}
-use Rattle.record_files.specs.Any.{Begins, IsFile, IsLaidOut}
+use Rattle.volume_files.specs.record_files.Any.{Begins, IsFile, IsLaidOut}
 use Rattle.vms_model.specs.Keys.{Key}
 use Rattle.volume.specs.State.{SameVolume}
 use Rattle.unit_cuts.specs.Records.{OfRecords}

@@ -1,5 +1,5 @@
 use Rattle.std.proofs.Common.{◌≡◌, ◌≤◌, List, IfSome, length, take}
-use Rattle.journal_model.specs.Entries.{Entry}
+use Rattle.journal_format.specs.journal_model.Entries.{Entry}
 use Rattle.journal_store.specs.Refusing.{Stays}
 use Rattle.unit_entries.specs.Collecting.{AreChangesAt}
 use Rattle.unit_entries.specs.Keys.{keys_told}

@@ -1,7 +1,7 @@
 use Rattle.std.proofs.Common.{◌≡◌, [], ℕ, ◌<◌, Option, Some, None, IsSome, IfSome, length, refl, sym, subst, ap, ◌∙◌, arith, get_or-set_same}
 use Rattle.journal_format.specs.Heads.{entry_of, kind_code}
 use Rattle.unit_table.specs.Units.{OpenUnit, Units, begun, new_unit, unit_at, with_begun, with_unit}
-use Rattle.vms_model.specs.Ids.{Id}
+use Rattle.vms_base.specs.vms_model.Ids.{Id}
 use Rattle.vms_base.specs.Ids.{serial_of, tid_of}
 use Rattle.unit_entries.specs.Opening.{more_open}
 use Rattle.unit_entries.proofs.reading.open_unit.Goals as goal

@@ -1,6 +1,6 @@
 use Rattle.std.proofs.Common.{◌≡◌, ◌+◌, ◌-◌, ◌≤◌, true, List, IfSome, length, map, vec_capacity}
-use Rattle.journal_model.specs.Entries.{Entry}
-use Rattle.journal_model.specs.Ring.{IsJournal}
+use Rattle.journal_format.specs.journal_model.Entries.{Entry}
+use Rattle.journal_format.specs.journal_model.Ring.{IsJournal}
 use Rattle.journal_store.specs.Refusing.{Stays}
 use Rattle.ru_journal.specs.Told.{nothing_told}
 use Rattle.tm_types.specs.Parts.{log_record_of}

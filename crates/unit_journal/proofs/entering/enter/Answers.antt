@@ -2,7 +2,7 @@
 use Rattle.std.proofs.Common.{◌≡◌, List, ℕ, length, option_map, IfSome, Option, arith, ap, sym, subst, ◌∙◌}
 use Rattle.careful_write.proofs.Touched.{length-with_number}
 use Rattle.careful_write.specs.State.{StoreState}
-use Rattle.journal_model.specs.Ring.{put_stream}
+use Rattle.journal_format.specs.journal_model.Ring.{put_stream}
 use Rattle.volume.specs.Catalogs.{TellsCatalog}
 use Rattle.unit_journal.proofs.Entered.{still_tells}
 use Rattle.unit_journal.proofs.entering.enter.Goals as goal

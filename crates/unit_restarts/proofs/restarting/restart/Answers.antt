@@ -3,25 +3,25 @@ use Rattle.std.proofs.Common.{◌≡◌, ◌++◌, ℕ, ◌+◌, ◌-◌, ◌≤
 use Rattle.std.specs.Prelude.{Bool, true, false, nat_le}
 use Rattle.std.proofs.lemmas.Bool.{leb-false, leb-true}
 use Rattle.std.proofs.lemmas.List.{length-append, length-map, map-append}
-use Rattle.commit_protocol.specs.Messages.{LogRecord}
+use Rattle.unit_entries.specs.commit_protocol.Messages.{LogRecord}
 use Rattle.file_base.specs.declared.head.Span.{Span}
 use Rattle.journal_model.specs.Entries.{Entry}
 use Rattle.journal_model.specs.Ring.{IsJournal, ring_size}
 use Rattle.lmcp_log.specs.Log.{with_few_prepared}
 use Rattle.lmcp_log.proofs.Few.{few_same}
-use Rattle.log_laws.specs.Slots.{Slots, prepared_of, records_in}
+use Rattle.unit_entries.specs.log_laws.Slots.{Slots, prepared_of, records_in}
 use Rattle.record_locks.specs.Locks.{Lock}
-use Rattle.run_model.specs.World.{records_by}
-use Rattle.tm_types.specs.Parts.{log_record_of}
+use Rattle.unit_entries.specs.run_model.World.{records_by}
+use Rattle.lmcp_log.specs.tm_types.Parts.{log_record_of}
 use Rattle.unit_entries.specs.Opening.{AscendWithin}
 use Rattle.unit_entries.proofs.StoreLemmas.{of_content}
 use Rattle.unit_entries.specs.Voting.{IsVoted, votes_in}
 use Rattle.unit_returns.specs.Returning.{AreAllChangesAt, AreOfRecords, HaveChanges, HoldChanges}
 use Rattle.unit_table.specs.Units.{OpenUnit, Units, begun, changers, owed}
 use Rattle.unit_table.proofs.BegunLemmas.{changers_seen}
-use Rattle.image_appends.specs.declared.side.Side.TheVariants.{After, Before}
-use Rattle.image_room.proofs.Keeping.{fits_less}
-use Rattle.image_room.specs.Room.{AllSettlementsFit}
+use Rattle.unit_aborts.specs.image_appends.declared.side.Side.TheVariants.{After, Before}
+use Rattle.unit_aborts.proofs.image_room.Keeping.{fits_less}
+use Rattle.unit_aborts.specs.image_room.Room.{AllSettlementsFit}
 use Rattle.vms_base.specs.declared.protocol.LogRec.{LogRec}
 use Rattle.vms_model.specs.Ids.{Id}
 use Rattle.volume.specs.State.{VolumeState}

@@ -1,9 +1,9 @@
 use Rattle.std.proofs.Common.{◌++◌, ◌∷◌, [], ◌-◌, ◌^◌, ◌<◌, ◌≤◌, ℕ, List, length, length-append, take, drop, map, ap, subst, sym, ◌∙◌, arith}
 use Rattle.std.specs.List.{AllByRecursion}
 use Rattle.careful_write.proofs.Reading.{ready_read}
-use Rattle.commit_protocol.specs.Messages.{LogRecord}
+use Rattle.unit_entries.specs.commit_protocol.Messages.{LogRecord}
 use Rattle.journal_store.specs.Rings.{IsRing}
-use Rattle.tm_types.specs.Parts.{log_record_of}
+use Rattle.unit_entries.specs.tm_types.Parts.{log_record_of}
 use Rattle.unit_entries.proofs.OpenLemmas.{all_less}
 use Rattle.unit_table.specs.Units.{OpenUnit, begun, is_of}
 use Rattle.vms_base.specs.Ids.{serial_of}

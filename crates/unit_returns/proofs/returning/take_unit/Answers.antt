@@ -1,6 +1,6 @@
 use Rattle.std.proofs.Common.{◌≡◌, ◌≤◌, ◌^◌, Option, IfSome, subst, sym, arith}
 use Rattle.std.specs.List.{AllByRecursion}
-use Rattle.tm_types.specs.Parts.{log_record_of}
+use Rattle.unit_entries.specs.tm_types.Parts.{log_record_of}
 use Rattle.unit_entries.proofs.OpenLemmas.{first_holds, less_none}
 use Rattle.unit_table.specs.Units.{OpenUnit, begun, is_of}
 use Rattle.vms_base.specs.Ids.{serial_of, tid_of}

@@ -9,15 +9,15 @@ use Rattle.unit_aborts.proofs.AbortLemmas.{is_changed}
 use Rattle.unit_aborts.proofs.ImageLemmas.{few_kept, of_three, rooms_after}
 use Rattle.block_disk.specs.Disk.{DiskState}
 use Rattle.careful_write.specs.State.{StoreState}
-use Rattle.image_appends.specs.Settling.{AllHaveRoom}
+use Rattle.unit_aborts.specs.image_appends.Settling.{AllHaveRoom}
 use Rattle.kept_files.specs.Keeping.{StandBehind, kept_in}
 use Rattle.unit_aborts.proofs.GrowLemmas.{grows_behind, once_behind, undone_grows, undone_once}
 use Rattle.unit_entries.proofs.StoreLemmas.{of_content}
 use Rattle.unit_journal.specs.Entries.{settled_entry}
 use Rattle.unit_journal.specs.Settling.{entry_if}
-use Rattle.file_settlements.specs.Settling.{SettlesFiles}
+use Rattle.kept_files.specs.file_settlements.Settling.{SettlesFiles}
 use Rattle.unit_table.specs.Units.{unit_at}
-use Rattle.unit_undo.specs.Way.{FailsOnTheWay, Undoes}
+use Rattle.unit_aborts.specs.unit_undo.Way.{FailsOnTheWay, Undoes}
 use Rattle.vms_base.specs.Ids.{serial_of, tid_of}
 use Rattle.vms_model.specs.Transactions.{Abort}
 use Rattle.volume.specs.declared.catalog.Catalog.{Catalog}

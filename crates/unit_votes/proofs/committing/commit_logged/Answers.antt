@@ -9,8 +9,8 @@ use Rattle.lmcp_log.specs.Log.{slot_of}
 use Rattle.careful_write.proofs.Reading.{same_so}
 use Rattle.unit_journal.specs.Entries.{settled_entry}
 use Rattle.unit_journal.specs.Settling.{entry_if}
-use Rattle.file_settlements.specs.Settling.{SettlesFiles}
-use Rattle.image_appends.specs.Settling.{AllHaveRoom}
+use Rattle.kept_files.specs.file_settlements.Settling.{SettlesFiles}
+use Rattle.unit_aborts.specs.image_appends.Settling.{AllHaveRoom}
 use Rattle.kept_files.specs.Keeping.{StandBehind}
 use Rattle.vms_base.specs.Ids.{serial_of, tid_of}
 use Rattle.vms_model.specs.Transactions.{Commit}

@@ -1,6 +1,6 @@
 use Rattle.std.proofs.Common.{◌≡◌, ◌<◌, ℕ, List, IfSome, refl, ap, subst, sym, arith}
-use Rattle.block_disk.specs.Blocks.{block_at}
-use Rattle.block_disk.specs.Disk.{DiskState}
+use Rattle.careful_write.specs.block_disk.Blocks.{block_at}
+use Rattle.careful_write.specs.block_disk.Disk.{DiskState}
 use Rattle.careful_write.specs.Content.{gate_block}
 use Rattle.careful_write.specs.Parts.{in_gate}
 use Rattle.careful_write.proofs.Touched.{touches_nothing, touches_put, touches_write}

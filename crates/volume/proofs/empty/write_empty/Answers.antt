@@ -1,6 +1,6 @@
 use Rattle.std.proofs.Common.{◌≡◌, ◌<◌, ℕ, List, IfSome, replicate, refl, ap, subst, sym, arith}
-use Rattle.block_disk.specs.Blocks.{block_at}
-use Rattle.block_disk.specs.Disk.{DiskState}
+use Rattle.careful_write.specs.block_disk.Blocks.{block_at}
+use Rattle.careful_write.specs.block_disk.Disk.{DiskState}
 use Rattle.careful_write.specs.Content.{content_of, gate_block}
 use Rattle.volume.specs.Empty.{IsEmptyVolume, is_formatted}
 use Rattle.volume.proofs.Empties.{empty_put, gate_put, gate_shut, zeros_touched, home_formatted, after_barrier, on_ok}

@@ -1,5 +1,5 @@
 use Rattle.std.proofs.Common.{◌≤◌, refl, ap, subst, sym, arith}
-use Rattle.block_disk.specs.Disk.{DiskState}
+use Rattle.careful_write.specs.block_disk.Disk.{DiskState}
 use Rattle.careful_write.proofs.Touched.{touches_put, touches_write}
 use Rattle.volume.specs.Empty.{is_zeroed}
 use Rattle.volume.proofs.Empties.{zeros_put, gate_put, pending_put, quiet_put, on_zeroed}

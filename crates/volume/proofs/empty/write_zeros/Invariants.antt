@@ -1,5 +1,5 @@
 use Rattle.std.proofs.Common.{◌≡◌, ◌≤◌, ◌+◌, ℕ, List, IfSome, length}
-use Rattle.block_disk.specs.Blocks.{block_at}
+use Rattle.careful_write.specs.block_disk.Blocks.{block_at}
 use Rattle.careful_write.specs.Content.{gate_block}
 use Rattle.careful_write.specs.Steps.{Quiet, Touches}
 use Rattle.volume.specs.Empty.{ZerosTo, is_zeroed}

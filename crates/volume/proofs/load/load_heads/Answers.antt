@@ -1,5 +1,5 @@
 use Rattle.std.proofs.Common.{◌≡◌, ◌≤◌, ◌<◌, ◌+◌, ◌-◌, ℕ, List, IfSome, length, subst, sym, ◌∙◌, arith, length-set}
-use Rattle.block_disk.specs.Blocks.{block_at}
+use Rattle.careful_write.specs.block_disk.Blocks.{block_at}
 use Rattle.careful_write.specs.State.{StoreState}
 use Rattle.careful_write.proofs.Reading.{same_on}
 use Rattle.volume.proofs.Entries.{heads_more_told, sound_more}

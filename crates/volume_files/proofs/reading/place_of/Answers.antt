@@ -1,5 +1,5 @@
 use Rattle.std.proofs.Common.{Some}
-use Rattle.vms_model.specs.Keys.{Number}
+use Rattle.vms_base.specs.vms_model.Keys.{Number}
 use Rattle.volume_files.proofs.Walks.{each_in_front, for_each_key, one_in_front}
 use Rattle.volume_files.proofs.reading.place_of.Goals as goal
 

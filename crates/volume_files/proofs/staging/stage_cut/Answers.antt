@@ -2,7 +2,7 @@ use Rattle.std.proofs.Common.{ℕ, List, Option, Some, IfSome, ap, subst, sym, a
 use Rattle.careful_write.specs.State.{StoreState}
 use Rattle.change_set.specs.Files.{IsPlaced, StagesIn}
 use Rattle.record_files.specs.Any.{Begins, IsLaidOut}
-use Rattle.vms_model.specs.Keys.{Number}
+use Rattle.vms_base.specs.vms_model.Keys.{Number}
 use Rattle.volume.specs.State.{VolumeState}
 use Rattle.volume_files.specs.Staging.{StagesFile, TellsCut}
 use Rattle.volume_files.proofs.Places.{behind_front, head_below, placed}

@@ -1,5 +1,5 @@
 use Rattle.std.proofs.Common.{◌≡◌, ◌++◌, take, drop}
-use Rattle.vms_base.specs.Ids.{until_zero}
+use Rattle.file_base.specs.vms_base.Ids.{until_zero}
 use Rattle.volume_format.proofs.pieces.before_zero.Given as goal
 
 abbrev pub invariant-loop-i : goal.invariant-loop-i

@@ -1,5 +1,5 @@
 use Rattle.std.proofs.Common.{sym, ◌∙◌}
-use Rattle.vms_base.specs.Ids.{id_of}
+use Rattle.file_base.specs.vms_base.Ids.{id_of}
 use Rattle.volume_format.proofs.Readings.{same_id}
 use Rattle.volume_format.proofs.pieces.id_at.Goals as goal
 

@@ -1,6 +1,6 @@
 use Rattle.std.proofs.Common.{◌∙◌, ap, refl, []}
-use Rattle.vms_model.specs.Names.{node_named}
-use Rattle.vms_base.specs.Ids.{until_zero}
+use Rattle.file_base.specs.vms_model.Names.{node_named}
+use Rattle.file_base.specs.vms_base.Ids.{until_zero}
 use Rattle.file_base.specs.Bytes.{piece_at}
 use Rattle.volume_format.proofs.Names.{until_padded}
 use Rattle.volume_format.proofs.pieces.node_at.Goals as goal

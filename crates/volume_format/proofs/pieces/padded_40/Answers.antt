@@ -1,5 +1,5 @@
 use Rattle.std.proofs.Common.{◌∙◌, ap, arith, length, [], ◌∷◌}
-use Rattle.vms_model.specs.Ids.{padded}
+use Rattle.file_base.specs.vms_model.Ids.{padded}
 use Rattle.volume_format.specs.Layout.{spliced}
 use Rattle.volume_format.proofs.Names.{name_is}
 use Rattle.volume_format.proofs.Splices.{spliced_zeros}

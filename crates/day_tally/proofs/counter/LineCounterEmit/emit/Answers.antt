@@ -1,5 +1,5 @@
 use Rattle.std.proofs.Common.{◌∷◌, [], Some, refl, arith}
-use Rattle.transcript_model.specs.Lines.{lines_text}
+use Rattle.emitter_model.specs.transcript_model.Lines.{lines_text}
 use Rattle.transcript.specs.Forms.{line_of}
 use Rattle.day_tally.proofs.counter.LineCounterEmit.emit.Goals as goal
 

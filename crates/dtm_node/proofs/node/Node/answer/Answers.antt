@@ -1,8 +1,8 @@
 use Rattle.std.proofs.Common.{ap, sym, ◌∙◌}
-use Rattle.commit_protocol.specs.Messages.{Kind}
-use Rattle.commit_protocol.specs.Rows.{got}
+use Rattle.emitter_model.specs.commit_protocol.Messages.{Kind}
+use Rattle.emitter_model.specs.commit_protocol.Rows.{got}
 use Rattle.net_wire.specs.Messages.{message_of}
-use Rattle.run_model.specs.Statements.{answer_in}
+use Rattle.world_laws.specs.run_model.Statements.{answer_in}
 use Rattle.dtm_node.specs.Asking.{answer_in_place}
 use Rattle.dtm_node.specs.Nodes.{place_of}
 use Rattle.dtm_node.proofs.node.Node.answer.Goals as goal

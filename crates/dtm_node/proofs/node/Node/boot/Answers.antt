@@ -1,8 +1,8 @@
 use Rattle.std.proofs.Common.{[], false, refl, subst, sym, true, ℕ, ◌∙◌, ◌∷◌}
-use Rattle.script_model.specs.Statements.{Boot}
-use Rattle.run_model.specs.Answers.{Serves}
+use Rattle.script_lang.specs.script_model.Statements.{Boot}
+use Rattle.world_laws.specs.run_model.Answers.{Serves}
 use Rattle.emitter_model.specs.Emitting.{Emits}
-use Rattle.transcript_model.specs.Lines.{NormalCount}
+use Rattle.emitter_model.specs.transcript_model.Lines.{NormalCount}
 use Rattle.dtm_node.specs.Nodes.{kept_of}
 use Rattle.dtm_node.proofs.Going.{later_keeps}
 use Rattle.dtm_node.proofs.Boots.{boot_at_up, boot_performs, boot_tells, boot_unmade}

@@ -1,11 +1,11 @@
 use Rattle.std.proofs.Common.{None, [], ap, false, refl, subst, sym, true, ◌∷◌}
 use Rattle.transcript.specs.Forms.{line_of}
-use Rattle.transcript_model.specs.Lines as line
+use Rattle.emitter_model.specs.transcript_model.Lines as line
 use Rattle.run_shared.specs.Sharing.{SharedState}
 use Rattle.dtm_node.specs.Causes.{cause_of}
 use Rattle.dtm_node.specs.Nodes.{kept_of, place_of}
 use Rattle.dtm_node.specs.Opening.{ComesTo}
-use Rattle.node_standing.specs.Standing.{NodeState}
+use Rattle.node_requests.specs.node_standing.Standing.{NodeState}
 use Rattle.dtm_node.proofs.BootPlaces.{left_place}
 use Rattle.dtm_node.proofs.Going.{same_moment}
 use Rattle.dtm_node.proofs.Boots.{ended_comes, opens_fell, opens_lacks, opens_open, opens_refused, up_comes}

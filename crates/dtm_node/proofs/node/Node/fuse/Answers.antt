@@ -1,10 +1,10 @@
 use Rattle.std.proofs.Common.{false, refl, subst, sym, true}
-use Rattle.script_model.specs.Statements.{Fuse}
-use Rattle.run_model.specs.Answers.{Serves}
-use Rattle.node_standing.specs.Keeping.{PerformsRequest}
+use Rattle.script_lang.specs.script_model.Statements.{Fuse}
+use Rattle.world_laws.specs.run_model.Answers.{Serves}
+use Rattle.node_requests.specs.node_standing.Keeping.{PerformsRequest}
 use Rattle.dtm_node.specs.Nodes.{kept_of}
-use Rattle.node_standing.specs.Standing.{Place}
-use Rattle.node_standing.specs.Telling.{TellsTask}
+use Rattle.node_requests.specs.node_standing.Standing.{Place}
+use Rattle.node_requests.specs.node_standing.Telling.{TellsTask}
 use Rattle.dtm_node.proofs.Arming.{fuse_performs, fuse_tells}
 use Rattle.dtm_node.proofs.NodePlaces.{armed_node}
 use Rattle.dtm_node.proofs.node.Node.fuse.Goals as goal

@@ -1,7 +1,7 @@
 use Rattle.std.proofs.Common.{refl, sym, ◌∙◌}
 use Rattle.net_wire.specs.Messages.{message_of}
-use Rattle.commit_protocol.specs.Rows.{Got}
-use Rattle.run_model.specs.Answers.{Hears}
+use Rattle.emitter_model.specs.commit_protocol.Rows.{Got}
+use Rattle.world_laws.specs.run_model.Answers.{Hears}
 use Rattle.dtm_node.specs.Nodes.{kept_of}
 use Rattle.dtm_node.proofs.NodeEvents.{asked_first, down_event, none_first}
 use Rattle.dtm_node.proofs.node.Node.hear.Goals as goal

@@ -1,6 +1,6 @@
 use Rattle.std.proofs.Common.{refl}
 use Rattle.dtm_node.proofs.NodeEvents.{nothing_first}
-use Rattle.run_model.specs.Answers.{LosesLink}
+use Rattle.world_laws.specs.run_model.Answers.{LosesLink}
 use Rattle.dtm_node.proofs.node.Node.lose_link.Goals as goal
 
 pub returns-clause-tells : goal.returns-clause-tells

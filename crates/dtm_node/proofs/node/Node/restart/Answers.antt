@@ -1,7 +1,7 @@
 use Rattle.std.proofs.Common.{List, [], refl, subst, ℕ, ◌∷◌}
-use Rattle.run_model.specs.Answers.{Restarts}
+use Rattle.world_laws.specs.run_model.Answers.{Restarts}
 use Rattle.emitter_model.specs.Emitting.{Emits}
-use Rattle.transcript_model.specs.Lines.{Booted}
+use Rattle.emitter_model.specs.transcript_model.Lines.{Booted}
 use Rattle.dtm_node.specs.Nodes.{kept_of}
 use Rattle.dtm_node.proofs.Boots.{restart_performs, restart_tells, restart_unmade}
 use Rattle.dtm_node.proofs.node.Node.restart.Goals as goal

@@ -1,5 +1,5 @@
 use Rattle.std.proofs.Common.{ap}
-use Rattle.node_standing.specs.Standing.{NodeState}
+use Rattle.node_requests.specs.node_standing.Standing.{NodeState}
 use Rattle.dtm_node.proofs.BootPlaces.{broken_as, reopened_as}
 use Rattle.dtm_node.proofs.node.Node.rise.Goals as goal
 

@@ -1,6 +1,6 @@
 use Rattle.std.proofs.Common.{refl}
 use Rattle.dtm_node.proofs.NodeEvents.{nothing_first}
-use Rattle.run_model.specs.Answers.{RunsDown}
+use Rattle.world_laws.specs.run_model.Answers.{RunsDown}
 use Rattle.dtm_node.proofs.node.Node.run_down.Goals as goal
 
 pub returns-clause-tells : goal.returns-clause-tells

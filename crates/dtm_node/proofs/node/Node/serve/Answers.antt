@@ -1,8 +1,8 @@
 use Rattle.std.proofs.Common.{Bool, true, subst, sym}
-use Rattle.run_model.specs.Answers.{Serves}
+use Rattle.world_laws.specs.run_model.Answers.{Serves}
 use Rattle.script_lang.specs.Statements.{request_of}
-use Rattle.node_standing.specs.Keeping.{PerformsRequest}
-use Rattle.node_standing.specs.Telling.{TellsTask}
+use Rattle.node_requests.specs.node_standing.Keeping.{PerformsRequest}
+use Rattle.node_requests.specs.node_standing.Telling.{TellsTask}
 use Rattle.dtm_node.specs.Nodes.{kept_of}
 use Rattle.node_requests.proofs.RequestKinds.{for_up}
 use Rattle.dtm_node.proofs.node.Node.serve.Goals as goal

@@ -1,9 +1,9 @@
 use Rattle.std.proofs.Common.{Ok, ap, refl, subst, ◌+◌, ◌∙◌}
 use Rattle.emitter_model.proofs.EmittingLemmas.{since_on}
 use Rattle.script_lang.specs.Statements.{request_of}
-use Rattle.node_table.specs.Code.{up_of}
+use Rattle.node_requests.specs.node_table.Code.{up_of}
 use Rattle.node_requests.specs.Requests.{AnswersRequest}
-use Rattle.node_standing.specs.Standing.{NodeState}
+use Rattle.node_requests.specs.node_standing.Standing.{NodeState}
 use Rattle.dtm_node.proofs.Going.{same_keeps, same_moment}
 use Rattle.dtm_node.proofs.NodeEvents.{fall_shown}
 use Rattle.dtm_node.proofs.NodeRequests.{broken_falls, broken_performs, broken_tells, lacking_node, lacking_performs, lacking_tells, lacking_use, may_serve_node, refused_performs, refused_tells, request_use, served_node, served_performs, served_tells}

@@ -1,6 +1,6 @@
 use Rattle.std.proofs.Common.{refl}
 use Rattle.dtm_node.proofs.NodeEvents.{nothing_first}
-use Rattle.run_model.specs.Answers.{Takes}
+use Rattle.world_laws.specs.run_model.Answers.{Takes}
 use Rattle.net_wire.specs.Messages.{message_of}
 use Rattle.dtm_node.proofs.node.Node.take.Goals as goal
 

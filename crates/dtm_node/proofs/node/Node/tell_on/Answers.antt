@@ -1,5 +1,5 @@
 use Rattle.run_shared.specs.Sharing.{SharedState}
-use Rattle.node_standing.specs.Standing.{NodeState}
+use Rattle.node_requests.specs.node_standing.Standing.{NodeState}
 use Rattle.std.proofs.Common.{true, ap, ◌∙◌}
 use Rattle.tm_types.specs.Events.{event_of}
 use Rattle.dtm_node.proofs.NodeEvents.{node_done, node_failed}

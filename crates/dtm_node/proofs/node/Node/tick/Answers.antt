@@ -1,6 +1,6 @@
 use Rattle.std.proofs.Common.{refl}
 use Rattle.dtm_node.proofs.NodeEvents.{nothing_first}
-use Rattle.run_model.specs.Answers.{Ticks}
+use Rattle.world_laws.specs.run_model.Answers.{Ticks}
 use Rattle.dtm_node.proofs.node.Node.tick.Goals as goal
 
 pub returns-clause-tells : goal.returns-clause-tells

@@ -1,7 +1,7 @@
 use Rattle.std.proofs.Common.{◌∙◌, sym, ap}
 use Rattle.vms_base.specs.contracts.names.NodeNamePartialEq.TheImpl.{eq-value}
 use Rattle.dtm_run.specs.Racks.{names_in, refusal_of}
-use Rattle.run_nodes.proofs.Lookups.{put_last, same_name}
+use Rattle.day_run.proofs.run_nodes.Lookups.{put_last, same_name}
 use Rattle.dtm_run.proofs.RackLemmas.{accepted, disks_more, names_more, rack_more}
 use Rattle.dtm_run.proofs.rack.Rack.add.Goals as goal
 

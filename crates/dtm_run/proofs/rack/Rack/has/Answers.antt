@@ -1,6 +1,6 @@
 use Rattle.std.proofs.Common.{◌∙◌}
 use Rattle.vms_base.specs.contracts.names.NodeNamePartialEq.TheImpl.{eq-value}
-use Rattle.run_nodes.proofs.Lookups.{found_among, same_name}
+use Rattle.day_run.proofs.run_nodes.Lookups.{found_among, same_name}
 use Rattle.dtm_run.proofs.rack.Rack.has.Goals as goal
 
 pub returns : goal.returns

@@ -1,5 +1,5 @@
 use Rattle.vms_base.specs.contracts.names.NodeNamePartialEq.TheImpl.{eq-value}
-use Rattle.run_nodes.proofs.Lookups.{of_ok, put_last, same_name}
+use Rattle.day_run.proofs.run_nodes.Lookups.{of_ok, put_last, same_name}
 use Rattle.dtm_run.proofs.rack.Rack.put_back.Goals as goal
 
 pub returns : goal.returns

@@ -1,6 +1,6 @@
 use Rattle.std.specs.Prelude.{remove, option_to_list}
 use Rattle.std.proofs.Common.{◌++◌, IsSome, sym, ◌∙◌, ap, subst}
-use Rattle.run_nodes.proofs.Firsts.{first_out, first_some}
+use Rattle.day_run.proofs.run_nodes.Firsts.{first_out, first_some}
 use Rattle.dtm_run.proofs.rack.Rack.take_first.Goals as goal
 
 pub returns-clause-nodes : goal.returns-clause-nodes

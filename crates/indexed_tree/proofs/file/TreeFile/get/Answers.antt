@@ -1,5 +1,5 @@
 use Rattle.std.proofs.Common.{◌≡◌, true, false, Some, None, IfOk, IfSome, ap, sym, subst, ◌∙◌}
-use Rattle.vms_model.specs.Keys.{Key, Text}
+use Rattle.vms_base.specs.vms_model.Keys.{Key, Text}
 use Rattle.vms_base.specs.Keys.{key_of}
 use Rattle.indexed_file.specs.Chain.{StandsAt}
 use Rattle.indexed_tree.specs.Files.{map_of}

@@ -1,6 +1,6 @@
 use Rattle.std.proofs.Common.{◌≡◌, Result, Ok, Err, OnOk, ap, sym, subst, ◌∙◌}
 use Rattle.std.specs.Option.{option_copied}
-use Rattle.vms_model.specs.Keys.{Key, Text}
+use Rattle.vms_base.specs.vms_model.Keys.{Key, Text}
 use Rattle.vms_base.specs.Keys.{key_of}
 use Rattle.index_blocks.specs.Levels.{HasRoot}
 use Rattle.indexed_file.specs.Chain.{Suits}

@@ -1,8 +1,8 @@
 use Rattle.std.proofs.Common.{◌≡◌, ◌≤◌, ap, subst, sym, ◌∙◌, length, map}
-use Rattle.commit_protocol.specs.Agreement.{Distinct}
-use Rattle.commit_protocol.specs.Messages.{LogRecord}
-use Rattle.commit_protocol.specs.Table.{record_serials}
-use Rattle.commit_protocol.specs.World.{In}
+use Rattle.log_laws.specs.commit_protocol.Agreement.{Distinct}
+use Rattle.log_laws.specs.commit_protocol.Messages.{LogRecord}
+use Rattle.log_laws.specs.commit_protocol.Table.{record_serials}
+use Rattle.log_laws.specs.commit_protocol.World.{In}
 use Rattle.log_laws.specs.Slots.{Slots, prepared_of, records_in}
 use Rattle.lmcp_log.specs.Log.{slot_of, with_few_prepared}
 use Rattle.lmcp_log.proofs.Few.{few_distinct, few_in, few_left, few_long, few_same}

@@ -1,7 +1,7 @@
 use Rattle.std.specs.Prelude.{IsErr}
 use Rattle.std.proofs.Common.{◌≡◌, List, Option, Some, map, set, sym, refl, ◌∙◌, arith}
 use Rattle.std.proofs.lemmas.List.{map-set}
-use Rattle.commit_protocol.specs.Messages.{LogRecord}
+use Rattle.log_laws.specs.commit_protocol.Messages.{LogRecord}
 use Rattle.tm_types.specs.Parts.{log_record_of}
 use Rattle.vms_base.specs.declared.protocol.LogRec.{LogRec}
 use Rattle.lmcp_log.specs.Log.{slot_of}

@@ -1,5 +1,5 @@
 use Rattle.std.proofs.Common.{ap, ◌∙◌}
-use Rattle.commit_protocol.specs.Table.{Tm}
+use Rattle.net_wire.specs.commit_protocol.Table.{Tm}
 use Rattle.vms_base.specs.Ids.{serial_of}
 use Rattle.node_table.specs.Code.{up_of}
 use Rattle.node_table.proofs.Noting.{changed_after}

@@ -1,5 +1,5 @@
 use Rattle.std.proofs.Common.{None, refl, arith}
-use Rattle.commit_protocol.specs.Effects.{SettleEffect}
+use Rattle.net_wire.specs.commit_protocol.Effects.{SettleEffect}
 use Rattle.emitter_model.proofs.EmittingLemmas.{emits_nothing, since_same}
 use Rattle.vms_model.specs.Transactions.{Abort}
 use Rattle.vms_base.specs.Ids.{serial_of}

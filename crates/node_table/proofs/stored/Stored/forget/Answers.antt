@@ -1,5 +1,5 @@
 use Rattle.std.proofs.Common.{refl}
-use Rattle.commit_protocol.specs.Effects.{ForgetEffect}
+use Rattle.net_wire.specs.commit_protocol.Effects.{ForgetEffect}
 use Rattle.emitter_model.proofs.EmittingLemmas.{emits_nothing, since_same}
 use Rattle.vms_base.specs.Ids.{serial_of, tid_of}
 use Rattle.node_table.proofs.Settling.{down_tells, forget_tells, forget_writes, goes_there, record_there}

@@ -1,7 +1,7 @@
 use Rattle.tm_types.proofs.ListLemmas.{map_push}
 use Rattle.std.proofs.Common.{ap, ◌∙◌, map, refl, arith}
 use Rattle.std.proofs.lemmas.List.{length-map}
-use Rattle.commit_protocol.specs.Effects.{PrepareEffect}
+use Rattle.net_wire.specs.commit_protocol.Effects.{PrepareEffect}
 use Rattle.emitter_model.proofs.EmittingLemmas.{emits_nothing, since_same}
 use Rattle.vms_base.specs.Ids.{serial_of, tid_of}
 use Rattle.node_table.specs.Code.{stored_of}

@@ -1,6 +1,6 @@
 use Rattle.std.proofs.Common.{◌∙◌, ap, sym}
 use Rattle.std.specs.Option.{option_map}
-use Rattle.commit_protocol.specs.Effects.{SettleEffect}
+use Rattle.net_wire.specs.commit_protocol.Effects.{SettleEffect}
 use Rattle.tm_types.specs.Parts.{log_record_of}
 use Rattle.vms_base.specs.Outcomes.{outcome_of, reason_of}
 use Rattle.vms_model.specs.Transactions.{Outcome}

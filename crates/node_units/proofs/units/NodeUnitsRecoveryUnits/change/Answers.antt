@@ -3,7 +3,7 @@ use Rattle.std.proofs.Common.{◌≡◌, ◌∙◌, ◌+◌, ◌<◌, ◌≤◌,
 use Rattle.std.specs.Prelude.{IsSome}
 use Rattle.std.specs.List.{position}
 use Rattle.std.proofs.lemmas.List.Quantifiers.{position-Some}
-use Rattle.unit_cuts.proofs.Outcomes.{of_some}
+use Rattle.rms_units.proofs.unit_cuts.Outcomes.{of_some}
 use Rattle.unit_table.specs.Units.{OpenUnit, begun}
 use Rattle.vms_base.specs.Ids.{serial_of}
 use Rattle.vms_model.specs.Ids.{Id}

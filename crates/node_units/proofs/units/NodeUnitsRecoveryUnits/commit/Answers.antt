@@ -4,7 +4,7 @@ use Rattle.std.specs.Prelude.{IsSome, option_copied}
 use Rattle.std.specs.List.{position}
 use Rattle.lmcp_log.specs.Log.{slot_of}
 use Rattle.unit_table.specs.Units.{OpenUnit}
-use Rattle.unit_votes.specs.Logging.{MayHave}
+use Rattle.rms_units.specs.unit_votes.Logging.{MayHave}
 use Rattle.vms_base.specs.Ids.{serial_of}
 use Rattle.vms_base.specs.declared.ids.Serial.{Serial}
 use Rattle.vms_base.specs.declared.ids.Tid.{Tid}

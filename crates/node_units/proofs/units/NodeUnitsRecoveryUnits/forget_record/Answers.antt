@@ -4,7 +4,7 @@ use Rattle.std.specs.Prelude.{OnErr, OnOk}
 use Rattle.careful_write.specs.declared.down.Down.{Down}
 use Rattle.commit_protocol.specs.Effects.{ForgetEffect}
 use Rattle.log_laws.specs.Slots.{Slots}
-use Rattle.unit_journal.proofs.Falling.{counts_go}
+use Rattle.rms_units.proofs.unit_journal.Falling.{counts_go}
 use Rattle.vms_base.specs.Ids.{serial_of}
 use Rattle.vms_base.specs.declared.ids.Tid.{Tid}
 use Rattle.recovery_units.specs.Calls as calls

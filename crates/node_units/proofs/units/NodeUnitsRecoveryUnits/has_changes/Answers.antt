@@ -2,7 +2,7 @@
 use Rattle.std.proofs.Common.{◌≡◌, ◌∙◌, ◌==◌, not, Bool, Option, Some, None, false, length, ap, sym, subst, refl}
 use Rattle.std.specs.Prelude.{IsSome, is_some}
 use Rattle.std.specs.List.{position}
-use Rattle.unit_cuts.proofs.Outcomes.{of_some}
+use Rattle.rms_units.proofs.unit_cuts.Outcomes.{of_some}
 use Rattle.unit_table.specs.Units.{OpenUnit, begun}
 use Rattle.vms_base.specs.Ids.{serial_of}
 use Rattle.recovery_units.specs.State.{UnitsState, are_there, has_changed_by}

@@ -3,8 +3,8 @@ use Rattle.std.proofs.Common.{◌∙◌, length, Some, ap, sym, subst}
 use Rattle.commit_protocol.specs.Effects.{KeepEffect}
 use Rattle.commit_protocol.specs.Messages.{LogRecord}
 use Rattle.log_laws.specs.Slots.{Slots}
-use Rattle.tm_types.specs.Parts.{log_record_of}
-use Rattle.unit_journal.proofs.Falling.{counts_go}
+use Rattle.lmcp_log.specs.tm_types.Parts.{log_record_of}
+use Rattle.rms_units.proofs.unit_journal.Falling.{counts_go}
 use Rattle.volume.specs.State.{VolumeState}
 use Rattle.recovery_units.specs.Calls as calls
 use Rattle.recovery_units.specs.State as calls_state

@@ -2,7 +2,7 @@
 use Rattle.std.proofs.Common.{◌≡◌, ◌∙◌, Option, Some, IfSome, ap, sym, subst, refl, arith}
 use Rattle.std.specs.Prelude.{IsSome}
 use Rattle.std.specs.List.{position, remove}
-use Rattle.unit_cuts.proofs.Outcomes.{of_some}
+use Rattle.rms_units.proofs.unit_cuts.Outcomes.{of_some}
 use Rattle.unit_table.specs.Units.{OpenUnit, begun}
 use Rattle.vms_base.specs.Ids.{serial_of, tid_of}
 use Rattle.vms_model.specs.Ids.{Id}

@@ -5,7 +5,7 @@ use Rattle.recovery_units.specs.Calls as calls
 use Rattle.recovery_units.specs.State as calls_state
 use Rattle.recovery_units.specs.State.{UnitsState}
 use Rattle.rms_units.specs.Calls.{LookRefused, MayLook}
-use Rattle.unit_journal.specs.Leaving.{FellIn}
+use Rattle.rms_units.specs.unit_journal.Leaving.{FellIn}
 use Rattle.volume.specs.State.{SameVolume}
 use Rattle.node_units.proofs.Answering.{err_as, images_same, ok_as, refused_same}
 use Rattle.node_units.proofs.ReadErrors.{looks_err}

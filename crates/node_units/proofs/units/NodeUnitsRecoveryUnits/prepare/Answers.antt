@@ -6,7 +6,7 @@ use Rattle.std.proofs.lemmas.Bool.{both_ways}
 use Rattle.log_laws.specs.Slots.{has_free, has_slot}
 use Rattle.unit_table.specs.Units as table
 use Rattle.unit_table.specs.Units.{OpenUnit, begun, prepared_unit}
-use Rattle.unit_votes.specs.Voting.{vote_entry, vote_record}
+use Rattle.rms_units.specs.unit_votes.Voting.{vote_entry, vote_record}
 use Rattle.rms_units.specs.Calls.{is_some_change}
 use Rattle.vms_base.specs.Ids.{serial_of, tid_of}
 use Rattle.vms_model.specs.Ids.{Id}

@@ -15,11 +15,11 @@ use Rattle.record_operations.specs.Asking.{read_file_in}
 use Rattle.rms_units.specs.Calls.{MayRead, ReadRefused}
 use Rattle.rms_units.specs.State as rms
 use Rattle.rms_units.specs.State.{unit_of}
-use Rattle.unit_journal.specs.Leaving.{FellIn}
+use Rattle.rms_units.specs.unit_journal.Leaving.{FellIn}
 use Rattle.node_units.specs.declared.begun.BegunUnit.{BegunUnit}
 use Rattle.node_units.specs.Seen.{seen}
 use Rattle.node_units.specs.Tokens.{is_of, place_in}
-use Rattle.unit_cuts.proofs.Outcomes.{of_some}
+use Rattle.rms_units.proofs.unit_cuts.Outcomes.{of_some}
 use Rattle.node_units.proofs.Answering.{both_as, err_as, ok_and, ok_as, refused_same}
 use Rattle.node_units.proofs.ReadErrors.{reads_err}
 use Rattle.node_units.proofs.ReadLemmas.{reads_few, reads_ok}

@@ -8,8 +8,8 @@ use Rattle.lmcp_log.specs.Keeping.{Keeps}
 use Rattle.lmcp_log.specs.Log.{OnlyRead}
 use Rattle.lmcp_log.proofs.Few.{few_long}
 use Rattle.log_laws.specs.Slots.{Slots}
-use Rattle.tm_types.specs.Parts.{log_record_of}
-use Rattle.unit_restarts.specs.Restarting.{RestartTold, Restarts}
+use Rattle.lmcp_log.specs.tm_types.Parts.{log_record_of}
+use Rattle.rms_units.specs.unit_restarts.Restarting.{RestartTold, Restarts}
 use Rattle.unit_table.specs.Units.{begun}
 use Rattle.vms_base.specs.declared.protocol.LogRec.{LogRec}
 use Rattle.volume.specs.State.{VolumeState}

@@ -2,7 +2,7 @@ use Rattle.std.proofs.Common.{Some, IfSome, subst}
 use Rattle.file_base.specs.declared.head.Organization.{Organization}
 use Rattle.file_base.specs.declared.head.Organization.TheVariants.{Sequential}
 use Rattle.record_files.specs.Any.{BeginsBy, FormBy, LaidOutBy}
-use Rattle.vms_model.specs.Keys.{Number}
+use Rattle.vms_base.specs.vms_model.Keys.{Number}
 use Rattle.record_files.proofs.Cases.{cut_map, cut_valid, cut_used, set_form}
 use Rattle.record_files.proofs.any.AnyFile.cut_at.Goals as goal
 

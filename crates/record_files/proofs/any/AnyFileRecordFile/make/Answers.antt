@@ -1,6 +1,6 @@
 use Rattle.std.proofs.Common.{◌≡◌, OnOk, IfSome, sym, subst}
 use Rattle.file_base.specs.declared.head.Organization.{Organization}
-use Rattle.change_set.specs.Maps.{empty_map}
+use Rattle.relative_file.specs.change_set.Maps.{empty_map}
 use Rattle.record_files.specs.Any.{FormBy, FreshBy, LaidOutBy, map_by}
 use Rattle.record_files.proofs.any.AnyFileRecordFile.make.Goals as goal
 

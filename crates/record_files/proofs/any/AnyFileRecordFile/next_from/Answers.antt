@@ -2,7 +2,7 @@ use Rattle.std.proofs.Common.{◌≡◌, true, false, Some, option_map, IfOk, If
 use Rattle.file_base.specs.declared.head.Organization.{Organization}
 use Rattle.std.specs.Option.{option_copied}
 use Rattle.vms_base.specs.Keys.{key_of}
-use Rattle.change_set.specs.Maps.{IsNext, EndsAfter}
+use Rattle.relative_file.specs.change_set.Maps.{IsNext, EndsAfter}
 use Rattle.record_files.specs.Any.{BeginsBy, FormBy, LaidOutBy, map_by}
 use Rattle.record_files.proofs.any.AnyFileRecordFile.next_from.Goals as goal
 

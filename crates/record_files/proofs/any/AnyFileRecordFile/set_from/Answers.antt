@@ -2,9 +2,9 @@ use Rattle.std.proofs.Common.{Some, IfSome, subst}
 use Rattle.file_base.specs.declared.head.Organization.{Organization}
 use Rattle.file_base.specs.declared.head.Organization.TheVariants.{Sequential, Relative, Indexed}
 use Rattle.std.specs.Option.{option_copied}
-use Rattle.vms_model.specs.Keys.{Key}
+use Rattle.vms_base.specs.vms_model.Keys.{Key}
 use Rattle.vms_base.specs.Keys.{key_of}
-use Rattle.change_set.specs.Files.{sizes_of}
+use Rattle.relative_file.specs.change_set.Files.{sizes_of}
 use Rattle.record_files.proofs.Cases.{set_map, set_valid, set_used, set_rooms, set_layout, set_back, set_form}
 use Rattle.record_files.specs.Any.{BeginsBy, FormBy, LaidOutBy, SuitsBy}
 use Rattle.record_files.proofs.any.AnyFileRecordFile.set_from.Goals as goal

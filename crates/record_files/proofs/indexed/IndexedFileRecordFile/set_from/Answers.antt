@@ -1,6 +1,6 @@
 use Rattle.std.proofs.Common.{Result, Ok, Err, OnOk}
 use Rattle.std.specs.Option.{option_copied}
-use Rattle.vms_model.specs.Keys.{Key}
+use Rattle.vms_base.specs.vms_model.Keys.{Key}
 use Rattle.vms_base.specs.Keys.{key_of}
 use Rattle.indexed_tree.specs.Files.{KeySet}
 use Rattle.record_files.proofs.indexed.IndexedFileRecordFile.set_from.Goals as goal

@@ -1,7 +1,7 @@
 use Rattle.std.proofs.Common.{◌≡◌, ◌∙◌, List, Option, ap}
 use Rattle.std.proofs.lemmas.Result.{IfOk-weaker}
-use Rattle.run_model.specs.World as world
-use Rattle.run_model.specs.Locks.{Lock}
+use Rattle.reference_index.specs.run_model.World as world
+use Rattle.reference_index.specs.run_model.Locks.{Lock}
 use Rattle.tm_types.specs.Parts.{log_record_of}
 use Rattle.reference_index.specs.Standing.{locks_of}
 use Rattle.reference_world.specs.Standing.{directory_of}

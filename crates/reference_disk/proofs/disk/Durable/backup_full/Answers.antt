@@ -1,5 +1,5 @@
 use Rattle.std.proofs.Common.{[], sym, ◌∙◌}
-use Rattle.run_model.specs.World.{find_file}
+use Rattle.reference_index.specs.run_model.World.{find_file}
 use Rattle.reference_disk.specs.Disks.{durable_of, node_on}
 use Rattle.reference_disk.proofs.FoundLemmas.{fills_saved, fills_unsaved}
 use Rattle.reference_disk.proofs.disk.Durable.backup_full.Goals as goal

@@ -1,6 +1,6 @@
 use Rattle.std.proofs.Common.{ap, ◌∙◌}
 use Rattle.std.proofs.lemmas.Result.{IfOk-weaker}
-use Rattle.run_model.specs.World.{find_file}
+use Rattle.reference_index.specs.run_model.World.{find_file}
 use Rattle.reference_world.specs.Standing.{directory_of, file_of, side_of}
 use Rattle.reference_disk.specs.Disks.{durable_of}
 use Rattle.reference_disk.proofs.FoundLemmas.{images_told, shows_images, shows_nothing}

@@ -1,7 +1,7 @@
 use Rattle.std.proofs.Common.{◌≡◌, [], ◌∷◌, ap, arith, length, sym, ◌∙◌}
 use Rattle.std.specs.Prelude.{vec_len}
-use Rattle.transcript_model.specs.Lines as model
-use Rattle.run_model.specs.World.{find_file}
+use Rattle.reference_index.specs.transcript_model.Lines as model
+use Rattle.reference_index.specs.run_model.World.{find_file}
 use Rattle.script_lang.specs.Statements.{recovery_of}
 use Rattle.reference_disk.specs.Disks.{durable_of, node_on}
 use Rattle.reference_disk.proofs.MarkLemmas.{given_rows, loaded_from}

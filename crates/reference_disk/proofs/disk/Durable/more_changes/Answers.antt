@@ -1,10 +1,10 @@
 use Rattle.std.proofs.Common.{◌≡◌, ap, ◌∙◌, sym, length, ◌+◌}
 use Rattle.std.specs.Prelude.{nat_lt}
 use Rattle.std.proofs.lemmas.List.{length-map}
-use Rattle.transcript_model.specs.Lines as model
-use Rattle.unit_laws.specs.Journal.{units_in}
-use Rattle.run_model.specs.Operations.{refused_if}
-use Rattle.run_model.specs.World.{changes_made}
+use Rattle.reference_index.specs.transcript_model.Lines as model
+use Rattle.reference_index.specs.unit_laws.Journal.{units_in}
+use Rattle.reference_index.specs.run_model.Operations.{refused_if}
+use Rattle.reference_index.specs.run_model.World.{changes_made}
 use Rattle.vms_base.specs.Ids.{id_of}
 use Rattle.reference_index.specs.Standing.{change_of}
 use Rattle.reference_units.specs.Entries.{entries_of, journal_of, units_of}

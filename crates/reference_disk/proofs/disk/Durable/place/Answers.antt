@@ -1,7 +1,7 @@
 use Rattle.std.proofs.Common.{ap, Some, List, Option}
 use Rattle.std.specs.Option.{option_map}
 use Rattle.std.proofs.lemmas.List.{map-set}
-use Rattle.run_model.specs.World as world
+use Rattle.reference_index.specs.run_model.World as world
 use Rattle.reference_world.specs.Standing.{file_of}
 use Rattle.reference_disk.specs.Disks.{durable_of}
 use Rattle.reference_disk.proofs.disk.Durable.place.Goals as goal

@@ -1,5 +1,5 @@
 use Rattle.std.proofs.Common.{[], subst, ◌∙◌}
-use Rattle.run_model.specs.World.{find_file}
+use Rattle.reference_index.specs.run_model.World.{find_file}
 use Rattle.script_lang.specs.Statements.{recovery_of}
 use Rattle.reference_disk.specs.Disks.{durable_of, node_on}
 use Rattle.reference_disk.specs.Recovering.{IsGiven}

@@ -1,5 +1,5 @@
 use Rattle.std.proofs.Common.{[], ◌∷◌, ap, sym, ◌∙◌}
-use Rattle.transcript_model.specs.Lines as model
+use Rattle.reference_index.specs.transcript_model.Lines as model
 use Rattle.reference_disk.specs.Disks.{durable_of, node_on}
 use Rattle.reference_disk.proofs.MarkLemmas.{saved_from}
 use Rattle.reference_disk.proofs.disk.Durable.save_in.Goals as goal

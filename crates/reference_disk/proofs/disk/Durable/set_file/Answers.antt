@@ -1,6 +1,6 @@
 use Rattle.std.proofs.Common.{◌≡◌, [], ap, sym, ◌∙◌}
-use Rattle.run_model.specs.Answers.{start_of}
-use Rattle.run_model.specs.World.{lowest_free, marked_file}
+use Rattle.reference_index.specs.run_model.Answers.{start_of}
+use Rattle.reference_index.specs.run_model.World.{lowest_free, marked_file}
 use Rattle.script_lang.specs.Statements.{setting_of}
 use Rattle.reference_world.specs.Directories.{mark_of}
 use Rattle.reference_disk.specs.Disks.{durable_of, node_on}

@@ -1,6 +1,6 @@
 use Rattle.std.proofs.Common.{◌∙◌, ◌+◌, ◌||◌, Bool, ap, sym, drop}
 use Rattle.std.specs.List.{list_any}
-use Rattle.run_model.specs.Answers.{has_joined}
+use Rattle.world_laws.specs.run_model.Answers.{has_joined}
 use Rattle.tm_types.specs.Branches.{branch_of}
 use Rattle.reference_node.proofs.TableLemmas.{any_left}
 use Rattle.reference_node.proofs.node.Node.+has_joined_from.Goals as goal

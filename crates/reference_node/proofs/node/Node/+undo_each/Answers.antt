@@ -1,8 +1,8 @@
 use Rattle.std.proofs.Common.{◌≡◌, ◌+◌, ◌∙◌, ◌∷◌, List, ap, sym, subst, length, arith}
 use Rattle.std.specs.Prelude.{map}
 use Rattle.commit_protocol.specs.World.{undo_all}
-use Rattle.run_model.specs.Answers.{table_rows, unit_key}
-use Rattle.run_model.specs.Steps.{lines_of_rows, node_after_rows}
+use Rattle.world_laws.specs.run_model.Answers.{table_rows, unit_key}
+use Rattle.world_laws.specs.run_model.Steps.{lines_of_rows, node_after_rows}
 use Rattle.reference_world.specs.Standing.{branch_key_of, line_of}
 use Rattle.reference_index.proofs.ListLemmas.{behind_first, parts}
 use Rattle.reference_units.specs.Entries.{units_of}

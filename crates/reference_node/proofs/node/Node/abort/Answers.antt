@@ -1,4 +1,4 @@
-use Rattle.run_model.specs.Answers.{is_open}
+use Rattle.world_laws.specs.run_model.Answers.{is_open}
 use Rattle.tm_types.specs.Branches.{branch_of}
 use Rattle.reference_node.specs.Nodes.{node_of}
 use Rattle.reference_branches.specs.Branches.{shared_of}

@@ -1,8 +1,8 @@
 use Rattle.std.proofs.Common.{◌≡◌, ◌∙◌, ap, true}
 use Rattle.commit_protocol.specs.Allowed.{allowed, may_authorise, there_is}
 use Rattle.commit_protocol.specs.Table.{find, first}
-use Rattle.run_model.specs.World as world
-use Rattle.run_model.specs.World.{tm_of}
+use Rattle.world_laws.specs.run_model.World as world
+use Rattle.world_laws.specs.run_model.World.{tm_of}
 use Rattle.tm_types.specs.Branches.{branch_of}
 use Rattle.reference_node.specs.Nodes.{node_of}
 use Rattle.reference_branches.specs.Branches.{shared_of}

@@ -4,7 +4,7 @@ use Rattle.commit_protocol.specs.Effects.{effects_of}
 use Rattle.commit_protocol.specs.Messages.{Inquire, Message}
 use Rattle.commit_protocol.specs.Rows.{Got, row, up}
 use Rattle.commit_protocol.specs.Table.{Tm, after, find, first}
-use Rattle.run_model.specs.Statements.{answer_in}
+use Rattle.world_laws.specs.run_model.Statements.{answer_in}
 use Rattle.tm_types.specs.Effects.{effect_of}
 use Rattle.reference_world.specs.Standing.{branch_key_of}
 use Rattle.reference_node.specs.Nodes.{node_of}

@@ -1,7 +1,7 @@
 use Rattle.std.proofs.Common.{◌≡◌, ◌∙◌, ◌∷◌, [], List, ap, refl}
 use Rattle.std.specs.Prelude.{map}
 use Rattle.commit_protocol.specs.Effects.{Effect as EffectSaid, act_effects}
-use Rattle.run_model.specs.World.{Shared}
+use Rattle.world_laws.specs.run_model.World.{Shared}
 use Rattle.tm_types.specs.Effects.{effect_of}
 use Rattle.tm_types.specs.declared.effects.Effect.{Effect}
 use Rattle.vms_base.specs.Ids.{id_of}

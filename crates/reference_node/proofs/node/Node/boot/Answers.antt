@@ -1,10 +1,10 @@
 use Rattle.std.proofs.Common.{◌≡◌, ◌+◌, ◌∙◌, ◌∷◌, ◌++◌, [], append_assoc, ap, sym}
 use Rattle.std.specs.Prelude.{map}
 use Rattle.std.proofs.lemmas.List.{map-append}
-use Rattle.transcript_model.specs.Lines as model
-use Rattle.run_model.specs.Answers.{boot_rows, left_active, prepared_lines, unit_key}
-use Rattle.run_model.specs.Steps.{lines_of_rows}
-use Rattle.run_model.specs.World.{Boots, acted}
+use Rattle.world_laws.specs.transcript_model.Lines as model
+use Rattle.world_laws.specs.run_model.Answers.{boot_rows, left_active, prepared_lines, unit_key}
+use Rattle.world_laws.specs.run_model.Steps.{lines_of_rows}
+use Rattle.world_laws.specs.run_model.World.{Boots, acted}
 use Rattle.reference_world.specs.Standing.{line_of}
 use Rattle.reference_node.specs.Nodes.{node_of}
 use Rattle.reference_node.proofs.BootLemmas.{undone_shares}

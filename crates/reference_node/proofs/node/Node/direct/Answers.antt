@@ -2,10 +2,10 @@ use Rattle.std.proofs.Common.{◌≡◌, ◌∙◌, ◌∷◌, true, false, None
 use Rattle.std.specs.Prelude.{map, ◌==◌, vec_len}
 use Rattle.std.proofs.lemmas.List.{length-map}
 use Rattle.vms_model.specs.Transactions.{Commit}
-use Rattle.transcript_model.specs.Lines as model
+use Rattle.world_laws.specs.transcript_model.Lines as model
 use Rattle.commit_protocol.specs.Table.{first}
-use Rattle.run_model.specs.Answers.{commit_settlement}
-use Rattle.run_model.specs.World.{next_id, next_moment}
+use Rattle.world_laws.specs.run_model.Answers.{commit_settlement}
+use Rattle.world_laws.specs.run_model.World.{next_id, next_moment}
 use Rattle.reference_index.specs.Standing.{change_of, changes_of}
 use Rattle.reference_world.specs.Standing.{branch_key_of, settlement_of, line_of}
 use Rattle.reference_records.specs.Operations.{asked_of}

@@ -3,8 +3,8 @@ use Rattle.std.specs.Prelude.{vec_len}
 use Rattle.std.specs.Option.{option_map}
 use Rattle.std.proofs.lemmas.List.{length-map}
 use Rattle.vms_base.specs.Ids.{id_of}
-use Rattle.run_model.specs.Answers.{images_full, of_file}
-use Rattle.run_model.specs.Operations.{first_of}
+use Rattle.world_laws.specs.run_model.Answers.{images_full, of_file}
+use Rattle.world_laws.specs.run_model.Operations.{first_of}
 use Rattle.reference_index.specs.Standing.{change_of, changes_of}
 use Rattle.reference_world.specs.Standing.{line_of}
 use Rattle.reference_records.specs.Operations.{asked_of}

@@ -1,7 +1,7 @@
 use Rattle.std.proofs.Common.{subst}
 use Rattle.std.proofs.lemmas.Result.{IfOk-weaker}
-use Rattle.script_model.specs.Statements.{DumpImages}
-use Rattle.run_model.specs.Answers.{service}
+use Rattle.script_lang.specs.script_model.Statements.{DumpImages}
+use Rattle.world_laws.specs.run_model.Answers.{service}
 use Rattle.reference_world.specs.Standing.{side_of}
 use Rattle.reference_node.specs.Nodes.{Does, node_of}
 use Rattle.reference_node.proofs.FileActLemmas.{dumps_images}

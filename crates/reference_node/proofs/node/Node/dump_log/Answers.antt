@@ -1,8 +1,8 @@
 use Rattle.std.proofs.Common.{◌≡◌, ◌∙◌, List, Option, ap, sym, arith, length}
 use Rattle.std.specs.Prelude.{map, vec_len}
 use Rattle.std.proofs.lemmas.List.{map-append}
-use Rattle.log_laws.specs.Slots.{slot_records}
-use Rattle.run_model.specs.Answers.{log_line}
+use Rattle.world_laws.specs.log_laws.Slots.{slot_records}
+use Rattle.world_laws.specs.run_model.Answers.{log_line}
 use Rattle.vms_base.specs.declared.protocol.LogRec.{LogRec}
 use Rattle.reference_world.specs.Standing.{line_of}
 use Rattle.reference_world.specs.declared.line.Line.{Line}

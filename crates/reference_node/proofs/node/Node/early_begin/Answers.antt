@@ -1,6 +1,6 @@
 use Rattle.std.proofs.Common.{◌∙◌, ap, refl, false}
-use Rattle.run_model.specs.Answers as answers
-use Rattle.run_model.specs.Operations.{first_of}
+use Rattle.world_laws.specs.run_model.Answers as answers
+use Rattle.world_laws.specs.run_model.Operations.{first_of}
 use Rattle.reference_node.proofs.node.Node.early_begin.Goals as goal
 
 pub returns : goal.returns

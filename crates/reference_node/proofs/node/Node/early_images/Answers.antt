@@ -1,6 +1,6 @@
 use Rattle.std.proofs.Common.{ap, ◌∙◌}
-use Rattle.run_model.specs.Answers.{has_journal, of_file}
-use Rattle.run_model.specs.Operations.{first_of}
+use Rattle.world_laws.specs.run_model.Answers.{has_journal, of_file}
+use Rattle.world_laws.specs.run_model.Operations.{first_of}
 use Rattle.reference_node.specs.Nodes.{node_of}
 use Rattle.reference_node.proofs.node.Node.early_images.Goals as goal
 

@@ -1,7 +1,7 @@
 use Rattle.std.proofs.Common.{◌∙◌, ap, refl}
 use Rattle.std.specs.Prelude.{not}
-use Rattle.transcript_model.specs.Lines as line
-use Rattle.run_model.specs.Operations.{first_of, refused_if}
+use Rattle.world_laws.specs.transcript_model.Lines as line
+use Rattle.world_laws.specs.run_model.Operations.{first_of, refused_if}
 use Rattle.reference_node.specs.Nodes.{node_of}
 use Rattle.reference_node.proofs.node.Node.early_init.Goals as goal
 

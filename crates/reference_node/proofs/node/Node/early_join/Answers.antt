@@ -1,6 +1,6 @@
 use Rattle.std.proofs.Common.{◌∙◌, ap}
-use Rattle.run_model.specs.Answers.{in_state, is_joinable}
-use Rattle.run_model.specs.Operations.{first_of}
+use Rattle.world_laws.specs.run_model.Answers.{in_state, is_joinable}
+use Rattle.world_laws.specs.run_model.Operations.{first_of}
 use Rattle.reference_node.proofs.node.Node.early_join.Goals as goal
 
 pub returns : goal.returns

@@ -1,6 +1,6 @@
 use Rattle.std.proofs.Common.{◌≡◌, sym, subst}
 use Rattle.std.specs.Option.{option_map}
-use Rattle.run_model.specs.Answers.{service}
+use Rattle.world_laws.specs.run_model.Answers.{service}
 use Rattle.script_lang.specs.Statements.{request_of}
 use Rattle.script_lang.specs.declared.statement.Request.{Request}
 use Rattle.reference_world.specs.Standing.{line_of}

@@ -1,7 +1,7 @@
 use Rattle.std.proofs.Common.{◌≡◌, ◌∙◌, ap}
 use Rattle.commit_protocol.specs.Allowed.{is_working}
-use Rattle.run_model.specs.Answers.{in_state, keys_refused, of_file}
-use Rattle.run_model.specs.Operations.{first_of, keys_asked}
+use Rattle.world_laws.specs.run_model.Answers.{in_state, keys_refused, of_file}
+use Rattle.world_laws.specs.run_model.Operations.{first_of, keys_asked}
 use Rattle.reference_records.specs.Operations.{asked_of}
 use Rattle.reference_node.specs.Nodes.{node_of}
 use Rattle.reference_node.proofs.node.Node.early_records.Goals as goal

@@ -1,5 +1,5 @@
 use Rattle.std.proofs.Common.{refl, ◌∙◌}
-use Rattle.run_model.specs.Operations.{first_of}
+use Rattle.world_laws.specs.run_model.Operations.{first_of}
 use Rattle.reference_node.specs.Nodes.{node_of}
 use Rattle.reference_node.proofs.node.Node.early_recover.Goals as goal
 

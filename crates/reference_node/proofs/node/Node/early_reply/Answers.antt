@@ -1,6 +1,6 @@
 use Rattle.std.proofs.Common.{◌∙◌, ap}
-use Rattle.run_model.specs.Answers.{awaited_reply, known_branch, known_manager}
-use Rattle.run_model.specs.Operations.{first_of}
+use Rattle.world_laws.specs.run_model.Answers.{awaited_reply, known_branch, known_manager}
+use Rattle.world_laws.specs.run_model.Operations.{first_of}
 use Rattle.tm_types.specs.Parts.{reply_of}
 use Rattle.reference_node.proofs.node.Node.early_reply.Goals as goal
 

@@ -1,7 +1,7 @@
 use Rattle.std.proofs.Common.{◌≡◌, ◌∙◌, ap, sym}
 use Rattle.std.proofs.lemmas.Result.{IfOk-weaker}
-use Rattle.script_model.specs.Statements.{Direct}
-use Rattle.run_model.specs.Answers.{service}
+use Rattle.script_lang.specs.script_model.Statements.{Direct}
+use Rattle.world_laws.specs.run_model.Answers.{service}
 use Rattle.script_lang.specs.Statements.{request_of}
 use Rattle.script_lang.specs.declared.statement.Request.{Request}
 use Rattle.reference_node.specs.Nodes.{node_of}

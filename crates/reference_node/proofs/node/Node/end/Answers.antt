@@ -1,12 +1,12 @@
 use Rattle.std.proofs.Common.{◌≡◌, ◌∙◌, ◌∷◌, ◌++◌, [], List, Option, Some, None, ap, sym}
 use Rattle.std.specs.Prelude.{map}
 use Rattle.std.proofs.lemmas.List.{map-append}
-use Rattle.transcript_model.specs.Lines as model
+use Rattle.world_laws.specs.transcript_model.Lines as model
 use Rattle.commit_protocol.specs.Rows.{EndTrans, joined, row}
 use Rattle.commit_protocol.specs.Table.{Branch}
-use Rattle.run_model.specs.Answers.{Row, branch_labelled, end_answer, just, missing, service, table_rows, told_rows}
-use Rattle.run_model.specs.Steps.{lines_of_rows, node_after_rows, shared_after_rows}
-use Rattle.run_model.specs.World.{tm_of}
+use Rattle.world_laws.specs.run_model.Answers.{Row, branch_labelled, end_answer, just, missing, service, table_rows, told_rows}
+use Rattle.world_laws.specs.run_model.Steps.{lines_of_rows, node_after_rows, shared_after_rows}
+use Rattle.world_laws.specs.run_model.World.{tm_of}
 use Rattle.tm_types.specs.Branches.{branch_of}
 use Rattle.reference_world.specs.Standing.{line_of}
 use Rattle.reference_node.specs.Nodes.{node_of}

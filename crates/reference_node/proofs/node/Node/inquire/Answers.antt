@@ -1,4 +1,4 @@
-use Rattle.run_model.specs.Answers.{is_in_doubt}
+use Rattle.world_laws.specs.run_model.Answers.{is_in_doubt}
 use Rattle.script_lang.specs.Statements.{named_of}
 use Rattle.tm_types.specs.Branches.{branch_of}
 use Rattle.reference_node.specs.Nodes.{node_of}

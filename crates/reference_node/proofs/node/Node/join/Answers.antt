@@ -1,6 +1,6 @@
 use Rattle.std.proofs.Common.{◌≡◌, ◌∙◌, ap, true}
 use Rattle.commit_protocol.specs.Allowed.{allowed}
-use Rattle.run_model.specs.World.{tm_of}
+use Rattle.world_laws.specs.run_model.World.{tm_of}
 use Rattle.tm_types.specs.Branches.{branch_of}
 use Rattle.reference_node.specs.Nodes.{node_of}
 use Rattle.reference_branches.specs.Branches.{shared_of}

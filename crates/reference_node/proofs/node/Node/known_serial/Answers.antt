@@ -1,5 +1,5 @@
 use Rattle.std.proofs.Common.{◌∙◌, ap}
-use Rattle.run_model.specs.Answers.{Recorded, Unsettled}
+use Rattle.world_laws.specs.run_model.Answers.{Recorded, Unsettled}
 use Rattle.vms_base.specs.Ids.{id_of}
 use Rattle.vms_base.specs.declared.protocol.LogRec.{LogRec}
 use Rattle.tm_types.specs.declared.branch.BranchState.{BranchState}

@@ -1,6 +1,6 @@
 use Rattle.std.specs.Prelude.{map}
-use Rattle.run_model.specs.World.{serial_labelled}
-use Rattle.run_model.specs.Answers.{branch_labelled}
+use Rattle.world_laws.specs.run_model.World.{serial_labelled}
+use Rattle.world_laws.specs.run_model.Answers.{branch_labelled}
 use Rattle.tm_types.specs.Branches.{branch_of}
 use Rattle.reference_index.specs.Standing.{key_of, changes_of}
 use Rattle.reference_world.specs.Standing.{line_of}

@@ -1,8 +1,8 @@
 use Rattle.std.proofs.Common.{◌≡◌, ◌∙◌, ap, sym}
 use Rattle.std.specs.Option.{option_map}
 use Rattle.commit_protocol.specs.Table.{Key}
-use Rattle.run_model.specs.Answers.{images_full, journal_full, more_changes, of_file, found_refused}
-use Rattle.run_model.specs.Operations.{first_of}
+use Rattle.world_laws.specs.run_model.Answers.{images_full, journal_full, more_changes, of_file, found_refused}
+use Rattle.world_laws.specs.run_model.Operations.{first_of}
 use Rattle.vms_base.specs.Ids.{id_of}
 use Rattle.tm_types.specs.Branches.{branch_of}
 use Rattle.reference_index.specs.Standing.{changes_of}

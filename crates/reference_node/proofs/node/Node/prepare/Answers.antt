@@ -2,8 +2,8 @@ use Rattle.std.proofs.Common.{◌≡◌, ◌∙◌, ◌++◌, ◌∷◌, [], Lis
 use Rattle.std.specs.Prelude.{map}
 use Rattle.std.proofs.lemmas.List.{map-append}
 use Rattle.commit_protocol.specs.Table.{Key, Prepares}
-use Rattle.run_model.specs.World as world
-use Rattle.run_model.specs.World.{tabled}
+use Rattle.world_laws.specs.run_model.World as world
+use Rattle.world_laws.specs.run_model.World.{tabled}
 use Rattle.reference_world.specs.Standing.{branch_key_of}
 use Rattle.reference_disk.specs.Disks.{durable_of}
 use Rattle.reference_node.specs.Nodes.{node_of}

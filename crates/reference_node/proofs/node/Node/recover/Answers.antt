@@ -1,7 +1,7 @@
 use Rattle.std.proofs.Common.{[], refl}
-use Rattle.run_model.specs.Answers as answers
-use Rattle.run_model.specs.Steps.{node_after_rows}
-use Rattle.run_model.specs.World as world
+use Rattle.world_laws.specs.run_model.Answers as answers
+use Rattle.world_laws.specs.run_model.Steps.{node_after_rows}
+use Rattle.world_laws.specs.run_model.World as world
 use Rattle.script_lang.specs.Statements.{recovery_of}
 use Rattle.reference_disk.specs.Disks.{node_on}
 use Rattle.reference_node.specs.Nodes.{node_of}

@@ -2,14 +2,14 @@ use Rattle.std.proofs.Common.{◌≡◌, ℕ, ◌≤◌, ◌+◌, ◌∙◌, ◌
 use Rattle.std.specs.Prelude.{map}
 use Rattle.std.proofs.lemmas.List.{length-map, map-append}
 use Rattle.std.proofs.lemmas.Result.{IfOk-weaker}
-use Rattle.transcript_model.specs.Lines as model
+use Rattle.world_laws.specs.transcript_model.Lines as model
 use Rattle.unit_laws.specs.Journal.{RecoveryUnit}
 use Rattle.commit_protocol.specs.Table.{Branch, Key}
 use Rattle.commit_protocol.specs.World.{undo_all}
-use Rattle.run_model.specs.Answers.{last_lines, left_active, prepared_lines, table_rows, unit_key}
-use Rattle.run_model.specs.Steps.{lines_of_rows, node_after_rows}
-use Rattle.run_model.specs.World as world
-use Rattle.run_model.specs.World.{Boots, ComesUp, acted, prepared_left}
+use Rattle.world_laws.specs.run_model.Answers.{last_lines, left_active, prepared_lines, table_rows, unit_key}
+use Rattle.world_laws.specs.run_model.Steps.{lines_of_rows, node_after_rows}
+use Rattle.world_laws.specs.run_model.World as world
+use Rattle.world_laws.specs.run_model.World.{Boots, ComesUp, acted, prepared_left}
 use Rattle.reference_world.specs.Standing.{branch_key_of, line_of}
 use Rattle.reference_units.specs.Entries.{unit_of, units_of}
 use Rattle.std.specs.Option.{option_map}

@@ -1,6 +1,6 @@
 use Rattle.std.proofs.Common.{◌≡◌, ◌∙◌, ◌∷◌, Some, ap, refl}
 use Rattle.std.specs.Prelude.{map}
-use Rattle.run_model.specs.World as world
+use Rattle.world_laws.specs.run_model.World as world
 use Rattle.reference_world.specs.Standing.{settlement_of}
 use Rattle.reference_node.specs.Nodes.{node_of, released_by}
 use Rattle.reference_node.proofs.DiskLemmas.{node_with}

@@ -1,9 +1,9 @@
 use Rattle.std.proofs.Common.{◌≡◌, ◌∙◌, refl}
 use Rattle.std.proofs.lemmas.Result.{IfOk-weaker}
 use Rattle.std.specs.Option.{option_map}
-use Rattle.run_model.specs.World as world
+use Rattle.world_laws.specs.run_model.World as world
 use Rattle.tm_types.specs.Parts.{log_record_of}
-use Rattle.log_laws.specs.Slots.{settled_in}
+use Rattle.world_laws.specs.log_laws.Slots.{settled_in}
 use Rattle.vms_base.specs.Ids.{id_of}
 use Rattle.reference_disk.specs.Disks.{durable_of}
 use Rattle.reference_node.specs.Nodes.{node_of, settled_by}

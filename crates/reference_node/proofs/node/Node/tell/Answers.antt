@@ -4,7 +4,7 @@ use Rattle.std.proofs.lemmas.Result.{IfOk-weaker}
 use Rattle.commit_protocol.specs.Effects.{effects_of}
 use Rattle.commit_protocol.specs.Rows.{row}
 use Rattle.commit_protocol.specs.Table.{Act, Branch, Key, Tm}
-use Rattle.run_model.specs.World.{tm_of}
+use Rattle.world_laws.specs.run_model.World.{tm_of}
 use Rattle.tm_types.specs.Effects.{effect_of}
 use Rattle.tm_types.specs.Events.{event_of}
 use Rattle.vms_base.specs.Ids.{id_of}

@@ -1,7 +1,7 @@
 use Rattle.std.proofs.Common.{◌≡◌, ◌+◌, ◌-◌, List, ◌∷◌, sym, ap, subst, ◌∙◌, map, length, take, drop, arith}
 use Rattle.std.proofs.lemmas.List.{map-append}
 use Rattle.reference_world.specs.Standing.{line_of}
-use Rattle.reference_node.proofs.TellLemmas.{on_ok}
+use Rattle.reference_tasks.proofs.reference_node.TellLemmas.{on_ok}
 use Rattle.reference_run.specs.Served.{Runs, part_of, world_of}
 use Rattle.reference_run.proofs.PartLemmas.{runs_more}
 use Rattle.reference_run.proofs.RackLemmas.{joined_ok, parted}

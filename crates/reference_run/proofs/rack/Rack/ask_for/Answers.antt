@@ -1,10 +1,10 @@
 use Rattle.std.proofs.Common.{◌+◌, sym, ap, subst, ◌∙◌, map, arith}
 use Rattle.std.specs.Option.{option_map}
 use Rattle.std.proofs.lemmas.Result.{IfOk-weaker}
-use Rattle.run_model.specs.Statements.{Asks}
+use Rattle.world_laws.specs.run_model.Statements.{Asks}
 use Rattle.net_wire.specs.Messages.{message_of}
 use Rattle.reference_world.specs.Standing.{branch_key_of, line_of}
-use Rattle.reference_node.specs.Nodes.{node_of}
+use Rattle.reference_tasks.specs.reference_node.Nodes.{node_of}
 use Rattle.reference_branches.specs.Branches.{shared_of}
 use Rattle.reference_run.specs.Served.{IsHeard, IsPart, answer_there, moved, world_of}
 use Rattle.reference_run.proofs.StatementLemmas.{asks_doubtful, asks_heard_so}

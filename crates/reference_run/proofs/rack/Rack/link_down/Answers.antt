@@ -1,9 +1,9 @@
 use Rattle.std.proofs.Common.{◌+◌, true, false, ap, ◌∙◌, map, arith}
 use Rattle.std.proofs.lemmas.Result.{IfOk-weaker}
-use Rattle.transcript_model.specs.Lines as model
-use Rattle.script_model.specs.Statements as said
-use Rattle.reference_node.specs.Nodes.{node_of}
-use Rattle.reference_node.proofs.TellLemmas.{on_ok}
+use Rattle.world_laws.specs.transcript_model.Lines as model
+use Rattle.script_lang.specs.script_model.Statements as said
+use Rattle.reference_tasks.specs.reference_node.Nodes.{node_of}
+use Rattle.reference_tasks.proofs.reference_node.TellLemmas.{on_ok}
 use Rattle.reference_run.specs.Served.{node_there, world_of}
 use Rattle.reference_run.proofs.StatementLemmas.{ends_shown, is_there, link_first, link_rest, link_second, not_there, refused_shown}
 use Rattle.reference_run.proofs.RackLemmas.{compared}

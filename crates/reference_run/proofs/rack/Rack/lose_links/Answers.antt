@@ -1,11 +1,11 @@
 use Rattle.std.proofs.Common.{◌+◌, [], ◌∷◌, ap, ◌∙◌, map, arith}
 use Rattle.std.proofs.lemmas.List.{map-append}
-use Rattle.transcript_model.specs.Lines as model
-use Rattle.run_model.specs.Answers as answers
-use Rattle.run_model.specs.Answers.{service, task_service}
-use Rattle.run_model.specs.Statements.{where_up}
+use Rattle.world_laws.specs.transcript_model.Lines as model
+use Rattle.world_laws.specs.run_model.Answers as answers
+use Rattle.world_laws.specs.run_model.Answers.{service, task_service}
+use Rattle.world_laws.specs.run_model.Statements.{where_up}
 use Rattle.reference_world.specs.Standing.{line_of}
-use Rattle.reference_node.proofs.TellLemmas.{on_ok}
+use Rattle.reference_tasks.proofs.reference_node.TellLemmas.{on_ok}
 use Rattle.reference_run.specs.Served.{world_of}
 use Rattle.reference_run.proofs.StatementLemmas.{phases_ended, phases_last, phases_more}
 use Rattle.reference_run.proofs.RackLemmas.{joined_ok}

@@ -1,5 +1,5 @@
 use Rattle.std.proofs.Common.{map}
-use Rattle.reference_node.specs.Nodes.{node_of}
+use Rattle.reference_tasks.specs.reference_node.Nodes.{node_of}
 use Rattle.reference_branches.specs.Branches.{shared_of}
 use Rattle.reference_run.specs.Served.{place_of}
 use Rattle.reference_run.proofs.OpeningLemmas.{opening_is, opening_fit}

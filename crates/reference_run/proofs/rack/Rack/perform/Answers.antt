@@ -1,8 +1,8 @@
 use Rattle.std.proofs.Common.{◌+◌, refl, sym, ap, subst, map}
-use Rattle.run_model.specs.Answers.{task_service}
-use Rattle.run_model.specs.Statements.{Does}
+use Rattle.world_laws.specs.run_model.Answers.{task_service}
+use Rattle.world_laws.specs.run_model.Statements.{Does}
 use Rattle.reference_world.specs.Standing.{line_of}
-use Rattle.reference_node.specs.Nodes.{node_of}
+use Rattle.reference_tasks.specs.reference_node.Nodes.{node_of}
 use Rattle.reference_branches.specs.Branches.{shared_of}
 use Rattle.reference_tasks.specs.Tasks.{task_of}
 use Rattle.reference_run.specs.Served.{AllHave, IsDone, IsPart, world_of}

@@ -1,8 +1,8 @@
 use Rattle.std.proofs.Common.{◌+◌, sym, ap, ◌∙◌, map, arith}
 use Rattle.std.proofs.lemmas.Result.{IfOk-weaker}
-use Rattle.run_model.specs.Statements.{Does}
+use Rattle.world_laws.specs.run_model.Statements.{Does}
 use Rattle.reference_world.specs.Standing.{line_of}
-use Rattle.reference_node.specs.Nodes.{node_of}
+use Rattle.reference_tasks.specs.reference_node.Nodes.{node_of}
 use Rattle.reference_tasks.specs.Tasks.{task_of}
 use Rattle.reference_run.specs.Served.{node_up, world_of}
 use Rattle.reference_run.proofs.PartLemmas.{runs_none, runs_one}

@@ -1,13 +1,13 @@
 use Rattle.std.proofs.Common.{◌≡◌, ◌+◌, not, sym, ap, subst, ◌∙◌, map, arith}
 use Rattle.std.proofs.lemmas.Result.{IfOk-weaker}
-use Rattle.transcript_model.specs.Lines as model
-use Rattle.script_model.specs.Statements as said
+use Rattle.world_laws.specs.transcript_model.Lines as model
+use Rattle.script_lang.specs.script_model.Statements as said
 use Rattle.script_lang.specs.Statements.{request_of}
-use Rattle.run_model.specs.Operations.{refused_if}
-use Rattle.run_model.specs.Statements.{other_node}
-use Rattle.reference_node.specs.Nodes.{node_of}
+use Rattle.world_laws.specs.run_model.Operations.{refused_if}
+use Rattle.world_laws.specs.run_model.Statements.{other_node}
+use Rattle.reference_tasks.specs.reference_node.Nodes.{node_of}
 use Rattle.reference_branches.specs.Branches.{shared_of}
-use Rattle.reference_node.proofs.TellLemmas.{on_ok}
+use Rattle.reference_tasks.proofs.reference_node.TellLemmas.{on_ok}
 use Rattle.reference_run.specs.Served.{moved, node_there, world_of}
 use Rattle.reference_run.proofs.StatementLemmas.{at_allowed, at_missing, at_other, is_there, not_there, phases_are, refused_shown, request_shown}
 use Rattle.reference_run.proofs.EarlyLemmas.{set_less}

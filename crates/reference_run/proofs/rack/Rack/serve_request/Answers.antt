@@ -1,10 +1,10 @@
 use Rattle.std.proofs.Common.{◌+◌, refl, sym, ap, subst, map}
 use Rattle.std.specs.Option.{option_map}
 use Rattle.script_lang.specs.Statements.{request_of}
-use Rattle.run_model.specs.Answers as answers
-use Rattle.run_model.specs.Answers.{service, task_service}
-use Rattle.run_model.specs.Statements.{Does}
-use Rattle.reference_node.specs.Nodes.{node_of}
+use Rattle.world_laws.specs.run_model.Answers as answers
+use Rattle.world_laws.specs.run_model.Answers.{service, task_service}
+use Rattle.world_laws.specs.run_model.Statements.{Does}
+use Rattle.reference_tasks.specs.reference_node.Nodes.{node_of}
 use Rattle.reference_branches.specs.Branches.{shared_of}
 use Rattle.reference_run.specs.Served.{AllHave, IsServedAt, ServesPart, world_of}
 use Rattle.reference_run.proofs.PartLemmas.{served}

@@ -1,12 +1,12 @@
 use Rattle.std.proofs.Common.{◌+◌, [], ◌∷◌, refl, ap, subst, ◌∙◌, map, length, arith}
 use Rattle.std.proofs.lemmas.Result.{IfOk-weaker}
 use Rattle.std.proofs.lemmas.List.{map-append, length-map}
-use Rattle.transcript_model.specs.Lines as model
-use Rattle.script_model.specs.Statements as said
-use Rattle.run_model.specs.Statements.{all_questions, begun_with, restarts_of, run_downs_of}
+use Rattle.world_laws.specs.transcript_model.Lines as model
+use Rattle.script_lang.specs.script_model.Statements as said
+use Rattle.world_laws.specs.run_model.Statements.{all_questions, begun_with, restarts_of, run_downs_of}
 use Rattle.reference_world.specs.Standing.{line_of}
-use Rattle.reference_node.specs.Nodes.{node_of}
-use Rattle.reference_node.proofs.TellLemmas.{on_ok}
+use Rattle.reference_tasks.specs.reference_node.Nodes.{node_of}
+use Rattle.reference_tasks.proofs.reference_node.TellLemmas.{on_ok}
 use Rattle.reference_run.specs.Served.{Runs, part_of, world_of}
 use Rattle.reference_run.proofs.CountLemmas.{runs_count}
 use Rattle.reference_run.proofs.StatementLemmas.{ends_shown, phases_more}

@@ -1,9 +1,9 @@
 use Rattle.std.proofs.Common.{◌+◌, [], ◌∷◌, ap, subst, ◌∙◌, map, length, arith}
 use Rattle.std.proofs.lemmas.List.{map-append, length-map}
-use Rattle.run_model.specs.Statements.{all_questions, run_downs_of}
+use Rattle.world_laws.specs.run_model.Statements.{all_questions, run_downs_of}
 use Rattle.reference_world.specs.Standing.{line_of}
-use Rattle.reference_node.specs.Nodes.{node_of}
-use Rattle.reference_node.proofs.TellLemmas.{on_ok}
+use Rattle.reference_tasks.specs.reference_node.Nodes.{node_of}
+use Rattle.reference_tasks.proofs.reference_node.TellLemmas.{on_ok}
 use Rattle.reference_run.specs.Served.{Runs, part_of, world_of}
 use Rattle.reference_run.proofs.CountLemmas.{runs_count}
 use Rattle.reference_run.proofs.StatementLemmas.{phases_last, phases_more}

@@ -1,10 +1,10 @@
 use Rattle.std.proofs.Common.{◌+◌, ap, ◌∙◌, map, arith}
 use Rattle.std.proofs.lemmas.Result.{IfOk-weaker}
-use Rattle.transcript_model.specs.Lines as model
-use Rattle.script_model.specs.Statements as said
+use Rattle.world_laws.specs.transcript_model.Lines as model
+use Rattle.script_lang.specs.script_model.Statements as said
 use Rattle.net_wire.specs.Messages.{message_of}
-use Rattle.reference_node.specs.Nodes.{node_of}
-use Rattle.reference_node.proofs.TellLemmas.{on_ok}
+use Rattle.reference_tasks.specs.reference_node.Nodes.{node_of}
+use Rattle.reference_tasks.proofs.reference_node.TellLemmas.{on_ok}
 use Rattle.reference_run.specs.Served.{node_there, world_of}
 use Rattle.reference_run.proofs.StatementLemmas.{delivered, ends_shown, is_there, message_to, not_there, refused_shown}
 use Rattle.reference_run.proofs.FitLemmas.{fit_less}

@@ -2,7 +2,7 @@ use Rattle.std.proofs.Common.{◌≡◌, ℕ, List, Option, Some, None, IfSome, 
 use Rattle.std.specs.Option.{option_copied}
 use Rattle.file_base.specs.declared.head.FileHead.{FileHead}
 use Rattle.vms_base.specs.Keys.{key_of}
-use Rattle.vms_model.specs.Keys.{Key, Number}
+use Rattle.vms_base.specs.vms_model.Keys.{Key, Number}
 use Rattle.change_set.specs.Maps.{IsNext}
 use Rattle.relative_file.specs.Cells.{map_of, IsLaidOut}
 use Rattle.relative_file.proofs.MapLaws.{next_found}

@@ -4,7 +4,7 @@ use Rattle.rms_units.proofs.Holding.{released_fits}
 use Rattle.std.proofs.Common.{◌≡◌, Option, IsSome, sym, subst}
 use Rattle.unit_table.specs.Units.{OpenUnit}
 use Rattle.rms_units.specs.State.{UnitsState, unit_of}
-use Rattle.unit_cuts.proofs.Outcomes.{the_one}
+use Rattle.key_changes.proofs.unit_cuts.Outcomes.{the_one}
 use Rattle.rms_units.proofs.EndLemmas.{alike_aborted, ends_alike}
 use Rattle.rms_units.proofs.units.Units.abort.Goals as goal
 

@@ -11,7 +11,7 @@ use Rattle.rms_units.specs.State.{UnitsState, unit_of}
 use Rattle.rms_units.proofs.ChangedLemmas.{broken, changed, refused_breaks, refused_caused, refused_goes, refused_grows, refused_pool}
 use Rattle.rms_units.proofs.ImageSound.{ordered_spans, settlements_at}
 use Rattle.rms_units.proofs.OrderLemmas.{placed_in}
-use Rattle.unit_cuts.proofs.Outcomes.{of_some, the_one}
+use Rattle.key_changes.proofs.unit_cuts.Outcomes.{of_some, the_one}
 use Rattle.rms_units.proofs.EndLemmas.{ends_keyed}
 use Rattle.rms_units.proofs.ReadLemmas.{order_held}
 use Rattle.rms_units.proofs.units.Units.change_key.Goals as goal

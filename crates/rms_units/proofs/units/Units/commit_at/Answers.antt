@@ -9,7 +9,7 @@ use Rattle.vms_model.specs.Ids.{Id}
 use Rattle.rms_units.specs.State.{UnitsState, unit_of}
 use Rattle.rms_units.specs.Voting.{CommitsLoggedNot}
 use Rattle.rms_units.proofs.Holding.{released_fits}
-use Rattle.unit_cuts.proofs.Outcomes.{of_some, the_one}
+use Rattle.key_changes.proofs.unit_cuts.Outcomes.{of_some, the_one}
 use Rattle.rms_units.proofs.EndLemmas.{alike_logged, ends_alike}
 use Rattle.rms_units.proofs.units.Units.commit_at.Goals as goal
 

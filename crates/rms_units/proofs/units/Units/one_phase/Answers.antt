@@ -1,6 +1,6 @@
 -- A unit is committed, and what is left stays in order.
 use Rattle.std.proofs.Common.{Result, Ok, Err, OnErr, ◌≡◌, ◌+◌, ◌*◌, ◌≤◌, ℕ, Bool, List, Option, Some, not, IfSome, IsSome, length, ap, sym, subst, ◌∙◌, arith, true, false, ◌^◌, if◌then◌else◌}
-use Rattle.file_settlements.specs.Settling.{SettlesFiles}
+use Rattle.kept_files.specs.file_settlements.Settling.{SettlesFiles}
 use Rattle.image_appends.specs.Settling.{AllHaveRoom}
 use Rattle.kept_files.proofs.Kept.{kept_few}
 use Rattle.unit_journal.specs.Groups.{Breaks}
@@ -15,7 +15,7 @@ use Rattle.vms_base.specs.Ids.{serial_of, tid_of}
 use Rattle.rms_units.specs.Calls.{Commits, CommitsNot}
 use Rattle.rms_units.specs.State.{IsInOrder, UnitsState, unit_of, without_place}
 use Rattle.rms_units.proofs.Holding.{released_fits}
-use Rattle.unit_cuts.proofs.Outcomes.{of_some, the_one}
+use Rattle.key_changes.proofs.unit_cuts.Outcomes.{of_some, the_one}
 use Rattle.rms_units.proofs.SettledLemmas.{commits, commits_not, order_committed, room_to_commit}
 use Rattle.rms_units.proofs.EndLemmas.{alike_settled}
 use Rattle.rms_units.proofs.units.Units.one_phase.Goals as goal

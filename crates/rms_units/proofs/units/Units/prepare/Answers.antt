@@ -5,7 +5,7 @@ use Rattle.rms_units.specs.State.{UnitsState, unit_of}
 use Rattle.rms_units.specs.Voting.{VotesNot}
 use Rattle.rms_units.proofs.Holding.{kept_fits}
 use Rattle.unit_table.specs.Units.{OpenUnit}
-use Rattle.unit_cuts.proofs.Outcomes.{the_one}
+use Rattle.key_changes.proofs.unit_cuts.Outcomes.{the_one}
 use Rattle.rms_units.proofs.EndLemmas.{ends_voted}
 use Rattle.rms_units.proofs.units.Units.prepare.Goals as goal
 

@@ -13,9 +13,9 @@ use Rattle.volume.specs.State.{SameVolume, VolumeState}
 use Rattle.rms_units.specs.Calls.{MayRead, ReadRefused, ReadsErr}
 use Rattle.key_changes.specs.Changing.{keys_refused}
 use Rattle.rms_units.specs.Reading.{Finds}
-use Rattle.unit_cuts.specs.Records.{OfRecords}
+use Rattle.key_changes.specs.unit_cuts.Records.{OfRecords}
 use Rattle.rms_units.specs.State.{UnitsState, unit_of}
-use Rattle.unit_cuts.proofs.Outcomes.{of_some}
+use Rattle.key_changes.proofs.unit_cuts.Outcomes.{of_some}
 use Rattle.rms_units.proofs.ReadLemmas.{hold_refused, read_allowed, order_held}
 use Rattle.record_operations.specs.Asking.{read_file_in}
 use Rattle.volume.specs.Catalogs.{head_at}

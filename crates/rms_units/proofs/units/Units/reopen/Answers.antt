@@ -1,6 +1,6 @@
 -- A restart: the units that it took up are in order with the volume.
 use Rattle.std.proofs.Common.{◌≡◌, ◌+◌, ◌≤◌, ◌^◌, [], refl, sym, subst, arith}
-use Rattle.unit_aborts.proofs.ImageLemmas.{low_less}
+use Rattle.unit_restarts.proofs.unit_aborts.ImageLemmas.{low_less}
 use Rattle.unit_table.specs.Units.{no_units}
 use Rattle.rms_units.specs.State.{IsInOrder, nothing_begun}
 use Rattle.rms_units.proofs.AbortLemmas.{may_abort}

@@ -10,19 +10,19 @@ use Rattle.unit_table.specs.Units.{OpenUnit, has_changed, with_unit}
 use Rattle.volume.specs.State.{SameVolume, VolumeState}
 use Rattle.rms_units.specs.State.{UnitsState, unit_of, ImagesGrow}
 use Rattle.rms_units.specs.Truncating.{ChangesCutErr, CutBroke, CutRefused, cut_refused_before_reading, ChangesCut, cut_asked, with_positions}
-use Rattle.unit_cuts.specs.Truncating.{AllTold, begins_at, entry_sizes, keys_cut}
-use Rattle.unit_cuts.proofs.CutFrames.{told_none}
-use Rattle.unit_cuts.proofs.CutSofar.{leaves_told}
+use Rattle.key_changes.specs.unit_cuts.Truncating.{AllTold, begins_at, entry_sizes, keys_cut}
+use Rattle.key_changes.proofs.unit_cuts.CutFrames.{told_none}
+use Rattle.key_changes.proofs.unit_cuts.CutSofar.{leaves_told}
 use Rattle.rms_units.proofs.ImageSound.{ordered_spans, settlements_at}
 use Rattle.rms_units.proofs.CutReads.{breaks_cut_from, cut_from}
 use Rattle.rms_units.proofs.OrderLemmas.{placed_in}
-use Rattle.unit_cuts.proofs.Outcomes.{of_some, the_one}
+use Rattle.key_changes.proofs.unit_cuts.Outcomes.{of_some, the_one}
 use Rattle.rms_units.proofs.Refusing.{either_way, refused_so}
 use Rattle.image_room.specs.Room.{images_end, images_refused}
 use Rattle.volume.specs.declared.catalog.Catalog.{Catalog}
 use Rattle.rms_units.proofs.ReadLemmas.{order_held}
 use Rattle.change_set.specs.Maps.{empty_map}
-use Rattle.record_files.specs.Any.{map_of}
+use Rattle.volume_files.specs.record_files.Any.{map_of}
 use Rattle.record_locks.specs.Locks.{LockTable, with_locks}
 use Rattle.unit_journal.specs.Room.{journal_refused}
 use Rattle.vms_base.specs.Ids.{serial_of, tid_of}

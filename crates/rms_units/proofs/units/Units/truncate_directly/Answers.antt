@@ -2,17 +2,17 @@
 use Rattle.std.proofs.Common.{◌≡◌, ℕ, ◌+◌, ◌*◌, ◌<◌, ◌≤◌, ◌^◌, Some, None, IfErr, OnOk, refl, sym, ap, subst, ◌∙◌, arith, inl}
 use Rattle.careful_write.specs.State.{content}
 use Rattle.change_set.specs.Maps.{empty_map}
-use Rattle.record_files.specs.Any.{map_of}
+use Rattle.volume_files.specs.record_files.Any.{map_of}
 use Rattle.unit_journal.specs.Groups.{Caused, DiskAdvances, Grows}
 use Rattle.unit_journal.specs.Leaving.{FellIn}
 use Rattle.unit_journal.specs.Settling.{next_moment}
 use Rattle.unit_journal.proofs.Breaking.{fell_old}
 use Rattle.volume.specs.State.{SameVolume, VolumeState}
-use Rattle.unit_cuts.specs.Records.{OfRecords}
-use Rattle.unit_cuts.specs.Truncating.{AllTold, CommitsCut, entry_sizes, keys_cut}
-use Rattle.unit_cuts.specs.Moving.{ImagesFit}
-use Rattle.unit_cuts.proofs.CutFrames.{told_none}
-use Rattle.unit_cuts.proofs.CutSofar.{leaves_told}
+use Rattle.key_changes.specs.unit_cuts.Records.{OfRecords}
+use Rattle.key_changes.specs.unit_cuts.Truncating.{AllTold, CommitsCut, entry_sizes, keys_cut}
+use Rattle.key_changes.specs.unit_cuts.Moving.{ImagesFit}
+use Rattle.key_changes.proofs.unit_cuts.CutFrames.{told_none}
+use Rattle.key_changes.proofs.unit_cuts.CutSofar.{leaves_told}
 use Rattle.rms_units.specs.State.{IsInOrder, UnitsState, ImagesGrow}
 use Rattle.rms_units.specs.Truncating.{DirectCutBroke, DirectCutRefused, DirectsCut, DirectsCutErr, direct_cut_refused_after_reading, direct_cut_refused_before_reading}
 use Rattle.rms_units.proofs.ChangedLemmas.{refused_caused, refused_goes, refused_grows, refused_pool}

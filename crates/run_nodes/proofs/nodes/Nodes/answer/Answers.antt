@@ -1,10 +1,10 @@
 use Rattle.net_wire.specs.Messages.{message_of}
 use Rattle.dtm_node.specs.Asking.{answer_in_place}
-use Rattle.run_model.proofs.NodeLists.{some_is}
+use Rattle.said_steps.proofs.run_model.NodeLists.{some_is}
 use Rattle.std.specs.Prelude.{slice_get, slice_set}
 use Rattle.std.proofs.Common.{◌≡◌, map, Some, sym, ◌∙◌, ap}
 use Rattle.dtm_node.specs.Nodes.{kept_of}
-use Rattle.node_standing.specs.Standing.{NodeState}
+use Rattle.dtm_node.specs.node_standing.Standing.{NodeState}
 use Rattle.run_nodes.proofs.Entries.{kept_in, kept_there, node_at, put_kept, put_names, put_nodes}
 use Rattle.run_nodes.proofs.Places.{set_same}
 use Rattle.run_nodes.proofs.nodes.Nodes.answer.Goals as goal

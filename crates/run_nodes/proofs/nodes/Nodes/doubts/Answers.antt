@@ -1,8 +1,8 @@
 use Rattle.std.proofs.Common.{length, sym, ◌∙◌, ap}
-use Rattle.run_model.proofs.NodeLists.{some_is}
+use Rattle.said_steps.proofs.run_model.NodeLists.{some_is}
 use Rattle.dtm_node.specs.Asking.{in_doubt_in}
 use Rattle.dtm_node.specs.Nodes.{kept_of}
-use Rattle.node_standing.specs.Standing.{NodeState}
+use Rattle.dtm_node.specs.node_standing.Standing.{NodeState}
 use Rattle.run_nodes.proofs.Places.{get_map}
 use Rattle.run_nodes.proofs.nodes.Nodes.doubts.Goals as goal
 

@@ -1,10 +1,10 @@
 use Rattle.std.specs.Prelude.{slice_get, slice_set}
 use Rattle.std.proofs.Common.{◌≡◌, map, Some, sym, ◌∙◌, ap, subst, false}
-use Rattle.script_model.specs.Statements.{Clock}
-use Rattle.run_model.specs.Answers.{Serves}
-use Rattle.node_standing.specs.Keeping.{PerformsTask}
+use Rattle.script_lang.specs.script_model.Statements.{Clock}
+use Rattle.said_steps.specs.run_model.Answers.{Serves}
+use Rattle.dtm_node.specs.node_standing.Keeping.{PerformsTask}
 use Rattle.dtm_node.specs.Nodes.{kept_of}
-use Rattle.node_standing.specs.Standing.{NodeState}
+use Rattle.dtm_node.specs.node_standing.Standing.{NodeState}
 use Rattle.run_nodes.proofs.Entries.{kept_in, kept_there, node_at, put_kept, put_names, put_nodes}
 use Rattle.run_nodes.proofs.nodes.Nodes.set_clock.Goals as goal
 

@@ -1,6 +1,6 @@
 use Rattle.std.proofs.Common.{◌≡◌, ℕ, List, true, Some, IfOk, IfSome, sym, ap, subst}
-use Rattle.vms_base.specs.Keys.{key_of}
-use Rattle.vms_model.specs.Keys.{Key}
+use Rattle.file_base.specs.vms_base.Keys.{key_of}
+use Rattle.file_base.specs.vms_model.Keys.{Key}
 use Rattle.seq_file.specs.Layout.{map_of, IsLaidOut}
 use Rattle.seq_file.proofs.sequential.SeqFileRecordFile.find.Goals as goal
 

@@ -1,5 +1,5 @@
 use Rattle.std.specs.Option.{option_copied}
-use Rattle.vms_base.specs.Keys.{key_of}
+use Rattle.file_base.specs.vms_base.Keys.{key_of}
 use Rattle.change_set.proofs.NoLayout.{none_back}
 use Rattle.seq_file.proofs.WalkLaws.{front_counts}
 use Rattle.seq_file.specs.Layout.{IsLaidOut, Takes}

@@ -1,6 +1,6 @@
 use Rattle.std.proofs.Common.{List, map, refl}
 use Rattle.vms_base.specs.Ids.{serial_of}
-use Rattle.vms_model.specs.Ids.{Id}
+use Rattle.vms_base.specs.vms_model.Ids.{Id}
 use Rattle.tm_types.specs.Parts.{child_of}
 use Rattle.tm_types.specs.declared.lists.Child.{Child}
 use Rattle.commit_protocol.specs.Rows.{serials}

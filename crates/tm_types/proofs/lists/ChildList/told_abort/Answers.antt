@@ -1,6 +1,6 @@
 use Rattle.std.proofs.Common.{◌≡◌, List, map, ap, refl, sym, ◌∙◌, true, false, not}
 use Rattle.vms_base.specs.Ids.{serial_of}
-use Rattle.vms_model.specs.Ids.{Id}
+use Rattle.vms_base.specs.vms_model.Ids.{Id}
 use Rattle.tm_types.specs.Parts.{child_of, is_read_only}
 use Rattle.tm_types.specs.declared.lists.Child.{Child}
 use Rattle.tm_types.proofs.ListLemmas.{hearing, to_each_hearing, all_turned}

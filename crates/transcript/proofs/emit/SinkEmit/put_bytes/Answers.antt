@@ -1,5 +1,5 @@
 use Rattle.std.proofs.Common.{sym, ◌∙◌}
-use Rattle.transcript_model.proofs.LineLemmas.{plain_text, hex_text}
+use Rattle.emitter_model.proofs.transcript_model.LineLemmas.{plain_text, hex_text}
 use Rattle.transcript.proofs.BufferedLemmas.{appends2, appends3}
 use Rattle.transcript.proofs.emit.SinkEmit.put_bytes.Goals as goal
 

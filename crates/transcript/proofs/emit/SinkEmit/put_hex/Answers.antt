@@ -1,6 +1,6 @@
 use Rattle.std.proofs.Common.{refl, ◌∙◌}
 use Rattle.vms_model.specs.Texts.{hex_byte}
-use Rattle.transcript_model.proofs.LineLemmas.{flat_map_more}
+use Rattle.emitter_model.proofs.transcript_model.LineLemmas.{flat_map_more}
 use Rattle.transcript.proofs.BufferedLemmas.{appends2, appends_none}
 use Rattle.transcript.proofs.emit.SinkEmit.put_hex.Goals as goal
 

@@ -1,5 +1,5 @@
 use Rattle.std.proofs.Common.{ℕ, List, ◌∷◌, ◌++◌, refl, ap, sym, ◌∙◌, take, flat_map}
-use Rattle.transcript_model.proofs.LineLemmas.{flat_map_more}
+use Rattle.emitter_model.proofs.transcript_model.LineLemmas.{flat_map_more}
 use Rattle.transcript.proofs.BufferedLemmas.{appends3, appends_none}
 use Rattle.transcript.proofs.emit.SinkEmit.put_managers_behind.Goals as goal
 

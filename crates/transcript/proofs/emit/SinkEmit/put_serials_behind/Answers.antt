@@ -2,7 +2,7 @@ use Rattle.std.proofs.Common.{ℕ, List, ◌∷◌, ◌++◌, refl, ap, sym, ◌
 use Rattle.vms_model.specs.Texts.{id_text}
 use Rattle.vms_base.specs.Ids.{serial_of}
 use Rattle.vms_base.specs.declared.ids.Serial.{Serial}
-use Rattle.transcript_model.proofs.LineLemmas.{flat_map_more}
+use Rattle.emitter_model.proofs.transcript_model.LineLemmas.{flat_map_more}
 use Rattle.transcript.proofs.BufferedLemmas.{appends3, appends_none}
 use Rattle.transcript.proofs.emit.SinkEmit.put_serials_behind.Goals as goal
 

@@ -1,6 +1,6 @@
 use Rattle.std.proofs.Common.{refl, ◌∙◌}
 use Rattle.emitter_model.proofs.EmittingLemmas.{since_puts}
-use Rattle.transcript_model.proofs.LineLemmas.{one_line}
+use Rattle.emitter_model.proofs.transcript_model.LineLemmas.{one_line}
 use Rattle.transcript.proofs.BufferedLemmas.{appends4, puts_through}
 use Rattle.transcript.specs.Forms.{line_of}
 use Rattle.transcript.proofs.emit.SinkEmitEmit.emit.Goals as goal

@@ -1,5 +1,5 @@
 use Rattle.std.proofs.Common.{◌≡◌, ◌≤◌, ◌-◌, ◌+◌, ◌++◌}
-use Rattle.transcript_model.specs.Outside.{ahead}
+use Rattle.emitter_model.specs.transcript_model.Outside.{ahead}
 use Rattle.transcript.specs.Reading.{IsSound, begun_line, pending}
 use Rattle.transcript.proofs.lines.LineReader.next.Given as goal
 

@@ -1,0 +1,1 @@
+pub use Rattle.block_disk.proofs.Laid

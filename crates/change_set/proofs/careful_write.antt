@@ -1,0 +1,1 @@
+pub use Rattle.careful_write.proofs.Reading

@@ -1,0 +1,1 @@
+pub use Rattle.run_nodes.proofs.dtm_node.DiskLemmas

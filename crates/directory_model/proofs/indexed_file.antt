@@ -1,0 +1,2 @@
+pub use Rattle.file_images.proofs.indexed_file.FileLaws
+pub use Rattle.file_images.proofs.indexed_file.SetLaws

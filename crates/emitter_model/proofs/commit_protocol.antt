@@ -1,0 +1,5 @@
+pub use Rattle.transcript_model.proofs.commit_protocol.Lasting
+pub use Rattle.transcript_model.proofs.commit_protocol.Lists
+pub use Rattle.transcript_model.proofs.commit_protocol.Serials
+pub use Rattle.transcript_model.proofs.commit_protocol.Within
+pub use Rattle.transcript_model.proofs.commit_protocol.WithinRows

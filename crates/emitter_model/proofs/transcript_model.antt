@@ -1,0 +1,3 @@
+pub use Rattle.transcript_model.proofs.LineLemmas
+pub use Rattle.transcript_model.proofs.OutsideLemmas
+pub use Rattle.transcript_model.proofs.ScriptLemmas

@@ -1,0 +1,1 @@
+pub use Rattle.image_appends.proofs.Growing

@@ -1,0 +1,1 @@
+pub use Rattle.file_images.proofs.Forms

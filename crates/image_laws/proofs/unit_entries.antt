@@ -1,0 +1,1 @@
+pub use Rattle.image_entries.proofs.unit_entries.StoreLemmas

@@ -1,0 +1,1 @@
+pub use Rattle.index_bucket.proofs.HandLaws

@@ -1,0 +1,3 @@
+pub use Rattle.index_model.proofs.DescentLemmas
+pub use Rattle.index_model.proofs.HandLemmas
+pub use Rattle.index_model.proofs.TreeLemmas

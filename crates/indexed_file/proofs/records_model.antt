@@ -1,0 +1,1 @@
+pub use Rattle.change_set.proofs.records_model.SlotLaws

@@ -1,0 +1,3 @@
+pub use Rattle.indexed_file.proofs.FileLaws
+pub use Rattle.indexed_file.proofs.GrownLaws
+pub use Rattle.indexed_file.proofs.SetLaws

@@ -1,0 +1,1 @@
+pub use Rattle.relative_file.proofs.MakeLaws

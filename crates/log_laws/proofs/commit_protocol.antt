@@ -1,0 +1,2 @@
+pub use Rattle.commit_protocol.proofs.Lists
+pub use Rattle.commit_protocol.proofs.Serials

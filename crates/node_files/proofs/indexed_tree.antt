@@ -1,0 +1,1 @@
+pub use Rattle.record_files.proofs.indexed_tree.RootLaws

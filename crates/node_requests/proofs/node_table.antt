@@ -1,0 +1,1 @@
+pub use Rattle.node_table.proofs.Doubting

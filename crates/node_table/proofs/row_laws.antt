@@ -1,0 +1,1 @@
+pub use Rattle.row_laws.proofs.Composing

@@ -1,0 +1,1 @@
+pub use Rattle.indexed_tree.proofs.index_blocks.LevelLaws

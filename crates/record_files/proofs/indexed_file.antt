@@ -1,0 +1,3 @@
+pub use Rattle.indexed_tree.proofs.indexed_file.FileLaws
+pub use Rattle.indexed_tree.proofs.indexed_file.GrownLaws
+pub use Rattle.indexed_tree.proofs.indexed_file.SetLaws

@@ -1,0 +1,3 @@
+pub use Rattle.relative_file.proofs.CellLaws
+pub use Rattle.relative_file.proofs.Places
+pub use Rattle.relative_file.proofs.ReadLaws

@@ -1,0 +1,10 @@
+pub use Rattle.unit_laws.proofs.CurrentLemmas
+pub use Rattle.unit_laws.proofs.EndLemmas
+pub use Rattle.unit_laws.proofs.HistoryLaws
+pub use Rattle.unit_laws.proofs.LiveLemmas
+pub use Rattle.unit_laws.proofs.NoteLemmas
+pub use Rattle.unit_laws.proofs.RepresentLemmas
+pub use Rattle.unit_laws.proofs.RestoredLemmas
+pub use Rattle.unit_laws.proofs.Tests
+pub use Rattle.unit_laws.proofs.TrimLemmas
+pub use Rattle.unit_laws.proofs.UnitLemmas

@@ -1,0 +1,3 @@
+pub use Rattle.run_chains.proofs.Anew
+pub use Rattle.run_chains.proofs.Names
+pub use Rattle.run_chains.proofs.Next

@@ -1,0 +1,1 @@
+pub use Rattle.volume_model.proofs.lmcp_log.SlotLemmas

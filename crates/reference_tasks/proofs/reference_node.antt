@@ -1,0 +1,1 @@
+pub use Rattle.reference_node.proofs.TellLemmas

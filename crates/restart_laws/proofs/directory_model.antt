@@ -1,0 +1,13 @@
+pub use Rattle.directory_model.proofs.Acts
+pub use Rattle.directory_model.proofs.Apart
+pub use Rattle.directory_model.proofs.Entering
+pub use Rattle.directory_model.proofs.Finding
+pub use Rattle.directory_model.proofs.Heads
+pub use Rattle.directory_model.proofs.Moving
+pub use Rattle.directory_model.proofs.Places
+pub use Rattle.directory_model.proofs.Reading
+pub use Rattle.directory_model.proofs.ReadingEntries
+pub use Rattle.directory_model.proofs.ReadingFiles
+pub use Rattle.directory_model.proofs.ReadingLists
+pub use Rattle.directory_model.proofs.Runs
+pub use Rattle.directory_model.proofs.Standing

@@ -1,0 +1,1 @@
+pub use Rattle.unit_entries.proofs.seq_file.RecordLaws

@@ -1,0 +1,2 @@
+pub use Rattle.unit_journal.proofs.EntryLemmas
+pub use Rattle.unit_journal.proofs.Falling

@@ -1,0 +1,1 @@
+pub use Rattle.image_laws.proofs.file_images.Forms

@@ -1,0 +1,11 @@
+pub use Rattle.run_agreement.proofs.Barred
+pub use Rattle.run_agreement.proofs.Bases
+pub use Rattle.run_agreement.proofs.Begun
+pub use Rattle.run_agreement.proofs.Booting
+pub use Rattle.run_agreement.proofs.Events
+pub use Rattle.run_agreement.proofs.Found
+pub use Rattle.run_agreement.proofs.Images
+pub use Rattle.run_agreement.proofs.Openings
+pub use Rattle.run_agreement.proofs.Resting
+pub use Rattle.run_agreement.proofs.Serving
+pub use Rattle.run_agreement.proofs.Tasks

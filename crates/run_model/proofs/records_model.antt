@@ -1,0 +1,2 @@
+pub use Rattle.recovery_model.proofs.records_model.KeyLemmas
+pub use Rattle.recovery_model.proofs.records_model.RecordsLemmas

@@ -1,0 +1,10 @@
+pub use Rattle.recovery_model.proofs.unit_laws.CurrentLemmas
+pub use Rattle.recovery_model.proofs.unit_laws.EndLemmas
+pub use Rattle.recovery_model.proofs.unit_laws.HistoryLaws
+pub use Rattle.recovery_model.proofs.unit_laws.LiveLemmas
+pub use Rattle.recovery_model.proofs.unit_laws.NoteLemmas
+pub use Rattle.recovery_model.proofs.unit_laws.RepresentLemmas
+pub use Rattle.recovery_model.proofs.unit_laws.RestoredLemmas
+pub use Rattle.recovery_model.proofs.unit_laws.Tests
+pub use Rattle.recovery_model.proofs.unit_laws.TrimLemmas
+pub use Rattle.recovery_model.proofs.unit_laws.UnitLemmas

@@ -1,0 +1,1 @@
+pub use Rattle.dtm_node.proofs.DiskLemmas

@@ -1,0 +1,2 @@
+pub use Rattle.statement_steps.proofs.Keeping
+pub use Rattle.statement_steps.proofs.Stepping

@@ -1,0 +1,1 @@
+pub use Rattle.run_model.proofs.log_laws.Reading

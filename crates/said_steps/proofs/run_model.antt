@@ -1,0 +1,1 @@
+pub use Rattle.run_said.proofs.run_model.NodeLists

@@ -1,0 +1,2 @@
+pub use Rattle.record_files.proofs.indexed_file.FileLaws
+pub use Rattle.record_files.proofs.indexed_file.SetLaws

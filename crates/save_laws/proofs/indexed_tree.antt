@@ -1,0 +1,2 @@
+pub use Rattle.record_files.proofs.indexed_tree.RootLaws
+pub use Rattle.record_files.proofs.indexed_tree.StayLaws

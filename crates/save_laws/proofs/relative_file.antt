@@ -1,0 +1,2 @@
+pub use Rattle.record_files.proofs.relative_file.Places
+pub use Rattle.record_files.proofs.relative_file.ReadLaws

@@ -1,0 +1,3 @@
+pub use Rattle.change_set.proofs.Changes
+pub use Rattle.change_set.proofs.Extents
+pub use Rattle.change_set.proofs.NumberKeys

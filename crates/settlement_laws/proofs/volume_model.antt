@@ -1,0 +1,1 @@
+pub use Rattle.volume_laws.proofs.volume_model.EntryLemmas

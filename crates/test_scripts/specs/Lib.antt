@@ -1,0 +1,1 @@
+pub use Rattle.dtm_run.specs as dtm_run

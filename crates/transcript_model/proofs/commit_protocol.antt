@@ -1,0 +1,10 @@
+pub use Rattle.commit_protocol.proofs.Acting
+pub use Rattle.commit_protocol.proofs.Gathered
+pub use Rattle.commit_protocol.proofs.Lasting
+pub use Rattle.commit_protocol.proofs.Lists
+pub use Rattle.commit_protocol.proofs.Opened
+pub use Rattle.commit_protocol.proofs.Running
+pub use Rattle.commit_protocol.proofs.Serials
+pub use Rattle.commit_protocol.proofs.StandingRows
+pub use Rattle.commit_protocol.proofs.Within
+pub use Rattle.commit_protocol.proofs.WithinRows

@@ -1,0 +1,1 @@
+pub use Rattle.settlement_laws.proofs.MadeLemmas

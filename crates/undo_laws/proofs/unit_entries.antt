@@ -1,0 +1,2 @@
+pub use Rattle.unit_undo.proofs.unit_entries.KeyLemmas
+pub use Rattle.unit_undo.proofs.unit_entries.OpenLemmas

@@ -1,0 +1,2 @@
+pub use Rattle.journal_store.proofs.EntriesAt
+pub use Rattle.journal_store.proofs.Journals

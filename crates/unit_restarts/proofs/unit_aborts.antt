@@ -1,0 +1,1 @@
+pub use Rattle.unit_aborts.proofs.ImageLemmas

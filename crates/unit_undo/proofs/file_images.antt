@@ -1,0 +1,1 @@
+pub use Rattle.directory_model.proofs.file_images.Rings

@@ -1,0 +1,12 @@
+pub use Rattle.volume_laws.proofs.directory_model.Acts
+pub use Rattle.volume_laws.proofs.directory_model.Apart
+pub use Rattle.volume_laws.proofs.directory_model.Entering
+pub use Rattle.volume_laws.proofs.directory_model.Finding
+pub use Rattle.volume_laws.proofs.directory_model.Heads
+pub use Rattle.volume_laws.proofs.directory_model.Moving
+pub use Rattle.volume_laws.proofs.directory_model.Places
+pub use Rattle.volume_laws.proofs.directory_model.Reading
+pub use Rattle.volume_laws.proofs.directory_model.ReadingFiles
+pub use Rattle.volume_laws.proofs.directory_model.ReadingLists
+pub use Rattle.volume_laws.proofs.directory_model.Runs
+pub use Rattle.volume_laws.proofs.directory_model.Standing

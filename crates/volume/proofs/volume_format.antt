@@ -1,0 +1,2 @@
+pub use Rattle.volume_format.proofs.Names
+pub use Rattle.volume_format.proofs.Splices

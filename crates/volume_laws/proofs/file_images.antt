@@ -1,0 +1,4 @@
+pub use Rattle.restart_laws.proofs.file_images.Forms
+pub use Rattle.restart_laws.proofs.file_images.Rings
+pub use Rattle.restart_laws.proofs.file_images.Sides
+pub use Rattle.restart_laws.proofs.file_images.Sizes

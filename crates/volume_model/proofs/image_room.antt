@@ -1,0 +1,3 @@
+pub use Rattle.image_room.proofs.Keeping
+pub use Rattle.image_room.proofs.Model
+pub use Rattle.image_room.proofs.Rings

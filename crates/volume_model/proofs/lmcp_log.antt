@@ -1,0 +1,3 @@
+pub use Rattle.lmcp_log.proofs.Keepings
+pub use Rattle.lmcp_log.proofs.SlotLemmas
+pub use Rattle.lmcp_log.proofs.Whole

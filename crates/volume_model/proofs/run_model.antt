@@ -1,0 +1,1 @@
+pub use Rattle.world_laws.proofs.run_model.NodeLists

@@ -1,0 +1,11 @@
+pub use Rattle.run_model.proofs.CauseLemmas
+pub use Rattle.run_model.proofs.EntryLemmas
+pub use Rattle.run_model.proofs.Failing
+pub use Rattle.run_model.proofs.Lifting
+pub use Rattle.run_model.proofs.NodeLists
+pub use Rattle.run_model.proofs.PartLemmas
+pub use Rattle.run_model.proofs.PartTasks
+pub use Rattle.run_model.proofs.Refusing
+pub use Rattle.run_model.proofs.ReplyLemmas
+pub use Rattle.run_model.proofs.RowLemmas
+pub use Rattle.run_model.proofs.TaskLemmas
