@@ -3,7 +3,7 @@ use Rattle.std.proofs.Common.{◌≡◌, ℕ, refl}
 use Rattle.std.specs.Borrow.{Bor}
 use Rattle.vms_base.specs.declared.ids.Tid.{Tid}
 use Rattle.vms_base.specs.declared.ids.Serial.{Serial}
-use Rattle.vms_base.specs.declared.times.Moment.{Moment}
+use Rattle.vms_base.specs.declared.moments.Moment.{Moment}
 use Rattle.net_wire.specs.declared.wire.Message.{Message}
 use Rattle.emitter_model.specs.Tally.{commits_in, sent_behind}
 use Rattle.transcript.specs.Forms.{line_of}

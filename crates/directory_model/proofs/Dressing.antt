@@ -4,7 +4,7 @@ use Rattle.std.specs.FinMap.{get}
 use Rattle.extents.specs.file_base.declared.head.FileHead.{FileHead}
 use Rattle.extents.specs.file_base.declared.head.Save.{Save}
 use Rattle.extents.specs.file_base.declared.head.Span.{Span}
-use Rattle.extents.specs.vms_base.declared.times.Moment.{Moment}
+use Rattle.extents.specs.vms_base.declared.moments.Moment.{Moment}
 use Rattle.file_images.specs.Files.{HasSave, form_of}
 use Rattle.file_images.proofs.Sides.{saves_follow, sides_follow}
 use Rattle.file_images.specs.journal_model.Ring.{HasRing}

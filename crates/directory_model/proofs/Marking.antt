@@ -7,7 +7,7 @@ use Rattle.extents.specs.file_base.declared.head.Organization.{Organization as K
 use Rattle.extents.specs.file_base.declared.head.Organization.TheVariants.{Sequential, Relative, Indexed}
 use Rattle.extents.specs.file_base.declared.head.Save.{Save}
 use Rattle.extents.specs.file_base.declared.head.Span.{Span}
-use Rattle.extents.specs.vms_base.declared.times.Moment.{Moment}
+use Rattle.extents.specs.vms_base.declared.moments.Moment.{Moment}
 use Rattle.file_images.specs.bucket_page.Pages.{slots_of, no_next}
 use Rattle.records_model.specs.Slots.{Slot, lookup}
 use Rattle.records_model.specs.vms_model.Keys.{Key, Number, Text, End}

@@ -12,7 +12,7 @@ use Rattle.extents.specs.file_base.declared.head.FileHead.{FileHead}
 use Rattle.extents.specs.file_base.declared.head.Organization.TheVariants.{Sequential, Indexed}
 use Rattle.extents.specs.file_base.declared.head.Save.{Save}
 use Rattle.extents.specs.file_base.declared.head.Span.{Span}
-use Rattle.extents.specs.vms_base.declared.times.Moment.{Moment}
+use Rattle.extents.specs.vms_base.declared.moments.Moment.{Moment}
 use Rattle.file_images.specs.Files.{SameRing, form_of}
 use Rattle.file_images.specs.Images.{IsOf, IsSuited, entry_by}
 use Rattle.file_images.specs.journal_model.Entries.{IsEntry, spelling}

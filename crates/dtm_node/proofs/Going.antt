@@ -3,7 +3,7 @@ use Rattle.std.proofs.Common.{◌≡◌, ◌+◌, ℕ, refl}
 use Rattle.block_disk.specs.Disk.{DiskState}
 use Rattle.recovery_units.specs.State.{UnitsState}
 use Rattle.run_shared.specs.Sharing.{SharedState}
-use Rattle.vms_base.specs.declared.times.Moment.{Moment}
+use Rattle.vms_base.specs.declared.moments.Moment.{Moment}
 use Rattle.dtm_node.specs.declared.node.Node.{Node}
 use Rattle.dtm_node.specs.Going.{KeepsNode}
 use Rattle.dtm_node.proofs.NodeRequests.{node_more}

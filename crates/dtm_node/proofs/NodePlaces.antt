@@ -6,7 +6,7 @@ use Rattle.run_shared.specs.Sharing.{SharedState}
 use Rattle.node_requests.specs.node_table.Code.{up_of}
 use Rattle.node_requests.specs.node_table.Standing.{IsUp, Up}
 use Rattle.node_requests.specs.node_table.declared.running.Running.{Running}
-use Rattle.vms_base.specs.declared.times.Moment.{Moment}
+use Rattle.vms_base.specs.declared.moments.Moment.{Moment}
 use Rattle.dtm_node.specs.declared.node.Node.{Node}
 use Rattle.dtm_node.specs.declared.node.Place as code
 use Rattle.dtm_node.specs.declared.node.Place.TheVariants as code_place

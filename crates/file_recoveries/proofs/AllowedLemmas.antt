@@ -4,7 +4,7 @@ use Rattle.std.specs.Prelude.{not, nat_lt}
 use Rattle.std.proofs.lemmas.Bool.Decides.{nat_tests}
 use Rattle.file_base.specs.declared.head.FileHead.{FileHead}
 use Rattle.vms_base.specs.declared.ids.Serial.{Serial}
-use Rattle.vms_base.specs.declared.times.Moment.{Moment}
+use Rattle.vms_base.specs.declared.moments.Moment.{Moment}
 use Rattle.file_recoveries.specs.Causes as said
 use Rattle.file_recoveries.specs.Causes.{backward_cause, cause_of, first_cause, forward_cause}
 use Rattle.file_recoveries.specs.declared.causes.Way.{Way}

@@ -3,7 +3,7 @@ use Rattle.std.proofs.Common.{◌≡◌, ℕ, Bool, true, false, List, Option, S
 use Rattle.std.specs.Prelude.{not, nat_lt, option_map}
 use Rattle.file_base.specs.declared.head.FileHead.{FileHead}
 use Rattle.vms_base.specs.declared.ids.Serial.{Serial}
-use Rattle.vms_base.specs.declared.times.Moment.{Moment}
+use Rattle.vms_base.specs.declared.moments.Moment.{Moment}
 use Rattle.vms_base.specs.Ids.{serial_of}
 use Rattle.vms_model.specs.Ids.{Id}
 use Rattle.image_entries.specs.recovery_model.File.{ImageJournal, Save, FileState}

@@ -15,7 +15,7 @@ use Rattle.records_model.proofs.KeyLemmas.{key_cmp-IsAntisymmetric, key_cmp_tota
 use Rattle.image_entries.specs.recovery_model.File.{FileState, Placed, Save, all_of, since}
 use Rattle.image_entries.specs.recovery_model.Journal.{Changed, Entry, Settled, backward, beyond, chosen, forward}
 use Rattle.image_entries.specs.recovery_model.Recovery.{rolled, rolled_on}
-use Rattle.vms_base.specs.declared.times.Moment.{Moment}
+use Rattle.vms_base.specs.declared.moments.Moment.{Moment}
 use Rattle.rolled_records.specs.file_images.Files.{HasSave, form_of}
 use Rattle.rolled_records.specs.file_images.Images.{AreSuited}
 use Rattle.rolled_records.proofs.file_images.Forms.{suited_by_head}

@@ -1,7 +1,7 @@
 -- What refuses a recovery by the head of its file and the unit that is told alone.
 use Rattle.std.specs.Prelude.{ℕ, Bool, true, false, not, Option, Some, None, if◌then◌else◌, nat_lt, option_map}
 use Rattle.file_base.specs.declared.head.FileHead.{FileHead}
-use Rattle.vms_base.specs.declared.times.Moment.{Moment}
+use Rattle.vms_base.specs.declared.moments.Moment.{Moment}
 use Rattle.vms_base.specs.declared.ids.Serial.{Serial}
 use Rattle.vms_base.specs.Ids.{serial_of}
 use Rattle.image_entries.specs.recovery_model.Recovery as model

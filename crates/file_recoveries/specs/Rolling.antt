@@ -9,7 +9,7 @@ use Rattle.records_model.specs.History.{current}
 use Rattle.image_entries.specs.recovery_model.File.{FileState}
 use Rattle.image_entries.specs.recovery_model.Recovery.{rolled}
 use Rattle.rolled_records.specs.save_laws.Saves.{save_head}
-use Rattle.vms_base.specs.declared.times.Moment.{Moment}
+use Rattle.vms_base.specs.declared.moments.Moment.{Moment}
 use Rattle.file_recoveries.specs.Causes.{way_of}
 use Rattle.file_recoveries.specs.Files.{HasFile}
 use Rattle.file_recoveries.specs.declared.causes.Way.{Way}

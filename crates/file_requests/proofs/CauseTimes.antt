@@ -11,7 +11,7 @@ use Rattle.recovered_nodes.specs.recover_rms.Calls.{NotRecovered}
 use Rattle.script_lang.specs.script_model.Statements.{Recovery, Forward, Backward}
 use Rattle.file_images.specs.run_model.Answers.{way_of}
 use Rattle.vms_base.specs.declared.ids.Serial.{Serial}
-use Rattle.vms_base.specs.declared.times.Moment.{Moment}
+use Rattle.vms_base.specs.declared.moments.Moment.{Moment}
 use Rattle.vms_model.specs.Times.{CanBeWritten}
 use Rattle.volume.specs.Limits.{EntryFits, FileFits, SaveFits}
 use Rattle.volume.specs.State.{VolumeState}

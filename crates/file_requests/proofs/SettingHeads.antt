@@ -11,7 +11,7 @@ use Rattle.file_base.specs.declared.head.Organization.{Organization}
 use Rattle.file_base.specs.declared.head.Organization.TheVariants.{Sequential, Relative, Indexed}
 use Rattle.file_base.specs.declared.head.Save.{Save}
 use Rattle.file_base.specs.declared.head.Span.{Span}
-use Rattle.vms_base.specs.declared.times.Moment.{Moment}
+use Rattle.vms_base.specs.declared.moments.Moment.{Moment}
 use Rattle.vms_model.specs.Ids.{Id}
 use Rattle.volume.specs.declared.catalog.Catalog.{Catalog}
 use Rattle.volume.specs.declared.limits.Buckets.{Buckets}

@@ -15,7 +15,7 @@ use Rattle.extents.specs.Extents.{IsFreeRun, all_extents}
 use Rattle.file_base.specs.declared.head.FileHead.{FileHead}
 use Rattle.file_base.specs.declared.head.Save.{Save}
 use Rattle.file_base.specs.declared.head.Span.{Span}
-use Rattle.vms_base.specs.declared.times.Moment.{Moment}
+use Rattle.vms_base.specs.declared.moments.Moment.{Moment}
 use Rattle.volume.specs.declared.catalog.Catalog.{Catalog}
 use Rattle.volume.specs.Limits.{data_area}
 use Rattle.volume.specs.volume_format.Home.{sizes_of}

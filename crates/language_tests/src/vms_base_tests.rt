@@ -1,5 +1,6 @@
 // Values from outside: the worked moments and ids, and the edges of the forms.
 use vms_base::*;
+use vms_times::*;
 
 #[test]
 fn moments_are_read_and_shown(rt: HostRuntime) {

@@ -3,7 +3,7 @@ use Rattle.std.proofs.Common.{◌≡◌, ℕ, Bool, true, false, Option, Some, N
 use Rattle.std.specs.Prelude.{not, nat_lt}
 use Rattle.file_base.specs.declared.head.FileHead.{FileHead}
 use Rattle.vms_base.specs.declared.ids.Serial.{Serial}
-use Rattle.vms_base.specs.declared.times.Moment.{Moment}
+use Rattle.vms_base.specs.declared.moments.Moment.{Moment}
 use Rattle.volume.specs.State.{VolumeState}
 use Rattle.file_recoveries.specs.Causes.{cause_of, early_cause, first_cause, in_use, save_cause, since_cause}
 use Rattle.file_recoveries.specs.declared.causes.Way.{Way}

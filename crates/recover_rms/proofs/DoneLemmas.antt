@@ -14,7 +14,7 @@ use Rattle.file_loads.specs.Failing.{FellIn, Wrote}
 use Rattle.load_pages.specs.load_laws.Loads.{AreLoadable, IsLoaded, loaded_head}
 use Rattle.load_pages.specs.load_laws.Records.{Keyed}
 use Rattle.record_files.specs.Any.{IsFile}
-use Rattle.vms_base.specs.declared.times.Moment.{Moment}
+use Rattle.vms_base.specs.declared.moments.Moment.{Moment}
 use Rattle.volume.specs.declared.catalog.Catalog.{Catalog}
 use Rattle.volume.specs.Catalogs.{IsSound, StandsOnTheFront, TellsCatalog, head_at}
 use Rattle.volume.specs.State.{Holds, VolumeState}

@@ -14,7 +14,7 @@ use Rattle.record_files.specs.indexed_file.Chain as leaf
 use Rattle.load_pages.specs.load_laws.Loads.{AllSuitBy, AreLoadable, HeadBy, head_by, buckets_by, loaded_buckets, loaded_head}
 use Rattle.load_pages.specs.load_laws.Records.{Keyed}
 use Rattle.record_files.specs.relative_file.Cells as relative
-use Rattle.vms_base.specs.declared.times.Moment.{Moment}
+use Rattle.vms_base.specs.declared.moments.Moment.{Moment}
 use Rattle.vms_model.specs.Keys.{Key, Number, Text, End}
 use Rattle.volume.specs.declared.catalog.Catalog.{Catalog}
 use Rattle.volume.specs.Catalogs.{IsSound}

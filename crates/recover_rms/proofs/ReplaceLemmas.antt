@@ -14,7 +14,7 @@ use Rattle.record_files.specs.Any.{IsFile, IsLaidOut, layout_of, map_of}
 use Rattle.record_files.specs.Local.{layout_local_law, local_law, valid_local_law}
 use Rattle.volume.specs.declared.catalog.Catalog.{Catalog}
 use Rattle.volume.specs.Catalogs.{StandsOnTheFront, TellsCatalog}
-use Rattle.vms_base.specs.declared.times.Moment.{Moment}
+use Rattle.vms_base.specs.declared.moments.Moment.{Moment}
 use Rattle.file_recoveries.specs.Heads.{with_new_journals}
 use Rattle.recover_rms.specs.Replacing.{IsHeadWith, IsOldOrNew, IsRun, ReplacesIn, is_replaced, is_unused, moved_head, wanted_buckets, with_head}
 use Rattle.recover_rms.proofs.PlaceLemmas.{bucket_stays, alloc_stays, extent_stays, run_behind, run_unused, start_stays}

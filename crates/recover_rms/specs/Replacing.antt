@@ -13,7 +13,7 @@ use Rattle.file_loads.specs.Failing.{FellIn}
 use Rattle.load_pages.specs.load_laws.Loads.{IsLoaded, loaded_buckets, loaded_head}
 use Rattle.load_pages.specs.load_laws.Records.{Keyed}
 use Rattle.record_files.specs.Any.{IsFile}
-use Rattle.vms_base.specs.declared.times.Moment.{Moment}
+use Rattle.vms_base.specs.declared.moments.Moment.{Moment}
 use Rattle.volume.specs.Catalogs.{TellsCatalog}
 use Rattle.volume.specs.Limits.{data_area}
 use Rattle.volume.specs.State.{VolumeState, Holds}

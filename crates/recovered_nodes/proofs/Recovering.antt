@@ -6,7 +6,7 @@ use Rattle.file_base.specs.declared.head.FileHead.{FileHead}
 use Rattle.file_base.specs.declared.head.Organization.{Organization as Kept}
 use Rattle.file_base.specs.declared.head.Organization.TheVariants.{Sequential, Relative, Indexed}
 use Rattle.file_base.specs.declared.head.Span.{Span}
-use Rattle.vms_base.specs.declared.times.Moment.{Moment}
+use Rattle.vms_base.specs.declared.moments.Moment.{Moment}
 use Rattle.unit_world.specs.file_images.Files.{HasSave, HasSide, SameRing, form_of}
 use Rattle.unit_world.proofs.file_images.Sides.{saves_follow, sides_follow}
 use Rattle.journal_model.specs.Ring.{HasRing}

@@ -9,7 +9,7 @@ use Rattle.file_base.specs.declared.head.FileHead.{FileHead}
 use Rattle.file_base.specs.declared.head.Organization.{Organization as Kept}
 use Rattle.file_base.specs.declared.head.Organization.TheVariants as kept
 use Rattle.file_base.specs.declared.head.Span.{Span}
-use Rattle.vms_base.specs.declared.times.Moment.{Moment}
+use Rattle.vms_base.specs.declared.moments.Moment.{Moment}
 use Rattle.vms_model.specs.Keys.{End, Key, Number, Text}
 use Rattle.recover_rms.specs.load_laws.Loads.{AllSuitBy, IsLoaded, buckets_by, head_by, layout_by, loaded_layout}
 use Rattle.recover_rms.specs.load_laws.Records.{Keyed, texts_of, values_of}

@@ -13,7 +13,7 @@ use Rattle.recover_rms.specs.load_laws.Records.{Keyed}
 use Rattle.recover_rms.specs.record_files.Any.{FormBy, IsFile}
 use Rattle.recover_rms.specs.Calls.{AreInRings}
 use Rattle.recover_rms.specs.Replacing.{IsHeadWith, with_head}
-use Rattle.vms_base.specs.declared.times.Moment.{Moment}
+use Rattle.vms_base.specs.declared.moments.Moment.{Moment}
 use Rattle.unit_world.specs.volume.declared.catalog.Catalog.{Catalog}
 use Rattle.unit_world.specs.volume.Catalogs.{IsNew, IsSound}
 use Rattle.unit_world.specs.volume.Limits.{EntryFits, FileFits, KeysFit, RootFits, SaveFits, SpanFits, data_area, file_buckets, save_buckets}

@@ -6,7 +6,7 @@ use Rattle.vms_model.specs.Blocks.{directory_start, log_start}
 use Rattle.journal_model.specs.file_base.declared.head.FileHead.{FileHead}
 use Rattle.journal_model.specs.file_base.declared.head.Save.{Save}
 use Rattle.journal_model.specs.file_base.declared.head.Span.{Span}
-use Rattle.vms_base.specs.declared.times.Moment.{Moment}
+use Rattle.vms_base.specs.declared.moments.Moment.{Moment}
 use Rattle.journal_model.specs.Ring.{HasRing}
 use Rattle.volume_model.specs.recovery_model.File.{all_of, next_span}
 use Rattle.volume_model.specs.save_laws.Saves.{IsOfNow, StandAt}

@@ -15,7 +15,7 @@ use Rattle.script_lang.specs.Statements.{request_of}
 use Rattle.vms_base.specs.declared.names.FileName.{FileName}
 use Rattle.vms_base.specs.declared.names.Label.{Label}
 use Rattle.vms_base.specs.declared.names.RmName.{RmName}
-use Rattle.vms_base.specs.declared.times.Moment.{Moment}
+use Rattle.vms_base.specs.declared.moments.Moment.{Moment}
 use Rattle.reference_tasks.specs.Serving.{TellsTable}
 use Rattle.reference_tasks.proofs.ServeLemmas.{early_up}
 

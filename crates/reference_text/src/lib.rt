@@ -22,8 +22,9 @@ use reference_world::{BranchKey, Line, Quota, Standing, WrittenMoment};
 use std::alloc::AllocError;
 use vms_base::{
     FileName, Id, Kind, LogKind, LogRec, Moment, NodeName, Outcome, Reason, RmEvent, RmName,
-    Serial, write_time,
+    Serial,
 };
+use vms_times::write_time;
 
 fn put(out: &mut Vec<u8>, bytes: &[u8]) -> Result<(), AllocError>
     ensures { OnOk result (out.new.items ≡ out.old.items ++ bytes.now) }

@@ -8,7 +8,7 @@ use Rattle.file_base.specs.declared.head.FileHead.{FileHead}
 use Rattle.file_base.specs.declared.head.Marks.{Marks}
 use Rattle.file_base.specs.declared.head.Save.{Save}
 use Rattle.file_base.specs.declared.head.Span.{Span}
-use Rattle.file_base.specs.vms_base.declared.times.Moment.{Moment}
+use Rattle.file_base.specs.vms_base.declared.moments.Moment.{Moment}
 use Rattle.file_base.specs.declared.head.Organization.{Organization as Kept}
 use Rattle.file_base.specs.declared.head.Organization.TheVariants.{Sequential, Relative, Indexed}
 use Rattle.directory_model.specs.change_set.Files.{AgreesOn}

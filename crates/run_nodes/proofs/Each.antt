@@ -12,7 +12,7 @@ use Rattle.script_lang.specs.script_model.Statements.{AddBranch, At, Clock, Deli
 use Rattle.script_lang.specs.script_model.Statements as said
 use Rattle.script_lang.specs.Statements.{request_of}
 use Rattle.script_lang.specs.declared.literals.Literals.{Literals}
-use Rattle.vms_base.specs.declared.times.Moment.{Moment}
+use Rattle.vms_base.specs.declared.moments.Moment.{Moment}
 use Rattle.script_lang.specs.declared.statement.Request as code
 use Rattle.script_lang.specs.declared.statement.Request.TheVariants as request
 use Rattle.said_steps.specs.run_said.Said.{node_in, other_said}

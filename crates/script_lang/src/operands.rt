@@ -9,9 +9,8 @@ ghost use Rattle.tm_types.specs.Parts.{reply_of};
 
 use crate::literals::quoted;
 use crate::statement::{First, LogWord, Mark, Named, Organization, Setting, Side, Verb, WorldVerb};
-use vms_base::{
-    Label, Moment, NodeName, Reply, Serial, find, part_at, read_digits, read_id, read_time,
-};
+use vms_base::{Label, Moment, NodeName, Reply, Serial, find, part_at, read_digits, read_id};
+use vms_times::read_time;
 
 const VERBS: [(&[u8], Verb); 27] = [
     (b"INIT", Verb::Init),

@@ -5,7 +5,7 @@ use Rattle.commit_protocol.specs.Table as table
 use Rattle.vms_base.specs.Ids.{tid_of, serial_of, bid_of}
 use Rattle.vms_base.specs.declared.ids.Tid.{Tid}
 use Rattle.vms_base.specs.declared.ids.Serial.{Serial}
-use Rattle.vms_base.specs.declared.times.Moment.{Moment}
+use Rattle.vms_base.specs.declared.moments.Moment.{Moment}
 use Rattle.tm_types.specs.Parts.{state_of, child_of, manager_of}
 use Rattle.tm_types.specs.declared.branch.BranchState.{BranchState}
 

@@ -1,5 +1,2 @@
 pub mod NameLemmas
 pub mod IdLemmas
-pub mod DayLemmas
-pub mod DigitLemmas
-pub mod TimeLemmas

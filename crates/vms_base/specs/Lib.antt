@@ -1,5 +1,4 @@
 pub mod Ids
 pub mod Keys
 pub mod Outcomes
-pub mod Times
 pub use Rattle.vms_model.specs as vms_model

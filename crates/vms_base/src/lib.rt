@@ -3,19 +3,20 @@
 
 mod ids;
 mod keys;
+mod moments;
 mod names;
 mod outcomes;
 mod protocol;
 mod records;
 mod short;
 mod text;
-mod times;
 
 pub use ids::{Bid, Id, Serial, Tid, get_id, put_id, read_id};
 pub use keys::{Key, KeyText};
+pub use moments::Moment;
 pub use names::{FileName, Label, NodeName, RmName};
 pub use outcomes::{Outcome, Reason};
 pub use protocol::{Kind, LogKind, LogRec, Reply, RmEvent, RmList, SerialList};
 pub use records::Record;
+pub use short::Short;
 pub use text::{find, is_word, part_at, read_digits};
-pub use times::{Moment, TimeErr, TimeText, read_time, write_time, written_times_are_read};

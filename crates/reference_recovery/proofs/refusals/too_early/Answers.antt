@@ -1,6 +1,6 @@
 use Rattle.std.proofs.Common.{Option, ap, sym, ◌∙◌}
 use Rattle.std.specs.Prelude.{option_map}
-use Rattle.vms_base.specs.declared.times.Moment.{Moment}
+use Rattle.vms_base.specs.declared.moments.Moment.{Moment}
 use Rattle.reference_index.proofs.ListLemmas.{if_ok_so}
 use Rattle.reference_recovery.specs.Refusing.{early_line}
 use Rattle.reference_recovery.proofs.refusals.too_early.Goals as goal

@@ -7,7 +7,7 @@ use Rattle.vms_base.specs.Ids.{serial_of}
 use Rattle.vms_base.specs.Outcomes.{reason_of}
 use Rattle.vms_base.specs.declared.ids.Serial.{Serial}
 use Rattle.vms_base.specs.declared.ids.Tid.{Tid}
-use Rattle.vms_base.specs.declared.times.Moment.{Moment}
+use Rattle.vms_base.specs.declared.moments.Moment.{Moment}
 use Rattle.vms_model.specs.Ids.{Id}
 use Rattle.vms_model.specs.Transactions.{Abort}
 use Rattle.volume.specs.declared.catalog.Catalog.{Catalog}

@@ -13,7 +13,7 @@ use Rattle.volume.specs.Catalogs.{head_at}
 use Rattle.volume.specs.State.{SameVolume}
 use Rattle.key_changes.specs.declared.asked.KeyChange.{KeyChange}
 use Rattle.key_changes.specs.Keys.{change_in, key_in, position_by}
-use Rattle.vms_base.specs.declared.times.Moment.{Moment}
+use Rattle.vms_base.specs.declared.moments.Moment.{Moment}
 use Rattle.rms_units.specs.Calls.{DirectBroke, DirectKeyBroke, DirectKeyRefused, DirectRefused, DirectsErr, DirectsKey, DirectsKeyErr, DirectsOk}
 use Rattle.rms_units.specs.Truncating.{DirectCutBroke, DirectCutRefused, DirectsCut, DirectsCutErr}
 use Rattle.rms_units.proofs.OperationLemmas.{direct_allowed, no_cut, no_key, no_position, of_key, ok_with, retold, same_cut, sizes_fit, value_fits}

@@ -2,7 +2,7 @@ use Rattle.std.specs.Prelude.{slice_get}
 use Rattle.std.proofs.Common.{◌≡◌, ◌+◌, map, Some, sym, ap}
 use Rattle.dtm_node.specs.Nodes.{kept_of}
 use Rattle.run_nodes.proofs.Entries.{kept_there, more_nodes, node_at, put_clocks, put_kept, put_names, put_nodes}
-use Rattle.vms_base.specs.declared.times.Moment.{Moment}
+use Rattle.vms_base.specs.declared.moments.Moment.{Moment}
 use Rattle.run_nodes.proofs.nodes.Nodes.serve.Goals as goal
 
 pub serve-requires-clause-node : goal.serve-requires-clause-node

@@ -1,8 +1,8 @@
 use Rattle.std.proofs.Common.{ap, ◌∙◌}
 use Rattle.vms_model.specs.Times.{two_digits}
-use Rattle.vms_base.specs.Times.{day_of}
-use Rattle.vms_base.proofs.DigitLemmas.{written}
-use Rattle.vms_base.proofs.times.write_time.Goals as goal
+use Rattle.vms_times.specs.Times.{day_of}
+use Rattle.vms_times.proofs.DigitLemmas.{written}
+use Rattle.vms_times.proofs.times.write_time.Goals as goal
 
 pub returns : goal.returns
 returns c =

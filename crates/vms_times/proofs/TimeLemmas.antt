@@ -11,8 +11,8 @@ use Rattle.jiff_core.proofs.CalendarLemmas.{days_in_month_bounds}
 use Rattle.vms_model.specs.Words.{number_next, number_from, among, parted_at}
 use Rattle.vms_model.specs.Times.{Day, two_digits, four_digits, day_text, clock_text, time_text, day_after, name_at, month_names, months, day_said, date_said, clock_said, time_said, day_number, MomentSaid, moment_at, time_from, CanBeRead}
 use Rattle.vms_base.proofs.NameLemmas.{both}
-use Rattle.vms_base.proofs.DigitLemmas.{decimal_two}
-use Rattle.vms_base.proofs.DayLemmas.{day_after_is, early_year_of, day_number_of}
+use Rattle.vms_times.proofs.DigitLemmas.{decimal_two}
+use Rattle.vms_times.proofs.DayLemmas.{day_after_is, early_year_of, day_number_of}
 
 -- a byte is none of these
 abbrev Lacks : ℕ → List ℕ → Type 0

@@ -2,8 +2,8 @@ use Rattle.std.proofs.Common.{arith, FitsSigned, w16, refl}
 use Rattle.std.proofs.lemmas.Int.{to_z-of_z}
 use Rattle.jiff_core.proofs.SignedLemmas.{signed_arith}
 use Rattle.vms_model.specs.Times.{day_after as day_after_of}
-use Rattle.vms_base.proofs.DayLemmas.{date_is, day_after_is, year_of}
-use Rattle.vms_base.proofs.times.day_after.Goals as goal
+use Rattle.vms_times.proofs.DayLemmas.{date_is, day_after_is, year_of}
+use Rattle.vms_times.proofs.times.day_after.Goals as goal
 
 pub overflow_cast-result : goal.overflow_cast-result
 overflow_cast-result c =

@@ -1,20 +1,15 @@
-// Moments, and the text of times.
+// The text of times.
 ghost use Rattle.std.specs.Prelude.{◌≡◌, ℕ, List, ◌<◌, ◌≤◌, ◌+◌, ◌-◌, ◌*◌, ◌/◌, ◌%◌, length, decimal, Option, Some, IfSome};
 ghost use Rattle.std.specs.Option.{option_map};
 ghost use Rattle.vms_model.specs.Words.{among};
 ghost use Rattle.vms_model.specs.Times.{day_after as day_after_of, two_digits as two_digits_of, name_at, month_names, clock_text, time_text, CanBeWritten, CanBeRead, MomentSaid, digits_said, day_said, months, date_said, clock_said, day_number as day_number_of, time_said};
-ghost use Rattle.vms_base.specs.Times.{time_of, day_of};
+ghost use Rattle.vms_times.specs.Times.{time_of, day_of};
 
-use crate::short::Short;
-use crate::text::{find, part_at, read_digits};
 use jiff::civil::Date;
 use jiff_core::civil;
 use std::marker::Model;
 use thiserror::Error;
-
-/// A moment: hundredths of a second since 17-NOV-1858 00:00.
-#[derive(Clone, Copy, Debug, PartialEq, Eq, Drop)]
-pub struct Moment(pub u64);
+use vms_base::{Moment, Short, find, part_at, read_digits};
 
 /// Why a text is no moment.
 #[derive(Clone, Copy, Debug, PartialEq, Eq, Drop, Error)]

@@ -2,10 +2,10 @@
 use Rattle.std.specs.Prelude.{Result, Ok, Err}
 use Rattle.vms_model.specs.Times as model
 use Rattle.vms_model.specs.Times.{TimeSaid, NoForm, NoDay, MomentSaid}
-use Rattle.vms_base.specs.declared.times.CalendarDay.{CalendarDay}
-use Rattle.vms_base.specs.declared.times.Moment.{Moment}
-use Rattle.vms_base.specs.declared.times.TimeErr.{TimeErr}
-use Rattle.vms_base.specs.declared.times.TimeErr.TheVariants as err
+use Rattle.vms_times.specs.declared.times.CalendarDay.{CalendarDay}
+use Rattle.vms_base.specs.declared.moments.Moment.{Moment}
+use Rattle.vms_times.specs.declared.times.TimeErr.{TimeErr}
+use Rattle.vms_times.specs.declared.times.TimeErr.TheVariants as err
 
 abbrev pub time_of : Result Moment TimeErr → TimeSaid
 time_of (Ok m) = MomentSaid m.0

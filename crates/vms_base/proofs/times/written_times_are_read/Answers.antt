@@ -1,5 +1,0 @@
-use Rattle.vms_base.proofs.TimeLemmas.{written_is_read}
-use Rattle.vms_base.proofs.times.written_times_are_read.Goals as goal
-
-pub returns : goal.returns
-returns c = written_is_read
