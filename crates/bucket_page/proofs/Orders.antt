@@ -142,3 +142,12 @@ data_room m r l k h = grind (arith, nat_tests)
 -- the key lies in its slot
 pub data_within : (pos size : ℕ) (slot : List ℕ) → suits (Data pos size) slot ≡ true → 4 + (pos + size) ≤ front_size (Data pos size) slot
 data_within pos size slot suit = let s = data_room (length slot) (u16_at slot 0) (u16_at slot 2) (pos + size) suit in omega (arith, s, suit_size (Data pos size) slot suit)
+
+-- slots of which each may stand before each other ascend
+precedes_each : (kind : PageKind) → ((a b : List ℕ) → may_precede kind a b ≡ true) → (s : List ℕ) (ss : List (List ℕ)) → precedes_all kind s ss ≡ true
+precedes_each kind any s [] = refl
+precedes_each kind any s (t ∷ ts) = λ i. any s t i && precedes_each kind any s ts i
+
+pub ascend_each : (kind : PageKind) → ((a b : List ℕ) → may_precede kind a b ≡ true) → (ss : List (List ℕ)) → ascend kind ss ≡ true
+ascend_each kind any [] = refl
+ascend_each kind any (s ∷ ss) = λ i. precedes_each kind any s ss i && ascend_each kind any ss i

@@ -109,7 +109,7 @@ pub record Stands (kind : PageKind) (slots : List (List ℕ)) (k : ℕ) (rest : 
   pub after : reach slots (k + 1) ≡ reach slots k + length (get_or slots k [])
   pub within : reach slots (k + 1) ≤ 16 + length (joined slots)
 
-reach_more : (slots : List (List ℕ)) (k : ℕ) → k < length slots → reach slots (k + 1) ≡ reach slots k + length (get_or slots k [])
+pub reach_more : (slots : List (List ℕ)) (k : ℕ) → k < length slots → reach slots (k + 1) ≡ reach slots k + length (get_or slots k [])
 reach_more slots k below =
     let more : joined (take (k + 1) slots) ≡ joined (take k slots) ++ (get_or slots k [] ++ []) = ap joined (take_more slots k [] below) ∙ joined-append (take k slots) (get_or slots k [] ∷ []) in
     omega (arith, ap length more, length-append (joined (take k slots)) (get_or slots k [] ++ []), length-append (get_or slots k []) [])

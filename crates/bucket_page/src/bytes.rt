@@ -25,11 +25,27 @@ pub(crate) fn read_u32(bytes: &[u8], at: usize) -> u32
     LittleEndian::read_u32(&bytes[at..])
 }
 
+// Whether so few bytes are as many zeros. Two lists of bytes are compared many bytes at a time, and a test of each byte takes them one by one.
+fn are_zeros(bytes: &[u8]) -> bool
+    requires { length bytes.now ≤ 512 }
+    ensures { IsTrue result ↔ EachIndex bytes.now (λ k. slice_index bytes.now k ≡ 0) }
+{
+    let zeros = [0; 512];
+    bytes == &zeros[..bytes.len()]
+}
+
 /// Whether all bytes are zero.
 pub(crate) fn is_zero(bytes: &[u8]) -> bool
     ensures { IsTrue result ↔ EachIndex bytes.now (λ k. slice_index bytes.now k ≡ 0) }
 {
-    bytes.iter().all(|b| *b == 0)
+    let mut at = 0;
+    while bytes.len() - at > 512 {
+        if !are_zeros(&bytes[at..at + 512]) {
+            return false;
+        }
+        at += 512;
+    }
+    are_zeros(&bytes[at..])
 }
 
 /// The length of the slot at a place, as its first bytes tell it.

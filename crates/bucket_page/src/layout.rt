@@ -1,5 +1,5 @@
 //! Whether bytes are those of a bucket.
-ghost use Rattle.std.specs.Prelude.{◌↔◌, ◌≡◌, ◌≤◌, ◌<◌, ◌+◌, ◌-◌, ◌*◌, ℕ, true, false, IsTrue, EachIndex, slice_index, IfSome, IfNone, length, take, drop};
+ghost use Rattle.std.specs.Prelude.{◌↔◌, ◌≡◌, ◌≤◌, ◌<◌, ◌+◌, ◌-◌, ◌*◌, ℕ, List, true, false, IsTrue, EachIndex, slice_index, IfSome, IfNone, length, take, drop};
 ghost use Rattle.std.specs.Ordering.{nat_cmp, is_lt};
 ghost use Rattle.std.specs.Cmp.Lexicographic.{slice_cmp};
 ghost use Rattle.file_base.specs.Bytes.{piece_at};
@@ -133,11 +133,26 @@ fn precedes(bytes: &[u8], kind: PageKind, a: usize, b: usize) -> bool
     }
 }
 
+// Whether each slot of a kind may stand before each other.
+fn has_no_order(kind: PageKind) -> bool
+    ensures { result ≡ true → (a b : List ℕ) → may_precede kind a b ≡ true }
+{
+    match kind {
+        PageKind::Seq => true,
+        PageKind::Rel { .. } => true,
+        PageKind::Data { .. } => false,
+        PageKind::Index { .. } => false,
+    }
+}
+
 // Whether the slots ascend.
 fn is_ascending(bytes: &[u8], kind: PageKind) -> bool
     requires { IsPacked kind (length bytes.now) bytes.now }
     ensures { result ≡ ascend kind (slots_of kind bytes.now) }
 {
+    if has_no_order(kind) {
+        return true;
+    }
     let count = read_u16(bytes, 2);
     let mut last = 16;
     let mut at = 16;

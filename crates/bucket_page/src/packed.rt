@@ -1,10 +1,34 @@
 //! Slots of a bucket, over its bytes.
 ghost use Rattle.std.specs.Prelude.{◌↔◌, ◌≡◌, ◌≤◌, ◌<◌, ◌+◌, ◌-◌, ◌*◌, ◌++◌, ℕ, true, false, [], length, take, drop};
-ghost use Rattle.bucket_page.specs.Pages.{slots_of, next_of, joined, IsPacked, reach, inserted, suits, Packs, removed, replaced, slot_at};
+ghost use Rattle.bucket_page.specs.Pages.{u16_at, slots_of, next_of, joined, IsPacked, reach, inserted, suits, Packs, removed, replaced, slot_at};
 
 use crate::bytes::{close_at, copy_piece, front_len, open_at, put_counts, read_u16};
 use crate::kind::PageKind;
 use file_base::{splice, splice_zeros};
+
+// Whether a place is behind all slots.
+fn is_behind(bytes: &[u8], i: usize) -> bool
+    requires { 4 ≤ length bytes.now }
+    ensures { result ≡ true → i ≡ u16_at bytes.now 2 }
+{
+    i == read_u16(bytes, 2) as usize
+}
+
+/// Where slot i begins, walked to from where an earlier one does.
+pub fn slot_from(bytes: &[u8], kind: PageKind, first: usize, from: usize, i: usize) -> usize
+    requires packed { IsPacked kind (length bytes.now) bytes.now }
+    requires there { i ≤ length (slots_of kind bytes.now) }
+    requires order { first ≤ i }
+    requires from { from ≡ reach (slots_of kind bytes.now) first }
+    requires small { length bytes.now ≤ 8192 }
+    ensures { result ≡ reach (slots_of kind bytes.now) i }
+{
+    let mut at = from;
+    for k in first..i {
+        at += front_len(bytes, at, kind);
+    }
+    at
+}
 
 /// Where slot i begins; at their number, where the slots end.
 pub fn slot_start(bytes: &[u8], kind: PageKind, i: usize) -> usize
@@ -13,11 +37,11 @@ pub fn slot_start(bytes: &[u8], kind: PageKind, i: usize) -> usize
     requires small { length bytes.now ≤ 8192 }
     ensures { result ≡ reach (slots_of kind bytes.now) i }
 {
-    let mut at = 16;
-    for k in 0..i {
-        at += front_len(bytes, at, kind);
+    // Where all slots end the front tells.
+    if is_behind(bytes, i) {
+        return 16 + read_u16(bytes, 4) as usize;
     }
-    at
+    slot_from(bytes, kind, 0, 16, i)
 }
 
 /// Puts a slot in at place i. False exactly where it does not fit; then nothing changes.

@@ -9,7 +9,7 @@ use crate::bytes::{front_len, read_u32};
 use crate::front::{clear_front, insert_front, remove_front, replace_front, split_front};
 use crate::kind::PageKind;
 use crate::layout::count_slots;
-use crate::packed::slot_start;
+use crate::packed::slot_from;
 use frame_pool::{FRAME_BYTES, Frame, Pool};
 
 /// Calls on one bucket, which lies in the first `size` bytes of a frame. Each leaves all other frames, and what stands
@@ -34,6 +34,23 @@ impl Page {
         read_u32(bytes, 8)
     }
 
+    /// The first byte and the length of slot i, which is walked to from where an earlier one begins.
+    pub fn place_from(bytes: &[u8], kind: PageKind, first: u16, from: u16, i: u16) -> (u16, u16)
+        requires packed { IsPacked kind (length bytes.now) bytes.now }
+        requires there { i < length (slots_of kind bytes.now) }
+        requires order { first ≤ i }
+        requires from { from ≡ reach (slots_of kind bytes.now) first }
+        requires small { length bytes.now ≤ 8192 }
+        ensures first { result.0 ≡ reach (slots_of kind bytes.now) i }
+        ensures size { result.1 ≡ length (slot_at (slots_of kind bytes.now) i) }
+        ensures within { result.0 + result.1 ≤ length bytes.now }
+        ensures slot { piece_at bytes.now result.0 result.1 ≡ slot_at (slots_of kind bytes.now) i }
+    {
+        let at = slot_from(bytes, kind, first as usize, from as usize, i as usize);
+        let size = front_len(bytes, at, kind);
+        (at as u16, size as u16)
+    }
+
     /// The first byte and the length of slot i.
     pub fn place(bytes: &[u8], kind: PageKind, i: u16) -> (u16, u16)
         requires packed { IsPacked kind (length bytes.now) bytes.now }
@@ -44,9 +61,7 @@ impl Page {
         ensures within { result.0 + result.1 ≤ length bytes.now }
         ensures slot { piece_at bytes.now result.0 result.1 ≡ slot_at (slots_of kind bytes.now) i }
     {
-        let at = slot_start(bytes, kind, i as usize);
-        let size = front_len(bytes, at, kind);
-        (at as u16, size as u16)
+        Page::place_from(bytes, kind, 0, 16, i)
     }
 
     /// Writes a bucket without slots, which has this next bucket.

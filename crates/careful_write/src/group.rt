@@ -1,5 +1,5 @@
 //! A group is written in four parts, each ended by a barrier: the intents, the open gate, the blocks, the closed gate.
-ghost use Rattle.std.specs.Prelude.{◌≡◌, ◌≢◌, ◌<◌, ◌≤◌, ◌+◌, ◌*◌, ◌/◌, ◌%◌, ℕ, List, [], true, false, IfSome, OnOk, OnErr, length, option_map, slice_set, slice_index_or};
+ghost use Rattle.std.specs.Prelude.{◌≡◌, ◌≢◌, ◌<◌, ◌≤◌, ◌⊎◌, ◌+◌, ◌*◌, ◌/◌, ◌%◌, ℕ, List, [], true, false, IfSome, OnOk, OnErr, length, option_map, slice_set, slice_index_or};
 ghost use Rattle.block_disk.specs.Blocks.{has_number, numbers_of, laid_over, ascends, block_at};
 ghost use Rattle.byteorder.specs.Endian.{little_bytes, little_number};
 ghost use Rattle.block_disk.specs.Sizes.{least_disk_size};
@@ -181,14 +181,24 @@ fn write_index<D: Disk>(disk: &mut D, group: &BlockTable) -> Result<(), DiskErr>
     Ok(())
 }
 
+// How many words of block j of the index tell something: those behind them are zeros.
+fn words_told(group: &BlockTable, j: usize) -> usize
+    requires few { length group.now.entries ≤ group_limit }
+    requires block { 128 * j ≤ length group.now.entries }
+    ensures most { result ≤ 128 }
+    ensures told { (result ≡ 128) ⊎ (128 * j + result ≡ length group.now.entries + 1) }
+{
+    (group.len() + 1 - 128 * j).min(128)
+}
+
 // Block j of the index, from 0.
 fn index_block(group: &BlockTable, j: usize) -> [u8; 512]
     requires few { length group.now.entries ≤ group_limit }
-    requires block { j < 5 }
+    requires block { 128 * j ≤ length group.now.entries }
     ensures { (k : ℕ) → k < 128 → word_of result k ≡ word_for group.now.entries (128 * j + k) }
 {
     let mut bytes = [0; 512];
-    for k in 0..128 {
+    for k in 0..words_told(group, j) {
         put_word(&mut bytes, k, index_word_of(group, 128 * j + k));
     }
     bytes

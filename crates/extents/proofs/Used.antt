@@ -6,7 +6,7 @@ use Rattle.std.proofs.lemmas.Bool.{cases_lt}
 use Rattle.std.proofs.lemmas.List.{take_more}
 use Rattle.std.proofs.lemmas.List.Folds.{list_any-append}
 use Rattle.extents.specs.declared.extent.Extent.{Extent}
-use Rattle.extents.specs.Extents.{covers, is_used, is_free, nowhere, IsFreeRun, IsNextRun}
+use Rattle.extents.specs.Extents.{covers, is_used, is_free, nowhere, IsFreeRun, IsNextRun, FitsBehind}
 
 -- what a cover is
 pub covered : (e : Extent) (n : ℕ) → covers e n ≡ true → (e.start ≤ n) × (n < e.end)
@@ -139,3 +139,14 @@ longest_end area es at most used so_far start blocks found =
       | inl before ↦ so_far start blocks before found
       | inr behind ↦ absurd (run_nowhere area es at blocks used start behind found)
     ]
+
+-- no extent without blocks has one
+pub covers_none : (e : Extent) (n : ℕ) → e.end ≤ e.start → covers e n ≡ false
+covers_none e n h = elim (cases_lt n e.start) [
+  | inl low ↦ not_below e n low
+  | inr high ↦ not_behind e n (omega arith)
+]
+
+-- so it fits anywhere
+pub none_fits : (area : Extent) (before : List Extent) (e : Extent) → ((n : ℕ) → covers e n ≡ false) → FitsBehind area before e
+none_fits area before e none = record { inside = λ n has. not_both (covers e n) has (none n); apart = λ n has. not_both (covers e n) has (none n) }

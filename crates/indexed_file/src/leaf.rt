@@ -1,7 +1,7 @@
 //! One bucket of a file, read into a frame.
 ghost use Rattle.std.specs.Prelude.{◌≡◌, ◌≤◌, ◌<◌, ◌+◌, ◌-◌, ◌*◌, ℕ, true, false, Some, None, length};
 ghost use Rattle.vms_base.specs.vms_model.Limits.{record_limit};
-ghost use Rattle.bucket_page.specs.Pages.{slots_of, key_in, slot_at, IsBucket, IsPacked, u16_at};
+ghost use Rattle.bucket_page.specs.Pages.{slots_of, key_in, slot_at, IsBucket, IsPacked, reach, u16_at};
 ghost use Rattle.change_set.specs.records_model.Slots.{bytes_before};
 ghost use Rattle.std.specs.Ordering.{nat_cmp, is_lt, ordering_reverse};
 ghost use Rattle.std.specs.Cmp.Lexicographic.{slice_cmp};
@@ -24,6 +24,24 @@ pub(crate) fn kind(head: &FileHead) -> PageKind
     }
 }
 
+/// The bytes of slot i, walked to from where an earlier one begins, and where it ends.
+fn slot_from<'a>(bytes: &'a [u8], head: &FileHead, first: u16, from: u16, i: u16) -> (&'a [u8], u16)
+    requires packed { IsPacked (kind_of head.now) (length bytes.now) bytes.now }
+    requires small { length bytes.now ≤ 8192 }
+    requires there { i < length (slots_of (kind_of head.now) bytes.now) }
+    requires order { first ≤ i }
+    requires from { from ≡ reach (slots_of (kind_of head.now) bytes.now) first }
+    ensures is { result.0.now ≡ slot_at (slots_of (kind_of head.now) bytes.now) i }
+    ensures end { result.1 ≡ reach (slots_of (kind_of head.now) bytes.now) (i + 1) }
+    ensures key { 4 + (head.now.key_pos + head.now.key_size) ≤ length result.0.now }
+    ensures size { length result.0.now ≡ 4 + u16_at result.0.now 0 }
+    ensures room { u16_at result.0.now 2 ≤ u16_at result.0.now 0 }
+    ensures within { length result.0.now ≤ length bytes.now }
+{
+    let (at, size) = Page::place_from(bytes, kind(head), first, from, i);
+    (&bytes[at as usize..at as usize + size as usize], at + size)
+}
+
 /// The bytes of slot i.
 pub(crate) fn slot<'a>(bytes: &'a [u8], head: &FileHead, i: u16) -> &'a [u8]
     requires packed { IsPacked (kind_of head.now) (length bytes.now) bytes.now }
@@ -35,8 +53,7 @@ pub(crate) fn slot<'a>(bytes: &'a [u8], head: &FileHead, i: u16) -> &'a [u8]
     ensures room { u16_at result.now 2 ≤ u16_at result.now 0 }
     ensures within { length result.now ≤ length bytes.now }
 {
-    let (at, size) = Page::place(bytes, kind(head), i);
-    &bytes[at as usize..at as usize + size as usize]
+    slot_from(bytes, head, 0, 16, i).0
 }
 
 /// The number of two bytes of a slot.
@@ -75,11 +92,16 @@ pub(crate) fn find_place(bytes: &[u8], head: &FileHead, count: u16, key: &[u8]) 
     ensures { IsPlace head.now key.now (slots_of (kind_of head.now) bytes.now) result.0 result.1 }
 {
     let mut low = 0;
+    let mut start = 16; // Where the lowest slot begins that is left.
     let mut high = count;
     while low < high {
         let mid = low + (high - low) / 2;
-        match compare_key(slot(bytes, head, mid), head, key) {
-            Ordering::Less => low = mid + 1,
+        let (raw, end) = slot_from(bytes, head, low, start, mid);
+        match compare_key(raw, head, key) {
+            Ordering::Less => {
+                low = mid + 1;
+                start = end;
+            }
             Ordering::Equal => return (mid, true),
             Ordering::Greater => high = mid,
         }

@@ -16,7 +16,7 @@ ghost use Rattle.lmcp_log.specs.Log.{slot_of, slot_at, is_of, is_free, record_wi
 ghost use Rattle.lmcp_log.specs.Keeping.{Keeps, AreApart};
 
 use crate::listing::{list_records, pass_over};
-use crate::slot::{read_slot, write_slot};
+use crate::slot::{begins_free, read_slot, write_slot};
 use block_disk::Disk;
 use careful_write::{Down, Store};
 use std::alloc::{AllocError, Global};
@@ -105,14 +105,24 @@ fn unless_there(slots: &[Option<LogRec>], r: LogRec) -> Option<LogRec>
     }
 }
 
-// What a slot's block is read as, behind these slots.
-fn entry_in(slots: &[Option<LogRec>], block: &[u8; 512]) -> Option<LogRec>
+// What a block that does not begin as a free slot's is read as, behind these slots.
+fn entry_told(slots: &[Option<LogRec>], block: &[u8; 512]) -> Option<LogRec>
     ensures { (r : LogRecord) → (slot_of result ≡ Some r) ↔ (IsRecord r × (slot_block r ≡ block.now) × (has_slot r.serial (map slot_of slots.now) ≡ false)) }
 {
     match read_slot(block) {
         Some(r) => unless_there(slots, r),
         None => None,
     }
+}
+
+// What a slot's block is read as, behind these slots. Most slots are free: these are told here, without the room that a record takes.
+fn entry_in(slots: &[Option<LogRec>], block: &[u8; 512]) -> Option<LogRec>
+    ensures { (r : LogRecord) → (slot_of result ≡ Some r) ↔ (IsRecord r × (slot_block r ≡ block.now) × (has_slot r.serial (map slot_of slots.now) ≡ false)) }
+{
+    if begins_free(block) {
+        return None;
+    }
+    entry_told(slots, block)
 }
 
 // Reads so many slots behind none.

@@ -77,6 +77,13 @@ fn record_at(block: &[u8; 512]) -> Option<LogRec>
     })
 }
 
+// Whether a block begins as that of no record does.
+pub(crate) fn begins_free(block: &[u8; 512]) -> bool
+    ensures { result ≡ true → (r : LogRecord) → IsRecord r → slot_block r ≡ block.now → ⊥ }
+{
+    number_8(block, 0) == 0
+}
+
 /// The record that a slot's block has. None exactly where it has none: where the slot is free, and where its bytes are those of no record.
 pub fn read_slot(block: &[u8; 512]) -> Option<LogRec>
     ensures { (r : LogRecord) → (option_map log_record_of result ≡ Some r) ↔ (IsRecord r × (slot_block r ≡ block.now)) }

@@ -21,8 +21,7 @@ use reference_index::Key;
 use reference_world::{BranchKey, Line, Quota, Standing, WrittenMoment};
 use std::alloc::AllocError;
 use vms_base::{
-    FileName, Id, Kind, LogKind, LogRec, Moment, NodeName, Outcome, Reason, RmEvent, RmName,
-    Serial,
+    FileName, Id, Kind, LogKind, LogRec, Moment, NodeName, Outcome, Reason, RmEvent, RmName, Serial,
 };
 use vms_times::write_time;
 

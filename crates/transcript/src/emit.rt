@@ -21,9 +21,7 @@ use crate::form::{Cause, Form, Quota};
 use crate::outside::Sink;
 use itoa::Buffer;
 use std::alloc::{AllocError, Global};
-use vms_base::{
-    FileName, Id, Key, Moment, NodeName, Outcome, Reason, Record, Serial, Tid,
-};
+use vms_base::{FileName, Id, Key, Moment, NodeName, Outcome, Reason, Record, Serial, Tid};
 use vms_times::write_time;
 
 const BUFFER_BYTES: usize = 16_384;

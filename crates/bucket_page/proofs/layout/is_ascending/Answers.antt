@@ -3,7 +3,7 @@ use Rattle.bucket_page.specs.Pages.{front_size, front_slot, slots_of, reach, sui
 use Rattle.bucket_page.specs.declared.kind.PageKind.{PageKind}
 use Rattle.bucket_page.specs.Pages.{IsPacked}
 use Rattle.bucket_page.proofs.PageLaws.{slot_stands, count_is}
-use Rattle.bucket_page.proofs.Orders.{slot_here, not_ascend, ascend_more}
+use Rattle.bucket_page.proofs.Orders.{slot_here, not_ascend, ascend_more, ascend_each}
 use Rattle.bucket_page.proofs.layout.is_ascending.Goals as goal
 use Rattle.bucket_page.proofs.layout.is_ascending.Goals.{else-k-gt0-via-then-k-gt0+else-not-precedes, else-k-gt0-via-else-k-gt0}
 
@@ -92,3 +92,6 @@ loop-k-preserved c =
       last = λ _. let back : k + 1 - 1 ≡ k = omega arith in c.loop-k.invariant.at ∙ ap (reach slots) (sym back);
       order = ascend_more kind slots k below c.loop-k.invariant.order may;
     }
+
+pub returns-then-has_no_order : goal.returns-then-has_no_order
+returns-then-has_no_order c = sym (ascend_each c.args.kind (c.has_no_order.ensures c.if-has_no_order.true) (slots_of c.args.kind c.args.bytes.now))

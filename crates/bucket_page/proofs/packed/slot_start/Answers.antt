@@ -1,22 +1,14 @@
-use Rattle.std.proofs.Common.{length, drop, ap, arith}
-use Rattle.bucket_page.specs.Pages.{front_size}
-use Rattle.bucket_page.proofs.PageLaws.{slot_stands}
+use Rattle.std.proofs.Common.{◌≡◌, ◌∙◌, ℕ, List, length, ap, arith}
+use Rattle.std.proofs.lemmas.List.{take_all}
+use Rattle.bucket_page.specs.Pages.{slots_of, joined}
+use Rattle.bucket_page.proofs.PageLaws.{count_is, used_is}
 use Rattle.bucket_page.proofs.packed.slot_start.Goals as goal
 
-pub front_len-at-requires : goal.front_len-at-requires
-front_len-at-requires c =
+pub returns-then-is_behind : goal.returns-then-is_behind
+returns-then-is_behind c =
     let bytes = c.args.bytes.now in
-    let stands = slot_stands c.args.kind (length bytes) c.loop-k.k bytes c.requires.packed (omega arith) in
-    omega (arith, stands.long, stands.after, stands.within, c.loop-k.invariant, c.requires.packed.fits)
-
-pub overflow_add-at : goal.overflow_add-at
-overflow_add-at c =
-    let bytes = c.args.bytes.now in
-    let stands = slot_stands c.args.kind (length bytes) c.loop-k.k bytes c.requires.packed (omega arith) in
-    omega (arith, stands.size, stands.after, stands.within, c.loop-k.invariant, c.requires.packed.fits, c.front_len-at.ensures, ap (λ n. front_size c.args.kind (drop n bytes)) c.loop-k.invariant)
-
-pub loop-k-preserved : goal.loop-k-preserved
-loop-k-preserved c =
-    let bytes = c.args.bytes.now in
-    let stands = slot_stands c.args.kind (length bytes) c.loop-k.k bytes c.requires.packed (omega arith) in
-    omega (arith, stands.size, stands.after, c.loop-k.invariant, c.front_len-at.ensures, ap (λ n. front_size c.args.kind (drop n bytes)) c.loop-k.invariant)
+    let slots = slots_of c.args.kind bytes in
+    let packed = c.requires.packed in
+    let counted : c.args.i ≡ length slots = c.is_behind.ensures c.if-is_behind.true ∙ count_is c.args.kind (length bytes) bytes packed in
+    let whole = ap (λ (ss : List (List ℕ)). length (joined ss)) (take_all c.args.i slots (omega (arith, counted))) in
+    omega (arith, whole, c.read_u16.ensures, used_is c.args.kind (length bytes) bytes packed)
