@@ -10,8 +10,8 @@ use Rattle.commit_protocol.specs.Opening.{Image, IsAgreeing, Opening, new_volume
 use Rattle.commit_protocol.proofs.NewVolumes.{new_agree}
 use Rattle.world_laws.specs.run_model.World.{Node}
 use Rattle.world_laws.specs.run_model.Transcript.{Entry}
-use Rattle.statement_steps.specs.run_agreement.Laws.{image_after_init, image_here, image_told, opening_told, volume_image, with_image}
-use Rattle.run_laws.specs.Anew.{AreKnownOrAnew, IsMadeAnew, IsMadeFirst, IsMadeIn, Makes}
+use Rattle.statement_steps.specs.run_agreement.Laws.{IsReplaced, Replaces, image_after_init, image_here, image_told, opening_told, volume_image, with_image}
+use Rattle.run_laws.specs.Anew.{AreKnownOrAnew, Makes}
 use Rattle.day_script.specs.day_model.Readings.{makes_volume}
 use Rattle.day_run.specs.Serving.{BothMade, MakesNone}
 
@@ -21,53 +21,15 @@ A = codes "A"
 abbrev B : List ℕ
 B = codes "B"
 
--- Both were made by these entries,
-made_in : (es : List Entry) → BothMade es → IsMadeIn A es × IsMadeIn B es
-made_in [] h = absurd h
-made_in (e ∷ []) h = absurd h
-made_in (e ∷ f ∷ []) h = ((f, e ∷ [], [], refl, h.1), (e, [], f ∷ [], refl, h.0))
-made_in (e ∷ f ∷ g ∷ es) h =
-    let m = made_in (f ∷ g ∷ es) h.1 in
-    ((m.0.0, e ∷ m.0.1, m.0.2, ap (λ (xs : List Entry). e ∷ xs) m.0.3, m.0.4), (m.1.0, e ∷ m.1.1, m.1.2, ap (λ (xs : List Entry). e ∷ xs) m.1.3, m.1.4))
+-- Both disks are replaced by these entries.
+replaces : (node : List ℕ) (e : Entry) → Makes node e → Replaces node e
+replaces node e m = record { slots = m.slots; journal = m.journal; says = m.says; answered = inl m.answered }
 
-head_is : (x y : Entry) (xs ys : List Entry) → x ∷ xs ≡ y ∷ ys → x ≡ y
-head_is x y xs ys e = cc
-
-tail_is : (x y : Entry) (xs ys : List Entry) → x ∷ xs ≡ y ∷ ys → xs ≡ ys
-tail_is x y xs ys e = cc
-
-no_more : (front back : List Entry) (e : Entry) → [] ≡ front ++ e ∷ back → ⊥
-no_more [] back e is = let none : ⊥ = cc in none
-no_more (x ∷ front) back e is = let none : ⊥ = cc in none
-
--- and before each entry that makes none of them.
-made_before : (es later earlier : List Entry) (e : Entry) → BothMade es → es ≡ later ++ e ∷ earlier → BothMade earlier ⊎ (Makes A e ⊎ Makes B e)
-made_before [] later earlier e h is = absurd h
-made_before (x ∷ []) later earlier e h is = absurd h
-made_before (x ∷ y ∷ []) [] earlier e h is = inr (inr (subst (Makes B) (head_is x e (y ∷ []) earlier is) h.0))
-made_before (x ∷ y ∷ []) (a ∷ []) earlier e h is = inr (inl (subst (Makes A) (head_is y e [] earlier (tail_is x a (y ∷ []) (e ∷ earlier) is)) h.1))
-made_before (x ∷ y ∷ []) (a ∷ b ∷ more) earlier e h is = absurd (no_more more earlier e (tail_is y b [] (more ++ e ∷ earlier) (tail_is x a (y ∷ []) (b ∷ (more ++ e ∷ earlier)) is)))
-made_before (x ∷ y ∷ z ∷ es) [] earlier e h is = inl (subst BothMade (tail_is x e (y ∷ z ∷ es) earlier is) h.1)
-made_before (x ∷ y ∷ z ∷ es) (a ∷ more) earlier e h is = made_before (y ∷ z ∷ es) more earlier e h.1 (tail_is x a (y ∷ z ∷ es) (more ++ e ∷ earlier) is)
-
--- an INIT neither boots a node nor settles
-no_boot : (node other : List ℕ) (e : Entry) (s : Statement) → Makes other e → reading e.source.text ≡ Says s → (s ≡ At node Boot) ⊎ (s ≡ Settle) → ⊥
-no_boot node other e s m says (inl boot) = let same : Says (At other (Init m.slots m.journal)) ≡ Says (At node Boot) = sym m.says ∙ says ∙ ap Says boot in let none : ⊥ = cc in none
-no_boot node other e s m says (inr settle) = let same : Says (At other (Init m.slots m.journal)) ≡ Says Settle = sym m.says ∙ says ∙ ap Says settle in let none : ⊥ = cc in none
-
-made_first : (node : List ℕ) (es : List Entry) → BothMade es → ((earlier : List Entry) → BothMade earlier → IsMadeIn node earlier) → IsMadeFirst node es
-made_first node es h there earlier later e s is says boots = by (made_before es later earlier e h is)
-  where
-    by : BothMade earlier ⊎ (Makes A e ⊎ Makes B e) → IsMadeIn node earlier
-    by (inl k) = there earlier k
-    by (inr (inl m)) = absurd (no_boot node A e s m says boots)
-    by (inr (inr m)) = absurd (no_boot node B e s m says boots)
-
-anew_a : (es : List Entry) → BothMade es → IsMadeAnew A es
-anew_a es h = record { first = made_first A es h (λ earlier k. (made_in earlier k).0); made = (made_in es h).0 }
-
-anew_b : (es : List Entry) → BothMade es → IsMadeAnew B es
-anew_b es h = record { first = made_first B es h (λ earlier k. (made_in earlier k).1); made = (made_in es h).1 }
+replaced_both : (es : List Entry) → BothMade es → IsReplaced A es × IsReplaced B es
+replaced_both [] h = absurd h
+replaced_both (e ∷ []) h = absurd h
+replaced_both (e ∷ f ∷ []) h = (inr (inl (replaces A f h.1)), inl (replaces B e h.0))
+replaced_both (e ∷ f ∷ g ∷ es) h = let m = replaced_both (f ∷ g ∷ es) h.1 in (inr m.0, inr m.1)
 
 -- The images, as the lines tell them, are those of new volumes.
 
@@ -106,7 +68,7 @@ opening_with is = record { images = is }
 -- of two nodes of these names
 module _ (n m : Node) (es : List Entry) (h : BothMade es) (first : n.name ≡ A) (second : m.name ≡ B) where
   two_anew : AreKnownOrAnew es (n ∷ m ∷ [])
-  two_anew = (inr (subst (λ (x : List ℕ). IsMadeAnew x es) (sym first) (anew_a es h)), (inr (subst (λ (x : List ℕ). IsMadeAnew x es) (sym second) (anew_b es h)), tt))
+  two_anew = let r = replaced_both es h in (inr (subst (λ (x : List ℕ). IsReplaced x es) (sym first) r.0), (inr (subst (λ (x : List ℕ). IsReplaced x es) (sym second) r.1), tt))
 
   told_are : (a b : List ℕ) (i j : Option Image) → a ≡ A → b ≡ B → with_image a (image_told a i es) (with_image b (image_told b j es) []) ≡ (new_volumes (A ∷ (B ∷ []))).images
   told_are a b i j e f =

@@ -105,7 +105,7 @@ pub record RunsTo (opening : World) (before : List DiskState) (script : Option (
   pub ran : Ran opening script old new (exit_of ended)
   pub leaves : Leaves before ran.closing after
 
--- From these nodes on, of whose disks something is known or whose volumes are made anew, where the images agree with which the run began, more of what entries tell is
+-- From these nodes on, of whose disks something is known or what they had is replaced, where the images agree with which the run began, more of what entries tell is
 -- kept, as what dumps show.
 abbrev pub KeepsAgreed : World → List Node → List Entry → World → Type 0
 KeepsAgreed opening nodes es closing = AreKnownOrAnew es nodes → IsAgreeing (opening_told nodes es) → AgreedPromises opening es closing

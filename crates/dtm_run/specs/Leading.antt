@@ -1,16 +1,16 @@
 -- How the entries of a run lead on from the nodes before its first line, where of some of their disks nothing is known.
-use Rattle.std.specs.Prelude.{◌≡◌, ℕ, List, [], ◌∷◌, ◌++◌, ◌==◌, Bool, true, false, not, ◌&&◌, Option, None, map}
+use Rattle.std.specs.Prelude.{◌≡◌, ◌⊎◌, ℕ, List, [], ◌∷◌, ◌++◌, ◌==◌, Bool, true, false, not, ◌&&◌, Option, None, map}
 use Rattle.std.specs.Option.{option_map}
 use Rattle.std.specs.List.{AllByRecursion}
 use Rattle.block_disk.specs.Disk.{DiskState}
 use Rattle.transcript_model.specs.Lines.{Line}
 use Rattle.transcript_model.specs.Outside.{behind}
 use Rattle.transcript_model.specs.Script.{ScriptLine, lines_of}
-use Rattle.script_model.specs.Statements.{Says, Statement}
+use Rattle.script_model.specs.Statements.{At, Boot, Says, Settle, Statement}
 use Rattle.script_model.specs.Grammar.{reading}
 use Rattle.world_laws.specs.run_model.World.{Node, Unknown, World, nothing_volatile, opened}
 use Rattle.world_laws.specs.run_model.Transcript.{AreInLimits, AreOpening, Ends, Entry, Turn}
-use Rattle.run_laws.specs.Anew.{IsMadeFirst}
+use Rattle.statement_steps.specs.run_agreement.Laws.{IsReplaced}
 use Rattle.run_laws.specs.Promises.{KeptPromises}
 use Rattle.manager_laws.specs.Promises.{ManagerPromises}
 use Rattle.recovery_runs.specs.Promises.{RecoveryPromises}
@@ -144,11 +144,16 @@ abbrev pub KnownRunsAreWhole : Type 0
 KnownRunsAreWhole = (names : List (List ℕ)) (nodes : List Node) (before after : List DiskState) (script old new : Option (List ℕ)) (ended : Exit) → AreKnown nodes →
     RunOver names nodes before after script old new ended → WholeRun nodes before after script old new ended
 
--- before anything boots it, the volume is made of each node of whose disk nothing is known
-abbrev pub AreMadeFirst : List Node → List Entry → Type 0
-AreMadeFirst ns es = AllByRecursion (λ (n : Node). n.durable.volume ≡ Unknown → IsMadeFirst n.name es) ns
+-- Before each of these entries that may boot the node of this name, what its disk had was replaced.
+abbrev pub IsReplacedFirst : List ℕ → List Entry → Type 0
+IsReplacedFirst node es = (earlier later : List Entry) (e : Entry) (s : Statement) → es ≡ later ++ e ∷ earlier → reading e.source.text ≡ Says s → (s ≡ At node Boot) ⊎ (s ≡ Settle) → IsReplaced node earlier
 
--- Whatever was known of the disks: where the volume of each node of whose disk nothing is known is made before it is booted, all entries lead on from the first line.
+-- so of each node of whose disk nothing is known
+abbrev pub AreMadeFirst : List Node → List Entry → Type 0
+AreMadeFirst ns es = AllByRecursion (λ (n : Node). n.durable.volume ≡ Unknown → IsReplacedFirst n.name es) ns
+
+-- Whatever was known of the disks: where what the disk had of each node of which nothing is known is replaced before it is booted, by an INIT that succeeds or that a
+-- failure ends, all entries lead on from the first line.
 abbrev pub MadeRunsAreWhole : Type 0
 MadeRunsAreWhole = (names : List (List ℕ)) (nodes : List Node) (before after : List DiskState) (script old new : Option (List ℕ)) (ended : Exit) (r : RunOver names nodes before after script old new ended) →
     AreMadeFirst nodes (r.run.left_over ++ r.run.led) → WholeRun nodes before after script old new ended

@@ -34,7 +34,7 @@ pub fn known_runs_are_whole()
     ensures { KnownRunsAreWhole }
 {}
 
-/// Whatever the disks had: where the volume of each node of whose disk nothing is known is made before it is booted, a run leads on to its end.
+/// Whatever the disks had: where an INIT of each node of whose disk nothing is known succeeds before it is booted, or a failure ends one, a run leads on to its end.
 pub fn made_runs_are_whole()
     ensures { MadeRunsAreWhole }
 {}

@@ -23,12 +23,11 @@ use Rattle.run_laws.specs.run_agreement.Laws.{next_opening, opening_told}
 use Rattle.run_laws.specs.run_agreement.Seen.{Resolution, has_volume, image_of, landed}
 use Rattle.run_laws.proofs.run_agreement.Openings.{reached_by, sound_of}
 use Rattle.run_laws.specs.Laws.{AgreedPromises, AgreedPromisesAreKept}
-use Rattle.run_laws.specs.Promises.{left_at, settlements_of}
+use Rattle.run_laws.specs.Promises.{settlements_of}
 use Rattle.run_laws.proofs.Deciding.{any_in, in_any}
-use Rattle.run_laws.proofs.LastSettled.{left_found}
 use Rattle.run_laws.proofs.SoundWorlds.{legal_sound, opening_sound}
 use Rattle.run_laws.proofs.Staying.{after_grows, found_settled}
-use Rattle.run_laws.proofs.Undecided.{home, used}
+use Rattle.run_laws.proofs.Undecided.{home}
 use Rattle.recovery_runs.specs.run_chains.Chains.{AreNext, Follow, LeftSo, MadeAreNew, MayAgree, RunOf}
 use Rattle.recovery_runs.specs.run_chains.Reopenings.{IsReopened}
 use Rattle.recovery_runs.proofs.run_chains.Anew.{Turns, prepared_before, shows_in}
@@ -36,7 +35,7 @@ use Rattle.recovery_runs.proofs.run_chains.Names.{Both, Nowhere, Place, place}
 use Rattle.recovery_runs.proofs.run_chains.Next.{Lands, chains_agree, next_runs_agree, turned, turns}
 use Rattle.recovery_runs.specs.LastImages.{LastImagesStand}
 use Rattle.recovery_runs.specs.Promises.{FilesAgree, LastImagesAgree, may_yet_commit}
-use Rattle.recovery_runs.specs.Runs.{AreLawful, EndMay, HasNoGaps, MayOnly}
+use Rattle.recovery_runs.specs.Runs.{AreLawful, EndMay, HasNoGaps, MayOnly, StandsAt}
 use Rattle.recovery_runs.proofs.Awaited.{awaited, lawful_with, recorded}
 use Rattle.recovery_runs.proofs.CommittedLemmas.{is_committed}
 use Rattle.recovery_runs.proofs.PromiseLemmas.{recovery_promises_hold, whole_of}
@@ -130,7 +129,7 @@ module _ (nodes : List Node) (disks : List DiskCounts) (es : List Entry) (closin
         let b = binds k.serial e in
         let sound = legal_sound (opened nodes disks) w before (opening_sound nodes disks may.opening) first in
         let here : find_node k.serial.node w.nodes ≡ Some n = subst (λ y. find_node y w.nodes ≡ Some n) (sym (home w sound node n found k reason q moment under)) found in
-        let doomed = is_doomed nodes disks es closing may legal later after before w split first on (used w sound node n found k reason q moment under) n k reason q moment here under in
+        let doomed = is_doomed nodes disks es closing may legal later after before w split first on n k reason q moment here under in
         doomed_apart a.base closing a.since a.run.is_run b.0 k doomed b.1 b.2);
   }
     where
@@ -154,7 +153,7 @@ module _ (nodes : List Node) (disks : List DiskCounts) (es : List Entry) (closin
       there = subst (λ (o : Option Act). (let z : Node = elim o [ Some x ↦ acted x n | None ↦ n ] in In s z.settled)) (sym under) i
 
   -- One that had changed something before is one of those that may commit by the images with which the run began.
-  waits : (x : Id) (n : Node) → left_at x.node es (opened nodes disks) ≡ Some n → is_unit x n.durable.units ≡ true → may_commit closing next x ≡ true → may_yet_commit (opening_of a.base) x ≡ true
+  waits : (x : Id) (n : Node) → StandsAt x.node es (opened nodes disks) n → is_unit x n.durable.units ≡ true → may_commit closing next x ≡ true → may_yet_commit (opening_of a.base) x ≡ true
   waits x n left unit e = by (binds x e)
     where
       by : Binds x → may_yet_commit (opening_of a.base) x ≡ true
@@ -209,11 +208,11 @@ module _ (promised : AgreedPromisesAreKept) (nodes : List Node) (disks : List Di
   -- What holds of the files on a disk that this run leaves sound, as the next run finds it, holds of each file that this one finds.
   found_so : (Q : ℕ → File → Type 0) →
       ((node : List ℕ) (n m : Node) → find_node node closing.nodes ≡ Some n → n.durable.volume ≡ Sound → IsReopened n m → AllFound (λ file f. Q m.durable.greatest f) m.durable.directory) →
-      (node : List ℕ) (m : Node) → left_at node fs (opened next others) ≡ Some m → AllFound (λ file f. Q m.durable.greatest f) m.durable.directory
+      (node : List ℕ) (m : Node) → StandsAt node fs (opened next others) m → AllFound (λ file f. Q m.durable.greatest f) m.durable.directory
   found_so Q leaves node m left = go (place node closing.nodes next are)
     where
       there : find_node node next ≡ Some m
-      there = left_found node fs (opened next others) m left
+      there = left.0
 
       go : Place node closing.nodes next → AllFound (λ file f. Q m.durable.greatest f) m.durable.directory
       go (Nowhere x y) = let clash : ◌≡◌ {A = Option Node} None (Some m) = sym y ∙ there in let no : ⊥ = cc in absurd no

@@ -4,13 +4,13 @@ use Rattle.world_laws.specs.run_model.World.{DiskCounts, Node, World, opened}
 use Rattle.world_laws.specs.run_model.Transcript.{Entry, Legal}
 use Rattle.world_laws.specs.Running.{AllFound}
 use Rattle.run_laws.specs.run_agreement.Seen.{has_volume}
-use Rattle.run_laws.specs.Promises.{left_at}
 use Rattle.recovery_runs.specs.run_chains.Chains.{AreNext, Follow, MadeAreNew, MayAgree, RunOf}
 use Rattle.recovery_runs.specs.Promises.{FilesAgree, LastImagesAgree, RecoveriesGiven}
+use Rattle.recovery_runs.specs.Runs.{StandsAt}
 
--- A disk without a volume has no files, unless these entries make its volume anew.
+-- A disk without a volume has no files, unless these entries replace what it had.
 abbrev pub AreBare : World → List Entry → Type 0
-AreBare opening es = (node : List ℕ) (n : Node) → left_at node es opening ≡ Some n → has_volume n ≡ false → AllFound (λ file f. ⊥) n.durable.directory
+AreBare opening es = (node : List ℕ) (n : Node) → StandsAt node es opening n → has_volume n ≡ false → AllFound (λ file f. ⊥) n.durable.directory
 
 -- Let the premises hold under which all is promised of a run that is promised where images agree, and let the files that it finds agree with their journals and saves, and
 -- with the branches that may yet commit, and have no gaps. Then so do the files that the next run finds, whatever turned out of the acts that were under way at the end.

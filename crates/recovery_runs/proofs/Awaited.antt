@@ -13,7 +13,7 @@ use Rattle.recovery_model.specs.Journal.{is_commit}
 use Rattle.recovery_model.specs.unit_laws.JournalLaws.{is_unit}
 use Rattle.transcript_model.specs.commit_protocol.Messages.{LogRecord, same_id}
 use Rattle.transcript_model.specs.commit_protocol.Agreement.{IsDead, view}
-use Rattle.transcript_model.specs.commit_protocol.Opening.{Image, OldIn, Opening, commits_in, image_at, image_in, in_rack, opened as raised, or_none}
+use Rattle.transcript_model.specs.commit_protocol.Opening.{Image, OldIn, no_image, Opening, commits_in, image_at, image_in, in_rack, opened as raised, or_none}
 use Rattle.transcript_model.specs.commit_protocol.Table as table
 use Rattle.transcript_model.specs.commit_protocol.Table.{Key as BranchKey, child, first}
 use Rattle.transcript_model.specs.commit_protocol.World as protocol
@@ -27,10 +27,10 @@ use Rattle.log_laws.specs.Slots.{prepared_of, records_in}
 use Rattle.recovery_laws.specs.run_model.World as world
 use Rattle.recovery_laws.specs.run_model.World.{Act, DiskCounts, Node, Settlement, World, acted, find_node, opened, prepared_left, state_of}
 use Rattle.recovery_laws.specs.run_model.Answers.{Serves, Task, task_service}
-use Rattle.recovery_laws.specs.run_model.Transcript.{AreOpening, Entry, Legal, Turn}
+use Rattle.recovery_laws.specs.run_model.Transcript.{AreOpening, Entry, Legal}
 use Rattle.recovery_laws.proofs.run_model.NodeLists.{found_name, some_is}
 use Rattle.run_laws.specs.run_agreement.Following.{opening_of}
-use Rattle.run_laws.specs.run_agreement.Laws.{IsReachedBy, IsUnused, MakesNoVolume, NamesApart, RunsFrom, image_told, opening_told, volume_image}
+use Rattle.run_laws.specs.run_agreement.Laws.{IsReachedBy, IsReplaced, IsUnused, MakesNoVolume, NamesApart, Replaces, RunsFrom, image_after_init, image_here, image_told, opening_told, volume_image}
 use Rattle.run_laws.specs.run_agreement.Seen.{Resolution, has_volume, image_of, landed}
 use Rattle.run_laws.proofs.run_agreement.Booting.{left_rearranged, ready_of}
 use Rattle.run_laws.proofs.run_agreement.Events.{down_of_face}
@@ -41,14 +41,12 @@ use Rattle.recovery_laws.proofs.world_laws.IdLemmas.{id_is}
 use Rattle.run_chains.specs.Chains.{is_made, made_by, made_here}
 use Rattle.run_laws.proofs.ToldImages.{in_base, told_found}
 use Rattle.run_chains.proofs.Told.{IsToldSo, told_so}
-use Rattle.run_laws.specs.Accounts.{made_anew}
 use Rattle.run_laws.specs.Laws.{AgreedPromises}
-use Rattle.run_laws.specs.Promises.{left_at, settlements_of}
-use Rattle.run_laws.proofs.Anewed.{init_lines}
+use Rattle.run_laws.specs.Promises.{settlements_of}
+use Rattle.run_laws.proofs.run_agreement.Told.{IsQuiet, replaces_or_quiet}
 use Rattle.run_laws.proofs.Deciding.{any_in, in_any}
 use Rattle.run_laws.proofs.FileTelling.{no_changes}
 use Rattle.run_laws.proofs.Keeping.{Kept, Keeps, Scheme, all_take, else_effect, is_init, is_special}
-use Rattle.run_laws.proofs.LastSettled.{left_found}
 use Rattle.run_laws.proofs.OneBranch as branch
 use Rattle.run_laws.proofs.OneBranch.{one, one_keeps}
 use Rattle.run_laws.proofs.Once.{unit_of}
@@ -56,7 +54,7 @@ use Rattle.run_laws.proofs.Paths.{turn_on}
 use Rattle.run_laws.proofs.SoundWorlds.{IsPlainReading, IsSound, Tracked, Tracks, legal_sound, opening_sound, turn_tracked}
 use Rattle.run_laws.proofs.Staying.{found_settled}
 use Rattle.recovery_runs.specs.Promises.{FilesAgree, may_yet_commit}
-use Rattle.recovery_runs.specs.Runs.{AreLawful, committed_in}
+use Rattle.recovery_runs.specs.Runs.{AreLawful, StandsAt, committed_in}
 use Rattle.recovery_runs.proofs.CommittedLemmas.{is_committed}
 
 -- Along entries that make no volume.
@@ -158,36 +156,29 @@ landed_known t k a true n h = go n.under_way refl
     go (Some act) e = h.way act e
     go None e = h.disk
 
--- A volume that the lines make is of a node that an INIT made anew.
+-- A volume that the lines make replaces what the disk had.
 
-made_before : (mid w : World) (node : List ℕ) (r : Reading) (lines : List Line) (made : Bool) → Turn mid r lines w → made_anew node r lines ≡ false → made_here node r (last_or None lines) made ≡ true → made ≡ true
-made_before mid w node (Says (At m (Init slots journal))) lines made turn anew e = go (bytes_eq m node) refl e
+made_replaced : (node : List ℕ) (es : List Entry) → is_made node es ≡ true → IsReplaced node es
+made_replaced node [] e = let no : ⊥ = cc in absurd no
+made_replaced node (e ∷ es) made = go (replaces_or_quiet node e) (made_replaced node es)
   where
-    by : bytes_eq m node ≡ true → (a : Option Line) → last_or None lines ≡ a → made_by a made ≡ true → made ≡ true
-    by same (Some Normal) last h =
-        let is : lines ≡ Normal ∷ [] = init_lines mid w m slots journal lines turn last in
-        absurd (both_ways _ anew (ap (made_anew node (Says (At m (Init slots journal)))) is ∙ same))
-    by same (Some (Broken cause)) last h = let no : ⊥ = cc in absurd no
-    by same (Some _) last h = h
-    by same None last h = h
+    -- an entry that tells of no other image makes none
+    by : (r : Reading) (o : Option Line) → ((i : Option Image) → image_here node r o i ≡ i) → made_here node r o (is_made node es) ≡ true → is_made node es ≡ true
+    by (Says (At m (Init slots journal))) o quiet h = at (bytes_eq m node) o quiet h
+      where
+        at : (b : Bool) (o : Option Line) → ((i : Option Image) → (if b then image_after_init o i else i) ≡ i) → (if b then made_by o (is_made node es) else is_made node es) ≡ true → is_made node es ≡ true
+        at true (Some Normal) quiet h = let clash : ◌≡◌ {A = Option Image} (Some no_image) None = quiet None in let no : ⊥ = cc in absurd no
+        at true (Some (Broken cause)) quiet h = let no : ⊥ = cc in absurd no
+        at true (Some l) quiet h = h
+        at true None quiet h = h
+        at false o quiet h = h
+    by (Says (At m r)) o quiet h = h
+    by (Says s) o quiet h = h
+    by r o quiet h = h
 
-    go : (b : Bool) → bytes_eq m node ≡ b → (if b then made_by (last_or None lines) made else made) ≡ true → made ≡ true
-    go true same h = by same (last_or None lines) refl h
-    go false same h = h
-made_before mid w node (Says (At m _)) lines made turn anew e = e
-made_before mid w node (Says (Deliver number)) lines made turn anew e = e
-made_before mid w node (Says (LinkDown a b)) lines made turn anew e = e
-made_before mid w node (Says Settle) lines made turn anew e = e
-made_before mid w node Blank lines made turn anew e = e
-made_before mid w node (Bad column) lines made turn anew e = e
-
-made_not_left : (opening w : World) (node : List ℕ) (es : List Entry) → Legal opening es w → is_made node es ≡ true → left_at node es opening ≡ None
-made_not_left opening w node [] legal e = let no : ⊥ = cc in absurd no
-made_not_left opening w node (e ∷ es) legal made = go (made_anew node (reading e.source.text) e.lines) refl (made_not_left opening legal.0 node es legal.1)
-  where
-    go : (b : Bool) → made_anew node (reading e.source.text) e.lines ≡ b → (is_made node es ≡ true → left_at node es opening ≡ None) → left_at node (e ∷ es) opening ≡ None
-    go true anew more = ap (λ b. if b then None else left_at node es opening) anew
-    go false anew more = ap (λ b. if b then None else left_at node es opening) anew ∙ more (made_before legal.0 w node (reading e.source.text) e.lines (is_made node es) legal.2 anew made)
+    go : Replaces node e ⊎ IsQuiet node e → (is_made node es ≡ true → IsReplaced node es) → IsReplaced node (e ∷ es)
+    go (inl r) more = inl r
+    go (inr quiet) more = inr (more (by (reading e.source.text) (last_or None e.lines) quiet made))
 
 -- Branches that are committed.
 
@@ -217,10 +208,10 @@ module _ (nodes : List Node) (disks : List DiskCounts) (es : List Entry) (closin
   kept_disk : (node : List ℕ) (n : Node) → find_node node nodes ≡ Some n → IsKeptDisk n
   kept_disk node n found = ((opening_sound nodes disks opens).kept node n found).disk
 
-  -- A unit x of a node's disk, the volume of which no entry makes anew, and of whose node there is an image.
-  module _ (x : Id) (n : Node) (left : left_at x.node es (opened nodes disks) ≡ Some n) (unit : is_unit x n.durable.units ≡ true) (there : in_rack o x.node ≡ true) where
+  -- A unit x of a node's disk, which no entry replaces, and of whose node there is an image.
+  module _ (x : Id) (n : Node) (left : StandsAt x.node es (opened nodes disks) n) (unit : is_unit x n.durable.units ≡ true) (there : in_rack o x.node ≡ true) where
     first_found : find_node x.node nodes ≡ Some n
-    first_found = left_found x.node es (opened nodes disks) n left
+    first_found = left.0
 
     told : image_in x.node o.images ≡ image_told x.node (volume_image n) es
     told = ap (λ (p : Opening). image_in x.node p.images) a.told ∙ told_found x.node nodes es n apart first_found
@@ -237,7 +228,7 @@ module _ (nodes : List Node) (disks : List DiskCounts) (es : List Entry) (closin
         with_volume false has e = absurd (not_none e)
 
         by : IsToldSo (volume_image n) (is_made x.node es) (image_told x.node (volume_image n) es) → image_in x.node o.images ≡ Some (image_of n)
-        by (inl made) = let clash : ◌≡◌ {A = Option Node} None (Some n) = sym (made_not_left (opened nodes disks) closing x.node es legal made.0) ∙ left in let no : ⊥ = cc in absurd no
+        by (inl made) = absurd (left.1 (made_replaced x.node es made.0))
         by (inr kept) = elim kept.1 [
           | inl e ↦ with_volume (has_volume n) refl (told ∙ e)
           | inr e ↦ absurd (not_none (told ∙ e))
@@ -304,7 +295,7 @@ module _ (nodes : List Node) (disks : List DiskCounts) (es : List Entry) (closin
         by false is = absurd (alive (dead is))
 
   -- It was committed.
-  module _ (x : Id) (n : Node) (left : left_at x.node es (opened nodes disks) ≡ Some n) (unit : is_unit x n.durable.units ≡ true) (s : Settlement) (y : Node) (found : find_node x.node closing.nodes ≡ Some y) (i : In s y.settled) (same : s.serial ≡ x) (commits : s.outcome ≡ Commit) where
+  module _ (x : Id) (n : Node) (left : StandsAt x.node es (opened nodes disks) n) (unit : is_unit x n.durable.units ≡ true) (s : Settlement) (y : Node) (found : find_node x.node closing.nodes ≡ Some y) (i : In s y.settled) (same : s.serial ≡ x) (commits : s.outcome ≡ Commit) where
     abbrev key : BranchKey
     key = child s.tid x
 
@@ -321,13 +312,13 @@ module _ (nodes : List Node) (disks : List DiskCounts) (es : List Entry) (closin
     shown : may_yet_commit o x ≡ true
     shown = awaited x n left unit there s.tid ((recorded x n left unit there false y found).commits s i same commits) (λ dead. (goes.later.dead s.tid dead).commits (goes.good.inv.upward key committed))
 
-  -- Let each unit that may commit, on the disk of a node the volume of which no entry makes anew, be such a branch. Then the files are lawful with these.
-  pub lawful_with : (may : Id → Bool) → ((x : Id) (n : Node) → left_at x.node es (opened nodes disks) ≡ Some n → is_unit x n.durable.units ≡ true → may x ≡ true → may_yet_commit o x ≡ true) →
+  -- Let each unit that may commit, on the disk of a node that no entry replaces, be such a branch. Then the files are lawful with these.
+  pub lawful_with : (may : Id → Bool) → ((x : Id) (n : Node) → StandsAt x.node es (opened nodes disks) n → is_unit x n.durable.units ≡ true → may x ≡ true → may_yet_commit o x ≡ true) →
       FilesAgree (opened nodes disks) es → AreLawful may (may_yet_commit (opening_told nodes es)) (opened nodes disks) es
   lawful_with may waits agree node n left file f at = ((agree node n left file f at).0, λ x c. by x c (is_unit x n.durable.units) refl)
     where
       first_found : find_node node nodes ≡ Some n
-      first_found = left_found node es (opened nodes disks) n left
+      first_found = left.0
 
       disk : IsKeptDisk n
       disk = kept_disk node n first_found
@@ -335,14 +326,14 @@ module _ (nodes : List Node) (disks : List DiskCounts) (es : List Entry) (closin
       by : (x : Id) → may x ≡ true → (b : Bool) → is_unit x n.durable.units ≡ b → (may_yet_commit (opening_told nodes es) x ≡ true) ⊎ (changes_by x (state_of f).timeline.history.live ≡ [])
       by x c true unit =
           let home : x.node ≡ node = (unit_of n disk x unit).0 ∙ found_name node nodes n first_found in
-          inl (subst (λ (p : Opening). may_yet_commit p x ≡ true) a.told (waits x n (subst (λ m. left_at m es (opened nodes disks) ≡ Some n) (sym home) left) unit c))
+          inl (subst (λ (p : Opening). may_yet_commit p x ≡ true) a.told (waits x n (subst (λ m. StandsAt m es (opened nodes disks) n) (sym home) left) unit c))
       by x c false none = inr (subst (λ q. changes_by x (history_of q).live ≡ []) at (no_changes n.durable.units n.durable.directory x file disk.filed.can none))
 
   -- So a branch that is committed, and had changed something in a file before, is one that may yet commit.
   pub lawful : FilesAgree (opened nodes disks) es → AreLawful (committed_in closing) (may_yet_commit (opening_told nodes es)) (opened nodes disks) es
   lawful agree = lawful_with (committed_in closing) (λ x n left unit c. shown_at x n left unit c (find_node x.node closing.nodes) refl) agree
     where
-      shown_at : (x : Id) (n : Node) → left_at x.node es (opened nodes disks) ≡ Some n → is_unit x n.durable.units ≡ true → committed_in closing x ≡ true → (q : Option Node) → find_node x.node closing.nodes ≡ q → may_yet_commit o x ≡ true
+      shown_at : (x : Id) (n : Node) → StandsAt x.node es (opened nodes disks) n → is_unit x n.durable.units ≡ true → committed_in closing x ≡ true → (q : Option Node) → find_node x.node closing.nodes ≡ q → may_yet_commit o x ≡ true
       shown_at x n left unit c (Some y) found =
           let s = any_in (λ (t : Settlement). same x t.serial && is_commit t.outcome) (settlements_of x.node closing) c in
           let parts = and_parts (same x s.0.serial) (is_commit s.0.outcome) s.2 in

@@ -1,7 +1,9 @@
 -- Recoveries in whole runs.
-use Rattle.std.proofs.Common.{◌≡◌, ◌⊎◌, append-nil, ℕ, List, [], ◌∷◌, ◌++◌, Bool, true, false, ◌&&◌, Option, Some, None, if◌then◌else◌, refl, sym, ◌∙◌, ap, subst, inl, inr}
+use Rattle.std.proofs.Common.{◌≡◌, ◌⊎◌, append-nil, ℕ, List, [], ◌∷◌, ◌++◌, Bool, true, false, ◌&&◌, Option, Some, None, refl, sym, ◌∙◌, ap, subst, inl, inr}
 use Rattle.std.specs.Str.{bytes_eq}
-use Rattle.std.proofs.lemmas.Bool.{both_ways}
+use Rattle.std.specs.List.{last_or}
+use Rattle.std.proofs.lemmas.Bool.{both_ways, false_from_ne_true}
+use Rattle.transcript_model.specs.Lines.{Broken, Cause, Normal}
 use Rattle.vms_model.specs.Ids.{Id}
 use Rattle.vms_model.specs.Transactions.{Abort, Commit, Reason}
 use Rattle.script_model.specs.Statements.{At, Reading, Says}
@@ -18,11 +20,16 @@ use Rattle.recovery_laws.proofs.run_model.NodeLists.{found_name}
 use Rattle.recovery_laws.specs.world_laws.Running.{AllFound}
 use Rattle.recovery_laws.proofs.world_laws.FileLemmas.{found_mapped, none_empty}
 use Rattle.recovery_laws.proofs.world_laws.WorldLemmas.{each_opening}
+use Rattle.run_laws.specs.run_agreement.Laws.{Replaces}
 use Rattle.run_laws.specs.Accounts.{made_anew}
-use Rattle.run_laws.specs.Promises.{left_at, settlements_of}
+use Rattle.run_laws.specs.Promises.{settlements_of}
+use Rattle.run_laws.proofs.run_agreement.Found.{bytes_itself}
+use Rattle.run_laws.proofs.run_agreement.Told.{IsQuiet, replaces_or_quiet, replaces_tells}
 use Rattle.run_laws.proofs.DumpsShown.{legal_on, split_on}
 use Rattle.run_laws.proofs.Keeping.{Keeps, Kept, Scheme, all_take, any_effect}
-use Rattle.run_laws.proofs.MadeAnew.{made_empty}
+use Rattle.run_laws.proofs.InitLines.{init_lines}
+use Rattle.run_laws.proofs.MadeAnew.{made_empty, made_says}
+use Rattle.run_laws.proofs.Spoilt.{IsShut, Shuts, spoilt_shuts, turn_shuts}
 use Rattle.run_laws.proofs.SoundWorlds.{IsPlainReading, Tracked, Tracks, legal_sound, opening_sound, turn_tracked, unused}
 use Rattle.run_laws.proofs.Staying.{Stay, found_settled, stays}
 use Rattle.run_chains.specs.Reopenings.{IsReopened, rebased_file, reopened}
@@ -32,7 +39,7 @@ use Rattle.recovery_runs.proofs.LastImageLemmas.{fewer_last_images, more_last_im
 use Rattle.recovery_laws.proofs.LedLemmas.{told_agree}
 use Rattle.recovery_laws.proofs.MappedLemmas.{mapped_give}
 use Rattle.recovery_laws.proofs.RecoveringLemmas.{recoveries_give_records}
-use Rattle.recovery_runs.specs.Runs.{AreLawful, AreStanding, AreWhole, EndMay, FilesStayTold, FilesStayWhole, HasNoGaps, LastImagesHold, LeftFilesHold, NextFilesHold, NextFilesWhole, NextLastImagesHold, NoFileHasGaps, RecoveriesHold}
+use Rattle.recovery_runs.specs.Runs.{AreLawful, AreStanding, AreWhole, EndMay, FilesStayTold, FilesStayWhole, HasNoGaps, LastImagesHold, LeftFilesHold, MayOnly, NextFilesHold, NextFilesWhole, NextLastImagesHold, NoFileHasGaps, RecoveriesHold, StandsAt}
 use Rattle.recovery_runs.proofs.FilesKept.{ActsKeep, AreSo, Betrays, half_known, scheme, scheme_keeps}
 use Rattle.recovery_runs.proofs.ToldKept.{DoStand, HasNone, IsWhole, gapless_acts, standing_acts, told_acts, whole_acts}
 
@@ -73,13 +80,13 @@ module _ (may : Id → Bool) (Doomed : Id → Type 0) (Q : ℕ → File → Type
   plain_reading _ = tt
 
   module _ (nodes : List Node) (disks : List DiskCounts) (later : List Entry) (closing : World) (opens : AreOpening nodes) where
-    -- of this node's files, unless these entries make its volume anew
+    -- of this node's files, unless these entries replace what its disk had
     abbrev AreFound : List Entry → Type 0
-    AreFound es = (n : Node) → left_at node es (opened nodes disks) ≡ Some n → AllFound (λ file f. Q n.durable.greatest f) n.durable.directory
+    AreFound es = (n : Node) → StandsAt node es (opened nodes disks) n → AllFound (λ file f. Q n.durable.greatest f) n.durable.directory
 
     opening_kept : AreFound [] → (n : Node) → find_node node nodes ≡ Some n → Kept Path path_keeps tt n
     opening_kept finds n found = let o = each_opening nodes opens node n found in record {
-      disk = inr (finds n found);
+      disk = inr (finds n (found, λ none. none));
       way = λ act e. let clash : ◌≡◌ {A = Option Act} None (Some act) = sym o.under_way ∙ e in let no : ⊥ = cc in absurd no;
       runs = λ up. absurd (both_ways n.up o.down up);
     }
@@ -94,9 +101,10 @@ module _ (may : Id → Bool) (Doomed : Id → Type 0) (Q : ℕ → File → Type
           runs = λ up. inr bare;
         }
 
-    path_kept : (es after : List Entry) (w : World) → AreFound es → AbortsDoom Doomed (opened nodes disks) (later ++ (after ++ es)) closing → Legal (opened nodes disks) es w → Legal w after closing → Tracked Path path_keeps node tt w
-    path_kept [] after w finds doom legal on = subst (Tracked Path path_keeps node tt) (sym legal) (opening_kept finds)
-    path_kept (e ∷ es) after w finds doom legal on = by (made_anew node (reading e.source.text) e.lines) refl finds (path_kept es (after ++ e ∷ []) mid)
+    -- or its disk is one whose INIT failed
+    path_kept : (es after : List Entry) (w : World) → AreFound es → AbortsDoom Doomed (opened nodes disks) (later ++ (after ++ es)) closing → Legal (opened nodes disks) es w → Legal w after closing → Tracked Path path_keeps node tt w ⊎ Shuts node w
+    path_kept [] after w finds doom legal on = inl (subst (Tracked Path path_keeps node tt) (sym legal) (opening_kept finds))
+    path_kept (e ∷ es) after w finds doom legal on = by (replaces_or_quiet node e) finds (path_kept es (after ++ e ∷ []) mid)
       where
         mid : World
         mid = legal.0
@@ -112,10 +120,24 @@ module _ (may : Id → Bool) (Doomed : Id → Type 0) (Q : ℕ → File → Type
             (λ n found k reason r moment under. before later (after ++ e ∷ []) es mid node n k reason r moment refl legal.1 behind found under)
             (reading e.source.text) e.lines tt (plain_reading (reading e.source.text)) legal.2 (legal_sound (opened nodes disks) mid es (opening_sound nodes disks opens) legal.1) kept
 
-        by : (b : Bool) → made_anew node (reading e.source.text) e.lines ≡ b → ((n : Node) → (if b then None else left_at node es (opened nodes disks)) ≡ Some n → AllFound (λ file f. Q n.durable.greatest f) n.durable.directory) →
-            (AreFound es → AbortsDoom Doomed (opened nodes disks) (later ++ ((after ++ e ∷ []) ++ es)) closing → Legal (opened nodes disks) es mid → Legal mid (after ++ e ∷ []) closing → Tracked Path path_keeps node tt mid) → Tracked Path path_keeps node tt w
-        by true made law more = anew_kept mid w e legal.2 made
-        by false made law more = on_from (more law before legal.1 behind)
+        unmade : IsQuiet node e → made_anew node (reading e.source.text) e.lines ≡ false
+        unmade quiet = false_from_ne_true _ (λ made.
+            let x = made_says node (reading e.source.text) e.lines made in
+            replaces_tells node e (record { slots = x.0; journal = x.1; says = x.2; answered = inl (ap (last_or None) x.3) }) quiet)
+
+        inits : (r : Replaces node e) → (last_or None e.lines ≡ Some Normal) ⊎ ((cause : Cause) × (last_or None e.lines ≡ Some (Broken cause))) → Tracked Path path_keeps node tt w ⊎ Shuts node w
+        inits r (inl made) =
+            let lines : e.lines ≡ Normal ∷ [] = init_lines mid w node r.slots r.journal e.lines (subst (λ (q : Reading). Turn mid q e.lines w) r.says legal.2) made in
+            inl (anew_kept mid w e legal.2 ((λ i. made_anew node (r.says i) (lines i)) ∙ bytes_itself node node refl))
+        inits r (inr broken) = inr (spoilt_shuts node mid w e r.slots r.journal broken.0 r.says broken.1 legal.2)
+
+        by : Replaces node e ⊎ IsQuiet node e → AreFound (e ∷ es) → (AreFound es → AbortsDoom Doomed (opened nodes disks) (later ++ ((after ++ e ∷ []) ++ es)) closing → Legal (opened nodes disks) es mid → Legal mid (after ++ e ∷ []) closing → Tracked Path path_keeps node tt mid ⊎ Shuts node mid) →
+            Tracked Path path_keeps node tt w ⊎ Shuts node w
+        by (inl r) law more = inits r r.answered
+        by (inr quiet) law more = elim (more (λ n at. law n (at.0, λ k. elim k [ inl r ↦ replaces_tells node e r quiet | inr was ↦ at.1 was ])) before legal.1 behind) [
+          | inl kept ↦ inl (on_from kept)
+          | inr shut ↦ inr (turn_shuts node mid w (reading e.source.text) e.lines legal.2 (unmade quiet) shut)
+        ]
 
   module _ (nodes : List Node) (disks : List DiskCounts) (later after es : List Entry) (w closing : World) (opens : AreOpening nodes) (finds : AreFound nodes disks later closing opens es) (commits : CommitsMay may closing)
       (doom : AbortsDoom Doomed (opened nodes disks) (later ++ (after ++ es)) closing) (legal : Legal (opened nodes disks) es w) (on : Legal w after closing) (n : Node) (found : find_node node w.nodes ≡ Some n) where
@@ -126,11 +148,14 @@ module _ (may : Id → Bool) (Doomed : Id → Type 0) (Q : ℕ → File → Type
     never : Betrays may Doomed Q keeps n.settled → {A : Type 0} → A
     never b = absurd (both_ways _ b.3 (commits b.0 (subst (λ x. In b.0 (settlements_of x closing)) (sym (home b.0 b.1)) (stay_after w closing after on node b.0 (subst (In b.0) (sym (found_settled node w n found)) b.1))) b.2))
 
-    kept : Kept Path path_keeps tt n
-    kept = path_kept nodes disks later closing opens es after w finds doom legal on n found
+    kept : IsShut n ⊎ Kept Path path_keeps tt n
+    kept = elim (path_kept nodes disks later closing opens es after w finds doom legal on) [ inl all ↦ inr (all n found) | inr shut ↦ inl (shut n found) ]
 
-    pub stays_so : AllFound (λ file f. Q n.durable.greatest f) n.durable.directory
-    stays_so = elim kept.disk [ inr files ↦ files | inl b ↦ never b ]
+    pub stays_or_shut : IsShut n ⊎ AllFound (λ file f. Q n.durable.greatest f) n.durable.directory
+    stays_or_shut = elim kept [ inl shut ↦ inl shut | inr k ↦ inr (elim k.disk [ inr files ↦ files | inl b ↦ never b ]) ]
+
+    pub stays_so : n.unmade ≡ false → AllFound (λ file f. Q n.durable.greatest f) n.durable.directory
+    stays_so made = elim stays_or_shut [ inl shut ↦ absurd (both_ways n.unmade made shut.unmade) | inr files ↦ files ]
 
   -- What of them holds behind the run holds of the files that the next run finds on a disk, whatever turned out of an act that was under way.
   module _ (nodes : List Node) (disks : List DiskCounts) (es : List Entry) (closing : World) (opens : AreOpening nodes) (finds : AreFound nodes disks [] closing opens es) (commits : CommitsMay may closing)
@@ -155,7 +180,10 @@ module _ (may : Id → Bool) (Doomed : Id → Type 0) (Q : ℕ → File → Type
     nothing_betrayed = never nodes disks [] [] es closing closing opens finds commits doom legal refl n found
 
     left : Kept Path path_keeps tt n
-    left = kept nodes disks [] [] es closing closing opens finds commits doom legal refl n found
+    left = elim (kept nodes disks [] [] es closing closing opens finds commits doom legal refl n found) [
+      | inl shut ↦ (let clash : Sound ≡ Unknown = sym sound ∙ shut.volume in let no : ⊥ = cc in absurd no)
+      | inr k ↦ k
+    ]
 
     -- what holds of a node's files the next run finds
     opens_so : (x : Node) → AreSo may Doomed Q keeps x.durable.greatest x.durable.directory → m ≡ reopened x → AllFound (λ file f. Next m.durable.greatest f) m.durable.directory
@@ -176,40 +204,51 @@ module _ (may : Id → Bool) (Doomed : Id → Type 0) (Q : ℕ → File → Type
 -- Files of which recovery can tell.
 
 module _ (may waits : Id → Bool) (nodes : List Node) (disks : List DiskCounts) (es : List Entry) (lawful : AreLawful may waits (opened nodes disks) es) (node : List ℕ) where
-  found_told : (n : Node) → left_at node es (opened nodes disks) ≡ Some n → AllFound (λ file f. IsTold may waits n.durable.greatest f) n.durable.directory
+  found_told : (n : Node) → StandsAt node es (opened nodes disks) n → AllFound (λ file f. IsTold may waits n.durable.greatest f) n.durable.directory
   found_told n left file f there = let l = lawful node n left file f there in inl (record { acts = []; moment = n.durable.greatest; first = state_of f; opening = l.0; commits = l.1; leads = (refl, refl) })
 
-  found_whole : AreWhole (opened nodes disks) es → (n : Node) → left_at node es (opened nodes disks) ≡ Some n → AllFound (λ file f. IsWhole may waits n.durable.greatest f) n.durable.directory
+  found_whole : AreWhole (opened nodes disks) es → (n : Node) → StandsAt node es (opened nodes disks) n → AllFound (λ file f. IsWhole may waits n.durable.greatest f) n.durable.directory
   found_whole whole n left file f there =
       let l = lawful node n left file f there in
       let w = whole node n left file f there in
       (inl (record { found = record { acts = []; moment = n.durable.greatest; first = state_of f; opening = l.0; commits = l.1; leads = (refl, refl) }; each = w.gapless.committed; given = w.given }), w.gapless)
 
-  found_standing : AreStanding waits (opened nodes disks) es → (n : Node) → left_at node es (opened nodes disks) ≡ Some n → AllFound (λ file f. DoStand may n.durable.greatest f) n.durable.directory
+  found_standing : AreStanding waits (opened nodes disks) es → (n : Node) → StandsAt node es (opened nodes disks) n → AllFound (λ file f. DoStand may n.durable.greatest f) n.durable.directory
   found_standing stands n left file f there = let l = lawful node n left file f there in more_last_images may waits (state_of f) l.1 l.0.lawful.ai_keys (stands node n left file f there)
 
 pub files_stay_told : FilesStayTold
-files_stay_told nodes disks later after es w closing may waits opens lawful only legal on node n found =
-    stays_so may (λ x. may x ≡ false) (IsTold may waits) (told_acts may waits) node nodes disks later after es w closing opens (found_told may waits nodes disks es lawful node) only.commits only.aborts legal on n found
+files_stay_told nodes disks later after es w closing may waits opens lawful only legal on node n found made =
+    stays_so may (λ x. may x ≡ false) (IsTold may waits) (told_acts may waits) node nodes disks later after es w closing opens (found_told may waits nodes disks es lawful node) only.commits only.aborts legal on n found made
+
+-- of a node that is up, whose disk is none whose INIT failed
+up_files : (n : Node) → n.up ≡ true → {A : Type 0} → IsShut n ⊎ A → A
+up_files n up h = elim h [ inl shut ↦ absurd (both_ways n.up shut.down up) | inr all ↦ all ]
+
+whole_now : (may waits : Id → Bool) (n : Node) → AllFound (λ file f. IsWhole may waits n.durable.greatest f) n.durable.directory → AllFound (λ file f. HasNoGaps f) n.durable.directory
+whole_now may waits n all file f there = let x = all file f there in record { gapless = x.1; given = (mapped_give may waits n.durable.greatest f x.0).now }
 
 pub files_stay_whole : FilesStayWhole
-files_stay_whole nodes disks later after es w closing may waits opens lawful whole only legal on node n found file f there =
-    let x = stays_so may (λ x. may x ≡ false) (IsWhole may waits) (whole_acts may waits) node nodes disks later after es w closing opens (found_whole may waits nodes disks es lawful node whole) only.commits only.aborts legal on n found file f there in
-    record { gapless = x.1; given = (mapped_give may waits n.durable.greatest f x.0).now }
+files_stay_whole nodes disks later after es w closing may waits opens lawful whole only legal on node n found made =
+    whole_now may waits n (stays_so may (λ x. may x ≡ false) (IsWhole may waits) (whole_acts may waits) node nodes disks later after es w closing opens (found_whole may waits nodes disks es lawful node whole) only.commits only.aborts legal on n found made)
+
+pub up_files_whole : (nodes : List Node) (disks : List DiskCounts) (later after es : List Entry) (w closing : World) (may waits : Id → Bool) → AreOpening nodes → AreLawful may waits (opened nodes disks) es → AreWhole (opened nodes disks) es → MayOnly may (opened nodes disks) (later ++ (after ++ es)) closing →
+    Legal (opened nodes disks) es w → Legal w after closing → (node : List ℕ) (n : Node) → find_node node w.nodes ≡ Some n → n.up ≡ true → AllFound (λ file f. HasNoGaps f) n.durable.directory
+up_files_whole nodes disks later after es w closing may waits opens lawful whole only legal on node n found up =
+    whole_now may waits n (up_files n up (stays_or_shut may (λ x. may x ≡ false) (IsWhole may waits) (whole_acts may waits) node nodes disks later after es w closing opens (found_whole may waits nodes disks es lawful node whole) only.commits only.aborts legal on n found))
 
 -- without any premise on branches and journals
 pub no_file_has_gaps : NoFileHasGaps
-no_file_has_gaps nodes disks es w opens gapless legal node n found =
-    stays_so (λ x. true) (λ x. Unit {0}) HasNone (gapless_acts (λ x. true) (λ x. Unit {0})) node nodes disks [] [] es w w opens (gapless node) (λ s i commits. refl) (λ later after before v other m k reason r moment split first on at under. tt) legal refl n found
+no_file_has_gaps nodes disks es w opens gapless legal node n found made =
+    stays_so (λ x. true) (λ x. Unit {0}) HasNone (gapless_acts (λ x. true) (λ x. Unit {0})) node nodes disks [] [] es w w opens (gapless node) (λ s i commits. refl) (λ later after before v other m k reason r moment split first on at under. tt) legal refl n found made
 
 pub recoveries_hold : RecoveriesHold
 recoveries_hold nodes disks later after es w closing may waits opens lawful only legal on node n found up file way f there first =
     recoveries_give_records w.shared n file way f may waits ((legal_sound (opened nodes disks) w es (opening_sound nodes disks opens) legal).kept node n found) up there first
-    (files_stay_told nodes disks later after es w closing may waits opens lawful only legal on node n found file f there)
+    (up_files n up (stays_or_shut may (λ x. may x ≡ false) (IsTold may waits) (told_acts may waits) node nodes disks later after es w closing opens (found_told may waits nodes disks es lawful node) only.commits only.aborts legal on n found) file f there)
 
 pub left_files_hold : LeftFilesHold
-left_files_hold nodes disks es closing may waits next opens lawful only legal fewer node n found file f there =
-    told_agree may waits next n.durable.greatest f (files_stay_told nodes disks [] [] es closing closing may waits opens lawful only legal refl node n found file f there) fewer
+left_files_hold nodes disks es closing may waits next opens lawful only legal fewer node n found made file f there =
+    told_agree may waits next n.durable.greatest f (files_stay_told nodes disks [] [] es closing closing may waits opens lawful only legal refl node n found made file f there) fewer
 
 -- The next run.
 
@@ -226,8 +265,8 @@ next_files_whole nodes disks es closing may waits opens lawful whole only ends l
 -- Last after images.
 
 pub last_images_hold : LastImagesHold
-last_images_hold nodes disks later after es w closing may waits opens lawful stands only legal on node n found =
-    stays_so (λ x. true) (λ x. may x ≡ false) (DoStand may) (standing_acts may) node nodes disks later after es w closing opens (found_standing may waits nodes disks es lawful node stands) (λ s i commits. refl) only.aborts legal on n found
+last_images_hold nodes disks later after es w closing may waits opens lawful stands only legal on node n found made =
+    stays_so (λ x. true) (λ x. may x ≡ false) (DoStand may) (standing_acts may) node nodes disks later after es w closing opens (found_standing may waits nodes disks es lawful node stands) (λ s i commits. refl) only.aborts legal on n found made
 
 pub next_last_images_hold : NextLastImagesHold
 next_last_images_hold nodes disks es closing may waits next opens lawful stands only legal fewer node n m found sound again =

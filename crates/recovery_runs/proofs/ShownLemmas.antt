@@ -1,10 +1,8 @@
 -- Recoveries that a transcript shows to have succeeded.
-use Rattle.std.proofs.Common.{◌≡◌, ℕ, inl, inr, if◌then◌else◌, List, [], ◌∷◌, ◌++◌, true, false, not, ◌||◌, Option, Some, None, refl, sym, ◌∙◌, ap, subst}
-use Rattle.std.specs.List.{last_or}
-use Rattle.std.proofs.lemmas.Bool.{both_ways, cases_Bool, false_from_ne_true}
+use Rattle.std.proofs.Common.{◌≡◌, ℕ, inl, inr, List, [], ◌∷◌, ◌++◌, true, false, not, ◌||◌, Option, Some, None, refl, sym, ◌∙◌, ap, subst}
+use Rattle.std.proofs.lemmas.Bool.{both_ways, cases_Bool}
 use Rattle.transcript_model.specs.Lines as line
 use Rattle.transcript_model.specs.Lines.{Line, Cause}
-use Rattle.script_model.specs.Grammar.{reading}
 use Rattle.script_model.specs.Statements.{At, Recover, Recovery}
 use Rattle.recovery_model.specs.Recovery.{rolled}
 use Rattle.recovery_laws.specs.run_model.World.{File, Node, World, find_file, find_node, opened, state_of}
@@ -13,7 +11,7 @@ use Rattle.recovery_laws.specs.run_model.Operations.{first_of, refused_if}
 use Rattle.recovery_laws.specs.run_model.Steps.{Choice, Cut, TaskAllowed, TaskEffect, Unpowered, Whole, WithoutMemory, begun, node_after_rows, task_effect, whole}
 use Rattle.recovery_laws.specs.run_model.Statements.{Begins, Phases, RoseAt, Step, begun_with, phases_of, refused_at_once, stops_at}
 use Rattle.recovery_laws.specs.run_model.StepLaws.{IsTask, is_refusal}
-use Rattle.recovery_laws.specs.run_model.Transcript.{Entry, Legal, Turn as LineTurn}
+use Rattle.recovery_laws.specs.run_model.Transcript.{Turn as LineTurn}
 use Rattle.recovery_laws.proofs.run_model.CauseLemmas.{refuses_first, refuses_then}
 use Rattle.recovery_laws.proofs.run_model.Failing.{once_refuses}
 use Rattle.recovery_laws.proofs.run_model.NodeLists.{put_node}
@@ -22,18 +20,16 @@ use Rattle.recovery_laws.proofs.run_model.TaskLemmas.{effect_name}
 use Rattle.recovery_laws.proofs.world_laws.AnswerLemmas.{neither}
 use Rattle.recovery_laws.proofs.world_laws.FindLemmas.{some_is}
 use Rattle.recovery_laws.proofs.world_laws.ServedLemmas.{there_is as there_is_one}
-use Rattle.run_laws.specs.Promises.{left_at}
-use Rattle.run_laws.proofs.Anewed.{used_makes}
+use Rattle.run_laws.specs.run_agreement.Laws.{IsReplaced}
+use Rattle.run_laws.proofs.run_agreement.Told.{used_replace_none}
 use Rattle.run_laws.proofs.DumpsShown.{ends_alike, legal_on, split_on}
-use Rattle.run_laws.proofs.Dying.{runs_used}
 use Rattle.run_laws.proofs.Labelling.{served_up}
-use Rattle.run_laws.proofs.MadeAnew.{made_says}
 use Rattle.run_laws.proofs.SoundWorlds.{IsSound, legal_sound, opening_sound}
 use Rattle.recovery_laws.specs.Loading.{HasNoGap}
 use Rattle.recovery_laws.specs.Recovering.{IsRecovered}
 use Rattle.recovery_laws.proofs.LoadingLemmas.{loads_as_it_is}
-use Rattle.recovery_runs.specs.Runs.{AreLawful, AreWhole, HasNoGaps, HasRecovered, MayOnly, ShownRecoveriesHold}
-use Rattle.recovery_runs.proofs.RunLemmas.{files_stay_whole, recoveries_hold}
+use Rattle.recovery_runs.specs.Runs.{AreLawful, AreWhole, HasNoGaps, HasRecovered, MayOnly, ShownRecoveriesHold, StandsAt}
+use Rattle.recovery_runs.proofs.RunLemmas.{recoveries_hold, up_files_whole}
 
 -- what was done: the file was there, nothing refused, the answer is that of the service, and its rows were done
 record IsDone (w : World) (n : Node) (file : List ℕ) (way : Recovery) (count : ℕ) (x : TaskEffect) : Type 0 where
@@ -110,15 +106,6 @@ module _ (w v : World) (node file : List ℕ) (way : Recovery) (count : ℕ) (st
       go (Some n) found = at n found
       go None found = absurd (no_refusal (Some line.NoSuchNode) line.NoSuchNode refl (ap (λ (o : Option Node). first_of (elim o as (λ x. Option Line) [ Some m ↦ None | None ↦ Some line.NoSuchNode ]) None) found))
 
--- behind a world in which a node may be in use no volume is made
-left_stays : (node : List ℕ) (opening w v : World) (after es : List Entry) → Legal w after v → w.shared.in_use ≡ true → left_at node (after ++ es) opening ≡ left_at node es opening
-left_stays node opening w v [] es legal used = refl
-left_stays node opening w v (e ∷ after) es legal used =
-    ap (λ b. if b then None else left_at node (after ++ es) opening) (false_from_ne_true _ (λ made.
-    let x = made_says node (reading e.source.text) e.lines made in
-    used_makes legal.0 v e node (runs_used w legal.0 after legal.1 used).1 legal.2 (record { slots = x.0; journal = x.1; says = x.2; answered = ap (last_or None) x.3 })))
-    ∙ left_stays node opening w legal.0 after es legal.1 used
-
 -- a node that is up may have been in use
 up_used : (w : World) → IsSound w → (node : List ℕ) (n : Node) → find_node node w.nodes ≡ Some n → n.up ≡ true → w.shared.in_use ≡ true
 up_used w sound node n found up = elim (cases_Bool w.shared.in_use) [ inl on ↦ on | inr off ↦ absurd (both_ways n.up ((sound.kept node n found).unused off).0 up) ]
@@ -131,8 +118,8 @@ shown_recoveries_hold nodes disks later after es e v closing may waits node file
     let before = subst (λ xs. MayOnly may (opened nodes disks) xs closing) (sym same) only in
     let behind = legal_on w v closing e after legal.2 on in
     let sound = legal_sound (opened nodes disks) w es (opening_sound nodes disks opens) legal.1 in
-    let stays : w.shared.in_use ≡ true → (name : List ℕ) (n : Node) → left_at name es (opened nodes disks) ≡ Some n → left_at name (after ++ e ∷ es) (opened nodes disks) ≡ Some n =
-    λ used name n left. ap (λ xs. left_at name xs (opened nodes disks)) (sym (split_on after e es)) ∙ left_stays name (opened nodes disks) w closing (after ++ e ∷ []) es behind used ∙ left in
+    let stays : w.shared.in_use ≡ true → (name : List ℕ) (n : Node) → StandsAt name es (opened nodes disks) n → StandsAt name (after ++ e ∷ es) (opened nodes disks) n =
+    λ used name n left. (left.0, λ k. left.1 ((used_replace_none name w closing es (after ++ e ∷ []) behind used).1 (subst (IsReplaced name) (sym (split_on after e es)) k))) in
     let found_lawful : w.shared.in_use ≡ true → AreLawful may waits (opened nodes disks) es = λ used name n left. lawful name n (stays used name n left) in
     let found_whole : w.shared.in_use ≡ true → AreWhole (opened nodes disks) es = λ used name n left. whole name n (stays used name n left) in (
       w,
@@ -141,6 +128,6 @@ shown_recoveries_hold nodes disks later after es e v closing may waits node file
       shown w v node file way count step (λ n f found up there first.
           let used = up_used w sound node n found up in (
             recoveries_hold nodes disks later (after ++ e ∷ []) es w closing may waits opens (found_lawful used) before legal.1 behind node n found up file way f there first,
-            files_stay_whole nodes disks later (after ++ e ∷ []) es w closing may waits opens (found_lawful used) (found_whole used) before legal.1 behind node n found file f there,
+            up_files_whole nodes disks later (after ++ e ∷ []) es w closing may waits opens (found_lawful used) (found_whole used) before legal.1 behind node n found up file f there,
           )),
     )

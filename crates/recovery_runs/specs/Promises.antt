@@ -1,6 +1,6 @@
 -- What a run promises of its recoveries.
 use Rattle.std.specs.List.{list_any}
-use Rattle.std.specs.Prelude.{◌≡◌, ℕ, List, [], ◌∷◌, ◌++◌, Bool, true, Some, ◌&&◌}
+use Rattle.std.specs.Prelude.{◌≡◌, ℕ, List, [], ◌∷◌, ◌++◌, Bool, true, false, Some, ◌&&◌}
 use Rattle.vms_model.specs.Ids.{Id}
 use Rattle.transcript_model.specs.Lines.{NormalCount}
 use Rattle.script_model.specs.Grammar.{reading}
@@ -13,11 +13,11 @@ use Rattle.recovery_laws.specs.run_model.Transcript.{Entry, InAllRuns, Legal, Tu
 use Rattle.recovery_laws.specs.world_laws.Running.{AllFound}
 use Rattle.run_laws.specs.run_agreement.Laws.{NamesApart, opening_told}
 use Rattle.run_laws.specs.Anew.{AreKnownOrAnew}
-use Rattle.run_laws.specs.Promises.{AbortsStand, left_at}
+use Rattle.run_laws.specs.Promises.{AbortsStand}
 use Rattle.run_chains.specs.Reopenings.{IsReopened}
 use Rattle.recovery_laws.specs.Gaps.{IsGapless}
 use Rattle.recovery_runs.specs.LastImages.{LastImagesStand}
-use Rattle.recovery_runs.specs.Runs.{AreGapless, AreLawful, AreStanding, AreWhole, EndMay, HasNoGaps, HasRecovered, MayOnly, committed_in}
+use Rattle.recovery_runs.specs.Runs.{AreGapless, AreLawful, AreStanding, AreWhole, EndMay, HasNoGaps, HasRecovered, MayOnly, StandsAt, committed_in}
 use Rattle.recovery_runs.specs.Answered.{IsAnswered}
 
 -- an entry of a transcript asks for a recovery, between those after it and those before it
@@ -40,12 +40,12 @@ RecoveriesGive opening es closing = (waits : Id → Bool) → AreLawful (committ
 
 -- And so it is where the images agree with which the run begins, and the journals and saves with the files, of which nothing is asked but by these images: of the unsettled
 -- branches those may yet commit of whose transaction an image shows a commit. In a sequential file the positions are those from 1 on, of what stands, of what was
--- committed and of what recoveries are to give. Of a volume that the run makes anew nothing is asked.
+-- committed and of what recoveries are to give. Of a disk that an INIT of the run replaces nothing is asked, whether that succeeds or a failure ends it.
 abbrev pub may_yet_commit : Opening → Id → Bool
 may_yet_commit o x = list_any (λ (r : LogRecord). same_id x r.serial && list_any (same_id r.tid) (commits_in o)) (image_at o x.node).prepared
 
 abbrev pub FilesAgree : World → List Entry → Type 0
-FilesAgree opening es = (node : List ℕ) (n : Node) → left_at node es opening ≡ Some n → AllFound (λ file f. IsOpening (may_yet_commit (opening_told opening.nodes es)) n.durable.greatest (state_of f) × HasNoGaps f) n.durable.directory
+FilesAgree opening es = (node : List ℕ) (n : Node) → StandsAt node es opening n → AllFound (λ file f. IsOpening (may_yet_commit (opening_told opening.nodes es)) n.durable.greatest (state_of f) × HasNoGaps f) n.durable.directory
 
 abbrev pub RecoveriesAgree : World → List Entry → World → Type 0
 RecoveriesAgree opening es closing = NamesApart opening.nodes → AreKnownOrAnew es opening.nodes → IsAgreeing (opening_told opening.nodes es) → FilesAgree opening es → RecoveriesGiven opening es closing
@@ -77,9 +77,10 @@ LastImagesGoOn opening es closing = (may waits next : Id → Bool) → AreLawful
 abbrev pub LastImagesAgree : World → List Entry → Type 0
 LastImagesAgree opening es = AreStanding (may_yet_commit (opening_told opening.nodes es)) opening es
 
--- And no sequential file has a gap at the end, neither as it stands nor as it was committed, where none has that the run finds; for nothing else is asked.
+-- And no sequential file has a gap at the end, neither as it stands nor as it was committed, where none has that the run finds; for nothing else is asked. Nothing is said
+-- of a disk whose INIT failed.
 abbrev pub FilesHaveNoGaps : World → List Entry → World → Type 0
-FilesHaveNoGaps opening es closing = AreGapless opening es → (node : List ℕ) (n : Node) → find_node node closing.nodes ≡ Some n → AllFound (λ file f. IsGapless f.organization f.history) n.durable.directory
+FilesHaveNoGaps opening es closing = AreGapless opening es → (node : List ℕ) (n : Node) → find_node node closing.nodes ≡ Some n → n.unmade ≡ false → AllFound (λ file f. IsGapless f.organization f.history) n.durable.directory
 
 -- What a run promises: the first where aborts stand that a fall cut short, and besides where the images agree with which it begins.
 pub record RecoveryPromises (opening : World) (es : List Entry) (closing : World) : Type 0 where

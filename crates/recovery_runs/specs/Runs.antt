@@ -19,7 +19,8 @@ use Rattle.recovery_laws.specs.run_model.World.{Act, DiskCounts, File, Node, Set
 use Rattle.recovery_laws.specs.run_model.Answers.{refused_before_reading, service, way_of}
 use Rattle.recovery_laws.specs.run_model.Transcript.{AreOpening, Entry, Legal, Turn}
 use Rattle.recovery_laws.specs.world_laws.Running.{AllFound}
-use Rattle.run_laws.specs.Promises.{AbortsStand, left_at, settlements_of}
+use Rattle.run_laws.specs.run_agreement.Laws.{IsReplaced}
+use Rattle.run_laws.specs.Promises.{AbortsStand, settlements_of}
 use Rattle.run_chains.specs.Reopenings.{IsReopened}
 use Rattle.recovery_laws.specs.Gaps.{IsGapless}
 use Rattle.recovery_runs.specs.LastImages.{LastImagesStand}
@@ -46,32 +47,37 @@ pub record HasNoGaps (f : File) : Type 0 where
   pub gapless : IsGapless f.organization f.history
   pub given : GivesMaps (HasNoGap f.organization) (state_of f)
 
--- Each file that a run with these entries finds, on a volume that none of them makes anew, has no gap; or neither it nor what its recoveries are to give has one.
+-- A node of this name stood there at the opening, and none of these entries replaces what its disk had: an INIT of it that succeeds, or that a failure ends.
+abbrev pub StandsAt : List ℕ → List Entry → World → Node → Type 0
+StandsAt node es opening n = (find_node node opening.nodes ≡ Some n) × (IsReplaced node es → ⊥)
+
+-- Each file that a run with these entries finds, on a disk of which none of them replaces what it had, has no gap; or neither it nor what its recoveries are to give has one.
 abbrev pub AreGapless : World → List Entry → Type 0
-AreGapless opening es = (node : List ℕ) (n : Node) → left_at node es opening ≡ Some n → AllFound (λ file f. IsGapless f.organization f.history) n.durable.directory
+AreGapless opening es = (node : List ℕ) (n : Node) → StandsAt node es opening n → AllFound (λ file f. IsGapless f.organization f.history) n.durable.directory
 
 abbrev pub AreWhole : World → List Entry → Type 0
-AreWhole opening es = (node : List ℕ) (n : Node) → left_at node es opening ≡ Some n → AllFound (λ file f. HasNoGaps f) n.durable.directory
+AreWhole opening es = (node : List ℕ) (n : Node) → StandsAt node es opening n → AllFound (λ file f. HasNoGaps f) n.durable.directory
 
--- Then no file has a gap in any world of the run, neither as it stands nor as it was committed, over all falls, restarts and aborts that are cut short.
+-- Then no file has a gap in any world of the run, neither as it stands nor as it was committed, over all falls, restarts and aborts that are cut short; nothing is said of
+-- a disk whose INIT failed.
 abbrev pub NoFileHasGaps : Type 0
-NoFileHasGaps = (nodes : List Node) (disks : List DiskCounts) (es : List Entry) (w : World) → AreOpening nodes → AreGapless (opened nodes disks) es → Legal (opened nodes disks) es w → (node : List ℕ) (n : Node) → find_node node w.nodes ≡ Some n →
+NoFileHasGaps = (nodes : List Node) (disks : List DiskCounts) (es : List Entry) (w : World) → AreOpening nodes → AreGapless (opened nodes disks) es → Legal (opened nodes disks) es w → (node : List ℕ) (n : Node) → find_node node w.nodes ≡ Some n → n.unmade ≡ false →
     AllFound (λ file f. IsGapless f.organization f.history) n.durable.directory
 
--- Each file that a run with these entries finds, on a volume that none of them makes anew, agrees with its journals and its save, and with the branches that may commit: of
+-- Each file that a run with these entries finds, on a disk of which none of them replaces what it had, agrees with its journals and its save, and with the branches that may commit: of
 -- unsettled ones these may yet commit, and a branch that may commit in the run is one of them, or had changed nothing in the file before.
 abbrev pub AreLawful : (may waits : Id → Bool) → World → List Entry → Type 0
-AreLawful may waits opening es = (node : List ℕ) (n : Node) → left_at node es opening ≡ Some n → AllFound (λ file f. IsOpening waits n.durable.greatest (state_of f) × MayCommit may waits (state_of f)) n.durable.directory
+AreLawful may waits opening es = (node : List ℕ) (n : Node) → StandsAt node es opening n → AllFound (λ file f. IsOpening waits n.durable.greatest (state_of f) × MayCommit may waits (state_of f)) n.durable.directory
 
--- So recovery can tell of each file in each world of the run.
+-- So recovery can tell of each file in each world of the run, but on a disk whose INIT failed.
 abbrev pub FilesStayTold : Type 0
 FilesStayTold = (nodes : List Node) (disks : List DiskCounts) (later after es : List Entry) (w closing : World) (may waits : Id → Bool) → AreOpening nodes → AreLawful may waits (opened nodes disks) es → MayOnly may (opened nodes disks) (later ++ (after ++ es)) closing →
-    Legal (opened nodes disks) es w → Legal w after closing → (node : List ℕ) (n : Node) → find_node node w.nodes ≡ Some n → AllFound (λ file f. IsTold may waits n.durable.greatest f) n.durable.directory
+    Legal (opened nodes disks) es w → Legal w after closing → (node : List ℕ) (n : Node) → find_node node w.nodes ≡ Some n → n.unmade ≡ false → AllFound (λ file f. IsTold may waits n.durable.greatest f) n.durable.directory
 
 -- And where no file that the run finds has a gap, nor what its recoveries are to give, so it is there.
 abbrev pub FilesStayWhole : Type 0
 FilesStayWhole = (nodes : List Node) (disks : List DiskCounts) (later after es : List Entry) (w closing : World) (may waits : Id → Bool) → AreOpening nodes → AreLawful may waits (opened nodes disks) es → AreWhole (opened nodes disks) es →
-    MayOnly may (opened nodes disks) (later ++ (after ++ es)) closing → Legal (opened nodes disks) es w → Legal w after closing → (node : List ℕ) (n : Node) → find_node node w.nodes ≡ Some n → AllFound (λ file f. HasNoGaps f) n.durable.directory
+    MayOnly may (opened nodes disks) (later ++ (after ++ es)) closing → Legal (opened nodes disks) es w → Legal w after closing → (node : List ℕ) (n : Node) → find_node node w.nodes ≡ Some n → n.unmade ≡ false → AllFound (λ file f. HasNoGaps f) n.durable.directory
 
 -- So each recovery that nothing refuses gives the records of its moment.
 abbrev pub RecoveriesHold : Type 0
@@ -82,7 +88,7 @@ RecoveriesHold = (nodes : List Node) (disks : List DiskCounts) (later after es :
 -- And what the run leaves is what the next run may find, as far as recovery asks, with those branches that may yet commit then.
 abbrev pub LeftFilesHold : Type 0
 LeftFilesHold = (nodes : List Node) (disks : List DiskCounts) (es : List Entry) (closing : World) (may waits next : Id → Bool) → AreOpening nodes → AreLawful may waits (opened nodes disks) es → MayOnly may (opened nodes disks) es closing → Legal (opened nodes disks) es closing →
-    ((x : Id) → next x ≡ true → may x ≡ true) → (node : List ℕ) (n : Node) → find_node node closing.nodes ≡ Some n → AllFound (λ file f. IsOpening next n.durable.greatest (as_found n.durable.greatest (state_of f))) n.durable.directory
+    ((x : Id) → next x ≡ true → may x ≡ true) → (node : List ℕ) (n : Node) → find_node node closing.nodes ≡ Some n → n.unmade ≡ false → AllFound (λ file f. IsOpening next n.durable.greatest (as_found n.durable.greatest (state_of f))) n.durable.directory
 
 -- A recovery that a line shows to have succeeded: the file was there in the world before it; in the one behind it the file has just the records of the moment; and
 -- their number was shown.
@@ -121,14 +127,14 @@ NextFilesWhole = (nodes : List Node) (disks : List DiskCounts) (es : List Entry)
 
 -- Last after images.
 
--- In each file that a run with these entries finds, on a volume that none of them makes anew, the last after images of these branches are the values that stand.
+-- In each file that a run with these entries finds, on a disk of which none of them replaces what it had, the last after images of these branches are the values that stand.
 abbrev pub AreStanding : (waits : Id → Bool) → World → List Entry → Type 0
-AreStanding waits opening es = (node : List ℕ) (n : Node) → left_at node es opening ≡ Some n → AllFound (λ file f. LastImagesStand waits (state_of f)) n.durable.directory
+AreStanding waits opening es = (node : List ℕ) (n : Node) → StandsAt node es opening n → AllFound (λ file f. LastImagesStand waits (state_of f)) n.durable.directory
 
 -- Then so are those of the branches that may commit, in each file in each world of the run.
 abbrev pub LastImagesHold : Type 0
 LastImagesHold = (nodes : List Node) (disks : List DiskCounts) (later after es : List Entry) (w closing : World) (may waits : Id → Bool) → AreOpening nodes → AreLawful may waits (opened nodes disks) es → AreStanding waits (opened nodes disks) es →
-    MayOnly may (opened nodes disks) (later ++ (after ++ es)) closing → Legal (opened nodes disks) es w → Legal w after closing → (node : List ℕ) (n : Node) → find_node node w.nodes ≡ Some n →
+    MayOnly may (opened nodes disks) (later ++ (after ++ es)) closing → Legal (opened nodes disks) es w → Legal w after closing → (node : List ℕ) (n : Node) → find_node node w.nodes ≡ Some n → n.unmade ≡ false →
     AllFound (λ file f. LastImagesStand may (state_of f)) n.durable.directory
 
 -- And in each that the next run finds, those of the branches that may yet commit then, whatever turned out of an act that was under way.

@@ -10,8 +10,8 @@ pub fn committed_alone_may()
     ensures { CommittedOnly }
 {}
 
-/// Let each file that a run finds agree with its journals and its save, and with the branches that may commit in it. Then recovery can tell of each file
-/// in each world of the run, over all falls and restarts; so each recovery that nothing refuses, at a node that is up, leaves the records of its moment,
+/// Let each file that a run finds, on a disk that no INIT of it replaces, agree with its journals and its save, and with the branches that may commit in it. Then
+/// recovery can tell of each file in each world of the run, over all falls and restarts, but on a disk whose INIT failed; so each recovery that nothing refuses, at a node that is up, leaves the records of its moment,
 /// and what the run leaves is what the next run may find, with those branches that may yet commit then, whatever turns out of an act that is under way.
 pub fn recoveries_hold()
     ensures told { FilesStayTold }
@@ -21,7 +21,7 @@ pub fn recoveries_hold()
 {}
 
 /// Let no sequential file that a run finds have a gap. Then none has in any world of the run, neither as it stands nor as it was committed, over all falls and
-/// restarts. Where besides the files agree, and recoveries were to give none with a gap, no recovery is to give one, of this run and of the next.
+/// restarts, but on a disk whose INIT failed. Where besides the files agree, and recoveries were to give none with a gap, no recovery is to give one, of this run and of the next.
 pub fn files_have_no_gaps()
     ensures gapless { NoFileHasGaps }
     ensures whole { FilesStayWhole }

@@ -26,7 +26,8 @@ use Rattle.run_model.specs.Statements as statements
 use Rattle.run_model.specs.Statements.{Part, Does, Asks, PartEffect, Question, Heard, Unanswered, Doubtful, Onward, Parts, Phases, Finished, Begins, stops_at, put_into, done_at, part_effect, question_effect, question, phases_of, begun_with, refused_at_once}
 use Rattle.run_model.specs.StepLaws.{is_refusal}
 use Rattle.run_model.proofs.CauseLemmas.{refuses_first}
-use Rattle.run_agreement.specs.Laws.{IsUnused, IsBase}
+use Rattle.run_agreement.specs.Laws.{NamesApart}
+use Rattle.run_agreement.specs.Seen.{IsKnown}
 use Rattle.run_agreement.proofs.Serving.{IsPlain, first_none, refused_none, not_false, parts_true}
 use Rattle.run_agreement.proofs.Tasks.{IsBoot, boot_is, restart_is, ready_is, awake_refused, nothing_cut, nothing_shared}
 use Rattle.run_agreement.proofs.Barred.{plain_down, quiet_powered}
@@ -93,9 +94,25 @@ service_used s stops x e (Cut outturn done begun cause) u =
     let y : Node = ready_node outturn stops e x in
     or_left _ (occupies e) (rows_use (take done (steps.rows_to_cut s y e)) s ∙ u)
 
--- A world from which a run may begin and in which no node may be in use, or one in which a node may be.
+-- A node in no use yet, whether or not something is known of its disk.
+pub record IsIdle (n : Node) : Type 0 where
+  pub down : n.up ≡ false
+  pub quiet : n.under_way ≡ None
+  pub settled : n.settled ≡ []
+  pub log : n.durable.volume ≡ Sound → IsLogInOrder n
+
+-- a rack of such nodes
+pub record IsRack (w : World) : Type 0 where
+  pub nodes : (n : Name) (x : Node) → find_node n w.nodes ≡ Some x → IsIdle x
+  pub apart : NamesApart w.nodes
+  pub labels : w.shared.labels ≡ []
+  pub wire : w.shared.wire ≡ []
+  pub accepted : w.shared.accepted ≡ []
+  pub read_only : w.shared.read_only ≡ []
+
+-- One in which no node may be in use, or a world in which a node may be.
 abbrev pub Beginning : World → Type 0
-Beginning w = (w.shared.in_use ≡ true) ⊎ (IsBase w × (w.shared.in_use ≡ false))
+Beginning w = (w.shared.in_use ≡ true) ⊎ (IsRack w × (w.shared.in_use ≡ false))
 
 used_done : (w : World) (n : Name) (t : Task) (c : Choice) → w.shared.in_use ≡ true → (done_at w n t c).world.shared.in_use ≡ true
 used_done w n t c u = by (find_node n w.nodes)
@@ -118,12 +135,13 @@ used_part w (Asks n serial) c u = by (question w n serial)
 same_log : (x : Node) (calls : List world.Call) (clock : ℕ) (under_way : Option Act) (up unmade : Bool) → IsLogInOrder x → IsLogInOrder (let z : Node = record x { calls = calls; clock = clock; under_way = under_way; up = up; unmade = unmade } in z)
 same_log x c k u b m h = record { distinct = h.distinct; reached = h.reached; prepared_within = h.prepared_within; committed_within = h.committed_within; prepared = h.prepared; active = h.active; transactions = h.transactions; unsettled = h.unsettled; few = h.few; slots = h.slots }
 
--- behind a task: the node is in no use still, nor may another be that was not, nothing is shared, and its disk is so
+-- behind a task: the node is in no use still, nor may another be that was not, nothing is shared, its disk is so, and what was known of it still is
 pub record StaysUnused (x z : Node) (s t : Shared) (D : Type 0) : Type 0 where
   pub named : z.name ≡ x.name
   pub use_same : t.in_use ≡ s.in_use
   pub disk : D
-  pub unused : IsUnused z
+  pub idle : IsIdle z
+  pub known : IsKnown x → IsKnown z
   pub labels : t.labels ≡ s.labels
   pub wire : t.wire ≡ s.wire
   pub accepted : t.accepted ≡ s.accepted
@@ -136,11 +154,11 @@ IsSameDisk x z = z.durable ≡ x.durable
 abbrev pub Turns : Node → Node → Shared → Shared → Type 0
 Turns x z s t = (t.in_use ≡ true) ⊎ StaysUnused x z s t (IsSameDisk x z)
 
-kept : (D : Type 0) (x z : Node) (s : Shared) (used : Bool) → used ≡ s.in_use → z.name ≡ x.name → IsUnused z → D → StaysUnused x z s (record s { in_use = used }) D
-kept D x z s used same named u d = record { named = named; use_same = same; disk = d; unused = u; labels = refl; wire = refl; accepted = refl; read_only = refl }
+kept : (D : Type 0) (x z : Node) (s : Shared) (used : Bool) → used ≡ s.in_use → z.name ≡ x.name → IsIdle z → (IsKnown x → IsKnown z) → D → StaysUnused x z s (record s { in_use = used }) D
+kept D x z s used same named u k d = record { named = named; use_same = same; disk = d; idle = u; known = k; labels = refl; wire = refl; accepted = refl; read_only = refl }
 
-stays : (x z : Node) (s : Shared) (used : Bool) → used ≡ s.in_use → z.name ≡ x.name → IsUnused z → IsSameDisk x z → Turns x z s (record s { in_use = used })
-stays x z s used same named u d = inr (kept (IsSameDisk x z) x z s used same named u d)
+stays : (x z : Node) (s : Shared) (used : Bool) → used ≡ s.in_use → z.name ≡ x.name → IsIdle z → (IsKnown x → IsKnown z) → IsSameDisk x z → Turns x z s (record s { in_use = used })
+stays x z s used same named u k d = inr (kept (IsSameDisk x z) x z s used same named u k d)
 
 or_none : (b : Bool) → (b || false) ≡ b
 or_none true = refl
@@ -149,33 +167,33 @@ or_none false = refl
 abbrev pub TurnsBy : Node → Shared → ℕ → Service → Choice → Type 0
 TurnsBy x s stops e c = Turns x (service_effect s stops x e c).node s (service_effect s stops x e c).shared
 
-plain_turns : (x : Node) (s : Shared) (stops : ℕ) (e : Service) (rises : Cause → Type 0) (c : Choice) → IsPlain e → IsUnused x → ServiceAllowed s stops x e rises c → TurnsBy x s stops e c
+plain_turns : (x : Node) (s : Shared) (stops : ℕ) (e : Service) (rises : Cause → Type 0) (c : Choice) → IsPlain e → IsIdle x → ServiceAllowed s stops x e rises c → TurnsBy x s stops e c
 plain_turns x s stops e rises (Whole outturn) plain u may = by (refused_before_reading s x e) refl
   where
     by : (l : Option Line) → refused_before_reading s x e ≡ l → Turns x (steps.whole s x (ready_node outturn stops e x) e l).node s (steps.whole s x (ready_node outturn stops e x) e l).shared
-    by (Some l) h = stays x x s s.in_use refl refl u refl
+    by (Some l) h = stays x x s s.in_use refl refl u (λ k. k) refl
     by None h = absurd (plain_down s x e plain u.down h)
-plain_turns x s stops e rises WithoutMemory plain u may = stays x x s s.in_use refl refl u refl
+plain_turns x s stops e rises WithoutMemory plain u may = stays x x s s.in_use refl refl u (λ k. k) refl
 plain_turns x s stops e rises Unpowered plain u may = absurd (plain_down s x e plain u.down may.0)
 plain_turns x s stops e rises (Cut outturn done begun cause) plain u may = absurd (plain_down s x e plain u.down may.0)
 
-fuse_turns : (x : Node) (s : Shared) (stops : ℕ) (writes choice : ℕ) (rises : Cause → Type 0) (c : Choice) → IsUnused x → ServiceAllowed s stops x (answers.service (Fuse writes choice)) rises c → TurnsBy x s stops (answers.service (Fuse writes choice)) c
+fuse_turns : (x : Node) (s : Shared) (stops : ℕ) (writes choice : ℕ) (rises : Cause → Type 0) (c : Choice) → IsIdle x → ServiceAllowed s stops x (answers.service (Fuse writes choice)) rises c → TurnsBy x s stops (answers.service (Fuse writes choice)) c
 fuse_turns x s stops writes choice rises (Whole outturn) u may =
     let e : Service = answers.service (Fuse writes choice) in
     let P : Option Line → Type 0 = λ l. Turns x (steps.whole s x x e l).node s (steps.whole s x x e l).shared in
     let z : Node = world.acted (world.Arms writes choice) x in
-    subst P (sym (awake_refused s x e refl)) (stays x z s (s.in_use || false) (or_none s.in_use) refl (record { down = u.down; quiet = u.quiet; settled = u.settled; known = u.known; log = λ v. same_log x (world.Arm writes choice ∷ x.calls) x.clock x.under_way x.up x.unmade (u.log v) }) refl)
-fuse_turns x s stops writes choice rises WithoutMemory u may = stays x x s s.in_use refl refl u refl
+    subst P (sym (awake_refused s x e refl)) (stays x z s (s.in_use || false) (or_none s.in_use) refl (record { down = u.down; quiet = u.quiet; settled = u.settled; log = λ v. same_log x (world.Arm writes choice ∷ x.calls) x.clock x.under_way x.up x.unmade (u.log v) }) (λ k. k) refl)
+fuse_turns x s stops writes choice rises WithoutMemory u may = stays x x s s.in_use refl refl u (λ k. k) refl
 fuse_turns x s stops writes choice rises Unpowered u may = absurd (let f : false ≡ true = may.1 in cc)
 fuse_turns x s stops writes choice rises (Cut outturn done begun cause) u may = absurd (let f : false ≡ true = may.1 in cc)
 
-clock_turns : (x : Node) (s : Shared) (stops : ℕ) (now : ℕ) (rises : Cause → Type 0) (c : Choice) → IsUnused x → ServiceAllowed s stops x (answers.service (Clock now)) rises c → TurnsBy x s stops (answers.service (Clock now)) c
+clock_turns : (x : Node) (s : Shared) (stops : ℕ) (now : ℕ) (rises : Cause → Type 0) (c : Choice) → IsIdle x → ServiceAllowed s stops x (answers.service (Clock now)) rises c → TurnsBy x s stops (answers.service (Clock now)) c
 clock_turns x s stops now rises (Whole outturn) u may =
     let e : Service = answers.service (Clock now) in
     let P : Option Line → Type 0 = λ l. Turns x (steps.whole s x x e l).node s (steps.whole s x x e l).shared in
     let z : Node = world.acted (world.Clocks now) x in
-    subst P (sym (awake_refused s x e refl)) (stays x z s (s.in_use || false) (or_none s.in_use) refl (record { down = u.down; quiet = u.quiet; settled = u.settled; known = u.known; log = λ v. same_log x x.calls now x.under_way x.up x.unmade (u.log v) }) refl)
-clock_turns x s stops now rises WithoutMemory u may = stays x x s s.in_use refl refl u refl
+    subst P (sym (awake_refused s x e refl)) (stays x z s (s.in_use || false) (or_none s.in_use) refl (record { down = u.down; quiet = u.quiet; settled = u.settled; log = λ v. same_log x x.calls now x.under_way x.up x.unmade (u.log v) }) (λ k. k) refl)
+clock_turns x s stops now rises WithoutMemory u may = stays x x s s.in_use refl refl u (λ k. k) refl
 clock_turns x s stops now rises Unpowered u may = absurd (let f : false ≡ true = may.1 in cc)
 clock_turns x s stops now rises (Cut outturn done begun cause) u may = absurd (let f : false ≡ true = may.1 in cc)
 
@@ -183,7 +201,7 @@ or_right : (a b : Bool) → b ≡ true → (a || b) ≡ true
 or_right true b e = refl
 or_right false b e = e
 
-boot_turns : (x : Node) (s : Shared) (stops : ℕ) (e : Service) (rises : Cause → Type 0) (c : Choice) → IsBoot e → occupies e ≡ true → IsUnused x → ServiceAllowed s stops x e rises c → TurnsBy x s stops e c
+boot_turns : (x : Node) (s : Shared) (stops : ℕ) (e : Service) (rises : Cause → Type 0) (c : Choice) → IsBoot e → occupies e ≡ true → IsIdle x → ServiceAllowed s stops x e rises c → TurnsBy x s stops e c
 boot_turns x s stops e rises (Whole outturn) boot used u may = by (refused_before_reading s x e) refl
   where
     r : Node
@@ -193,13 +211,13 @@ boot_turns x s stops e rises (Whole outturn) boot used u may = by (refused_befor
     begins (Some l) =
         let P : Node → Type 0 = λ z. Turns x z s s in
         subst P (sym (ready_is outturn stops e x boot ∙ quiet_powered outturn stops x u.quiet)) (stays x (let z : Node = record x { calls = world.Power stops ∷ x.calls; under_way = None } in z) s s.in_use refl refl
-        (record { down = u.down; quiet = refl; settled = u.settled; known = u.known; log = λ v. same_log x (world.Power stops ∷ x.calls) x.clock None x.up x.unmade (u.log v) }) refl)
+        (record { down = u.down; quiet = refl; settled = u.settled; log = λ v. same_log x (world.Power stops ∷ x.calls) x.clock None x.up x.unmade (u.log v) }) (λ k. k) refl)
     begins None = inl (or_right (shared_then e.closing (shared_after_rows (e.rows s (ready_node outturn stops e x)) s)).in_use (occupies e) used)
 
     by : (l : Option Line) → refused_before_reading s x e ≡ l → Turns x (steps.whole s x (ready_node outturn stops e x) e l).node s (steps.whole s x (ready_node outturn stops e x) e l).shared
-    by (Some l) h = stays x x s s.in_use refl refl u refl
+    by (Some l) h = stays x x s s.in_use refl refl u (λ k. k) refl
     by None h = begins (e.refused_after_reading s (ready_node outturn stops e x))
-boot_turns x s stops e rises WithoutMemory boot used u may = stays x x s s.in_use refl refl u refl
+boot_turns x s stops e rises WithoutMemory boot used u may = stays x x s s.in_use refl refl u (λ k. k) refl
 boot_turns x s stops e rises Unpowered boot used u may = inl (or_right s.in_use (occupies e) used)
 boot_turns x s stops e rises (Cut outturn done begun cause) boot used u may =
     let y : Node = ready_node outturn stops e x in
@@ -227,23 +245,23 @@ made_in_order x slots journal few =
       slots = subst (λ k. k ≤ 512) (sym (length-replicate slots None)) few;
     }
 
-made_unused : (x : Node) (slots journal : ℕ) → slots ≤ 512 → IsUnused x → IsUnused (world.acted (world.Formats slots journal) x)
-made_unused x slots journal few u = record { down = u.down; quiet = u.quiet; settled = u.settled; known = λ e. absurd (let f : ⊥ = cc in f); log = λ e. made_in_order x slots journal few }
+made_unused : (x : Node) (slots journal : ℕ) → slots ≤ 512 → IsIdle x → IsIdle (world.acted (world.Formats slots journal) x)
+made_unused x slots journal few u = record { down = u.down; quiet = u.quiet; settled = u.settled; log = λ e. made_in_order x slots journal few }
 
 -- a node of whose disk nothing is known
-spoilt_unused : (x : Node) → x.up ≡ false → x.under_way ≡ None → x.settled ≡ [] → IsUnused (steps.with_unknown_volume true x)
-spoilt_unused x down quiet settled = record { down = down; quiet = quiet; settled = settled; known = λ e. refl; log = λ e. absurd (let f : ⊥ = cc in f) }
+spoilt_unused : (x : Node) → x.up ≡ false → x.under_way ≡ None → x.settled ≡ [] → IsIdle (steps.with_unknown_volume true x)
+spoilt_unused x down quiet settled = record { down = down; quiet = quiet; settled = settled; log = λ e. absurd (let f : ⊥ = cc in f) }
 
 -- it is so from the moment at which an INIT makes the disk run
 abbrev spoilt_ready : Outturn → ℕ → Node → Node
 spoilt_ready outturn stops x = steps.with_unknown_volume true (world.powered outturn stops x)
 
-spoilt_named : (outturn : Outturn) (stops : ℕ) (x : Node) → IsUnused x → (spoilt_ready outturn stops x).name ≡ x.name
+spoilt_named : (outturn : Outturn) (stops : ℕ) (x : Node) → IsIdle x → (spoilt_ready outturn stops x).name ≡ x.name
 spoilt_named outturn stops x u = ap (λ (z : Node). z.name) (quiet_powered outturn stops x u.quiet)
 
-ready_unused : (outturn : Outturn) (stops : ℕ) (x : Node) → IsUnused x → IsUnused (spoilt_ready outturn stops x)
+ready_unused : (outturn : Outturn) (stops : ℕ) (x : Node) → IsIdle x → IsIdle (spoilt_ready outturn stops x)
 ready_unused outturn stops x u =
-    let P : Node → Type 0 = λ z. IsUnused (steps.with_unknown_volume true z) in
+    let P : Node → Type 0 = λ z. IsIdle (steps.with_unknown_volume true z) in
     subst P (sym (quiet_powered outturn stops x u.quiet)) (spoilt_unused (let z : Node = record x { calls = world.Power stops ∷ x.calls; under_way = None } in z) u.down refl u.settled)
 
 -- An INIT that is not refused is of no more than 512 slots.
@@ -258,7 +276,7 @@ few_slots x s slots journal h =
 -- What an INIT leaves of the disk, by its answer: a new volume; nothing of which anything is known; or what there was.
 abbrev pub InitLeaves : (slots journal : ℕ) → (x z : Node) → Line → Type 0
 InitLeaves slots journal x z line.Normal = z.durable ≡ world.made_volume slots journal
-InitLeaves slots journal x z (line.Broken cause) = z.durable.volume ≡ world.Unknown
+InitLeaves slots journal x z (line.Broken cause) = (z.durable.volume ≡ world.Unknown) × (z.unmade ≡ true)
 InitLeaves slots journal x z _ = IsSameDisk x z
 
 refused_leaves : (slots journal : ℕ) (x : Node) (l : Line) → is_refusal l ≡ true → InitLeaves slots journal x x l
@@ -272,27 +290,27 @@ InitStays slots journal x s f = StaysUnused x f.node s f.shared (InitLeaves slot
 abbrev pub StaysBy : (slots journal : ℕ) → Node → Shared → ℕ → Choice → Type 0
 StaysBy slots journal x s stops c = InitStays slots journal x s (service_effect s stops x (answers.service (Init slots journal)) c)
 
-pub init_stays : (x : Node) (s : Shared) (stops : ℕ) (slots journal : ℕ) (rises : Cause → Type 0) (c : Choice) → IsUnused x → ServiceAllowed s stops x (answers.service (Init slots journal)) rises c → StaysBy slots journal x s stops c
+pub init_stays : (x : Node) (s : Shared) (stops : ℕ) (slots journal : ℕ) (rises : Cause → Type 0) (c : Choice) → IsIdle x → ServiceAllowed s stops x (answers.service (Init slots journal)) rises c → StaysBy slots journal x s stops c
 init_stays x s stops slots journal rises (Whole outturn) u may = by (refused_before_reading s x (answers.service (Init slots journal))) refl
   where
     by : (l : Option Line) → refused_before_reading s x (answers.service (Init slots journal)) ≡ l → InitStays slots journal x s (steps.whole s x (spoilt_ready outturn stops x) (answers.service (Init slots journal)) l)
-    by (Some l) h = kept (InitLeaves slots journal x x l) x x s s.in_use refl refl u (refused_leaves slots journal x l ((refuses_first s x (Serves (Init slots journal))).says l h))
+    by (Some l) h = kept (InitLeaves slots journal x x l) x x s s.in_use refl refl u (λ k. k) (refused_leaves slots journal x l ((refuses_first s x (Serves (Init slots journal))).says l h))
     by None h =
         let z : Node = world.acted (world.Formats slots journal) (spoilt_ready outturn stops x) in
-        kept (InitLeaves slots journal x z line.Normal) x z s (s.in_use || false) (or_none s.in_use) (spoilt_named outturn stops x u) (made_unused (spoilt_ready outturn stops x) slots journal (few_slots x s slots journal h) (ready_unused outturn stops x u)) refl
-init_stays x s stops slots journal rises WithoutMemory u may = kept (IsSameDisk x x) x x s s.in_use refl refl u refl
+        kept (InitLeaves slots journal x z line.Normal) x z s (s.in_use || false) (or_none s.in_use) (spoilt_named outturn stops x u) (made_unused (spoilt_ready outturn stops x) slots journal (few_slots x s slots journal h) (ready_unused outturn stops x u)) (λ k e. absurd (let f : ⊥ = cc in f)) refl
+init_stays x s stops slots journal rises WithoutMemory u may = kept (IsSameDisk x x) x x s s.in_use refl refl u (λ k. k) refl
 init_stays x s stops slots journal rises Unpowered u may =
     let z : Node = steps.with_unknown_volume true (world.unpowered stops x) in
-    kept (InitLeaves slots journal x z (line.Broken line.Failed)) x z s (s.in_use || false) (or_none s.in_use) refl (spoilt_unused (world.unpowered stops x) refl u.quiet u.settled) refl
+    kept (InitLeaves slots journal x z (line.Broken line.Failed)) x z s (s.in_use || false) (or_none s.in_use) refl (spoilt_unused (world.unpowered stops x) refl u.quiet u.settled) (λ k e. refl) (refl, refl)
 init_stays x s stops slots journal rises (Cut outturn done begun cause) u may =
     let y : Node = spoilt_ready outturn stops x in
     let e : Service = answers.service (Init slots journal) in
-    let r : IsUnused y = ready_unused outturn stops x u in
+    let r : IsIdle y = ready_unused outturn stops x u in
     let D : Node → Type 0 = λ z. InitLeaves slots journal x z (line.Broken cause) in
     let R : Node → Type 0 = λ z. StaysUnused x z s (occupied e (let rs : List Row = [] in shared_after_rows (take done rs) s)) (D z) in
     let S : Shared → Type 0 = λ t. StaysUnused x (world.fallen None y) s (occupied e t) (D (world.fallen None y)) in
     subst R (sym (nothing_cut done begun y)) (subst S (sym (nothing_shared done s))
-    (kept (D (world.fallen None y)) x (world.fallen None y) s (s.in_use || false) (or_none s.in_use) (spoilt_named outturn stops x u) (record { down = refl; quiet = refl; settled = r.settled; known = r.known; log = λ v. absurd (let f : ⊥ = cc in f) }) refl))
+    (kept (D (world.fallen None y)) x (world.fallen None y) s (s.in_use || false) (or_none s.in_use) (spoilt_named outturn stops x u) (record { down = refl; quiet = refl; settled = r.settled; log = λ v. absurd (let f : ⊥ = cc in f) }) (λ k e. refl) (refl, refl)))
 
 -- All tasks.
 
@@ -305,10 +323,10 @@ abbrev pub TaskTurnsBy : Task → Node → Shared → TaskEffect → Type 0
 TaskTurnsBy t x s f = (f.shared.in_use ≡ true) ⊎ StaysUnused x f.node s f.shared (TaskLeaves t x f)
 
 abbrev pub TaskTurns : Task → Type 1
-TaskTurns t = (x : Node) (s : Shared) (stops : ℕ) (rises : Cause → Type 0) (c : Choice) → IsUnused x → TaskAllowed s stops x t rises c → TaskTurnsBy t x s (task_effect s stops x t c)
+TaskTurns t = (x : Node) (s : Shared) (stops : ℕ) (rises : Cause → Type 0) (c : Choice) → IsIdle x → TaskAllowed s stops x t rises c → TaskTurnsBy t x s (task_effect s stops x t c)
 
 abbrev PlainTurns : Task → Type 1
-PlainTurns t = (x : Node) (s : Shared) (stops : ℕ) (rises : Cause → Type 0) (c : Choice) → IsUnused x → TaskAllowed s stops x t rises c → TurnsBy x s stops (task_service t) c
+PlainTurns t = (x : Node) (s : Shared) (stops : ℕ) (rises : Cause → Type 0) (c : Choice) → IsIdle x → TaskAllowed s stops x t rises c → TurnsBy x s stops (task_service t) c
 
 plain_task : (t : Task) → IsPlain (task_service t) → PlainTurns t
 plain_task t plain x s stops rises c u may = plain_turns x s stops (task_service t) rises c plain u may

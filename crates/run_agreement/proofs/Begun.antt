@@ -1,4 +1,4 @@
--- Each legal transcript has a base, and is a run from there on.
+-- Each legal transcript leads to a rack in no use, and is a run from there on.
 use Rattle.std.specs.Prelude.{if◌then◌else◌}
 use Rattle.std.specs.Str.{bytes_eq}
 use Rattle.std.proofs.Common.{◌≡◌, ℕ, Bool, true, false, List, [], ◌∷◌, ◌++◌, Option, Some, None, ◌⊎◌, inl, inr, refl, ap, sym, subst, ◌∙◌}
@@ -16,10 +16,9 @@ use Rattle.run_model.specs.Steps.{Choice, TaskEffect, task_effect}
 use Rattle.run_model.specs.Statements.{Part, PartEffect, Phase, Phases, Step, Begins, AllowedAt, Allowed, RoseAt, no_node, nothing_done, ended_by, stops_at, put_into, done_at, part_effect, phases_of, begun_with, refused_at_once}
 use Rattle.run_model.specs.Transcript.{Entry, Turn, Legal, AreOpening}
 use Rattle.run_model.proofs.PartLemmas.{Way, Done, Missing, Idle, Doubted, EachPart, EachPhase, way, phases_fold, ended, allowed_here, done_here}
-use Rattle.run_agreement.specs.Seen.{IsKnown}
-use Rattle.run_agreement.specs.Laws.{IsUnused, NamesApart, IsBase, MakesNoVolume, RunsFrom, RunsBegin}
+use Rattle.run_agreement.specs.Laws.{NamesApart, MakesNoVolume, RunsFrom}
 use Rattle.run_agreement.proofs.Found.{some_is, name_found, found_put, found_there, bytes_same, bytes_itself}
-use Rattle.run_agreement.proofs.Bases.{Beginning, StaysUnused, TaskLeaves, used_part, init_stays, task_turns}
+use Rattle.run_agreement.proofs.Bases.{Beginning, IsIdle, IsRack, StaysUnused, TaskLeaves, used_part, init_stays, task_turns}
 
 -- One node has become another in no use.
 
@@ -31,8 +30,8 @@ apart_put n z (y ∷ ys) named apart = go (bytes_eq n y.name) refl (apart_put n 
     go true is rest = let P : Name → Type 0 = λ m. find_node m ys ≡ None in (subst P (sym (bytes_same n y.name is) ∙ sym named) apart.0, apart.1)
     go false is rest = (found_there y.name n z ys named (λ q. both_ways (bytes_eq n y.name) is (bytes_itself n y.name (sym q))) ∙ apart.0, rest)
 
-pub base_put : (D : Type 0) (w : World) (n : Name) (x : Node) (e : TaskEffect) → find_node n w.nodes ≡ Some x → StaysUnused x e.node w.shared e.shared D → IsBase w → IsBase (put_into w n e).world
-base_put D w n x e found h base = record {
+pub rack_put : (D : Type 0) (w : World) (n : Name) (x : Node) (e : TaskEffect) → find_node n w.nodes ≡ Some x → StaysUnused x e.node w.shared e.shared D → IsRack w → IsRack (put_into w n e).world
+rack_put D w n x e found h base = record {
   nodes = nodes;
   apart = apart_put n e.node w.nodes named base.apart;
   labels = h.labels ∙ base.labels;
@@ -44,11 +43,11 @@ base_put D w n x e found h base = record {
     named : e.node.name ≡ n
     named = h.named ∙ name_found n w.nodes x found
 
-    nodes : (m : Name) (y : Node) → find_node m (with_node n (λ u. e.node) w.nodes) ≡ Some y → IsUnused y
+    nodes : (m : Name) (y : Node) → find_node m (with_node n (λ u. e.node) w.nodes) ≡ Some y → IsIdle y
     nodes m y is = elim (cases_name m n) [
       | inl same ↦
           let P : Name → Type 0 = λ k. find_node k (with_node n (λ u. e.node) w.nodes) ≡ Some y in
-          subst IsUnused (some_is e.node y (sym (found_put n e.node x w.nodes named found) ∙ subst P same is)) h.unused
+          subst IsIdle (some_is e.node y (sym (found_put n e.node x w.nodes named found) ∙ subst P same is)) h.idle
       | inr away ↦ base.nodes m y (sym (found_there m n e.node w.nodes named away) ∙ is)
     ]
 
@@ -64,7 +63,7 @@ part_begins after w p c may (inr base) = by (way w p c after may)
     by : Way w p c after → Beginning (part_effect w p c).world
     by (Done node t x found allowed is) =
         let e : TaskEffect = task_effect w.shared (stops_at node w) x t c in
-        to (put_into w node e) is (elim (task_turns t x w.shared (stops_at node w) (λ cause. RoseAt w node cause after) c (base.0.nodes node x found) allowed) [ inl used ↦ inl used | inr h ↦ inr (base_put (TaskLeaves t x e) w node x e found h base.0, h.use_same ∙ base.1) ])
+        to (put_into w node e) is (elim (task_turns t x w.shared (stops_at node w) (λ cause. RoseAt w node cause after) c (base.0.nodes node x found) allowed) [ inl used ↦ inl used | inr h ↦ inr (rack_put (TaskLeaves t x e) w node x e found h base.0, h.use_same ∙ base.1) ])
     by (Missing node none is) = to (no_node w) is (inr base)
     by (Idle is) = to (nothing_done w) is (inr base)
     by (Doubted node serial b asks none is) = to (ended_by w (line.InDoubt b.key.serial (coordinator_of b.key))) is (inr base)
@@ -88,12 +87,12 @@ phases_begin after ps w given lines answer v h =
 
 -- Statements.
 
-pub disks_base : (w : World) (ds : List DiskCounts) → IsBase w → IsBase (let v : World = record w { disks = ds } in v)
-disks_base w ds b = record { nodes = b.nodes; apart = b.apart; labels = b.labels; wire = b.wire; accepted = b.accepted; read_only = b.read_only }
+pub disks_rack : (w : World) (ds : List DiskCounts) → IsRack w → IsRack (let v : World = record w { disks = ds } in v)
+disks_rack w ds b = record { nodes = b.nodes; apart = b.apart; labels = b.labels; wire = b.wire; accepted = b.accepted; read_only = b.read_only }
 
 disks_begin : (w : World) (ds : List DiskCounts) → Beginning w → Beginning (let v : World = record w { disks = ds } in v)
 disks_begin w ds (inl used) = inl used
-disks_begin w ds (inr base) = inr (disks_base w ds base.0, base.1)
+disks_begin w ds (inr base) = inr (disks_rack w ds base.0, base.1)
 
 begun_begins : (s : Statement) (w : World) → Beginning w → Beginning (begun_with s w)
 begun_begins Settle w b = inl refl
@@ -108,14 +107,14 @@ step_begins w v s lines step b = subst Beginning (sym step.goes) (disks_begin st
     by (Some l) h = subst Beginning (sym h.2) b
     by None h = phases_begin v.disks (phases_of s) (begun_with s w) line.Normal step.events step.answer step.world h (begun_begins s w b)
 
--- An INIT that may make a volume leaves a base.
+-- An INIT that may make a volume leaves a rack in no use.
 
--- a base in which no node may be in use
-abbrev IsFresh : World → Type 0
-IsFresh w = IsBase w × (w.shared.in_use ≡ false)
+-- a rack in which no node may be in use
+abbrev pub IsFresh : World → Type 0
+IsFresh w = IsRack w × (w.shared.in_use ≡ false)
 
 disks_fresh : (w : World) (ds : List DiskCounts) → IsFresh w → IsFresh (let v : World = record w { disks = ds } in v)
-disks_fresh w ds b = (disks_base w ds b.0, b.1)
+disks_fresh w ds b = (disks_rack w ds b.0, b.1)
 
 init_done : (after : List DiskCounts) (w : World) (n : Name) (slots journal : ℕ) (c : Choice) → AllowedAt w n (Serves (Init slots journal)) after c → IsFresh w → IsFresh (done_at w n (Serves (Init slots journal)) c).world
 init_done after w n slots journal c may base = by (find_node n w.nodes) refl
@@ -129,7 +128,7 @@ init_done after w n slots journal c may base = by (find_node n w.nodes) refl
         let t : Task = Serves (Init slots journal) in
         let e : TaskEffect = task_effect w.shared (stops_at n w) x t c in
         let h = init_stays x w.shared (stops_at n w) slots journal (λ cause. RoseAt w n cause after) c (base.0.nodes n x found) (allowed_here w n t x after c found may) in
-        to (put_into w n e) (done_here w n t x c found) (base_put (TaskLeaves t x e) w n x e found h base.0, h.use_same ∙ base.1)
+        to (put_into w n e) (done_here w n t x c found) (rack_put (TaskLeaves t x e) w n x e found h base.0, h.use_same ∙ base.1)
 
 init_base : (w v : World) (n : Name) (slots journal : ℕ) (lines : List Line) → Step w (At n (Init slots journal)) lines v → IsFresh w → IsFresh v
 init_base w v n slots journal lines step base = subst IsFresh (sym step.goes) (disks_fresh step.world v.disks (by (refused_at_once w (At n (Init slots journal))) step.does))
@@ -138,7 +137,7 @@ init_base w v n slots journal lines step base = subst IsFresh (sym step.goes) (d
     by (Some l) h = subst IsFresh (sym h.2) base
     by None h = subst IsFresh (sym (ended (done_at w n (Serves (Init slots journal)) h.0) v.disks step.events step.answer step.world h.2).2) (init_done v.disks w n slots journal h.0 h.1 base)
 
--- Entries: each makes no volume, or leaves a base.
+-- Entries: each makes no volume, or leaves a rack in no use.
 
 statement_turns : (w v : World) (s : Statement) (lines : List Line) → Step w s lines v → Beginning w → MakesNoVolume w (Says s) ⊎ IsFresh v
 statement_turns w v (At n (Init slots journal)) lines step (inl used) = inl (λ node k j e. used)
@@ -153,11 +152,11 @@ entry_turns w v Blank lines turn b = (subst Beginning (sym turn.1) b, inl tt)
 entry_turns w v (Says s) lines step b = (step_begins w v s lines step b, statement_turns w v s lines step b)
 entry_turns w v (Bad column) lines turn b = absurd turn
 
--- the oldest entries lead to a base, and the others are a run from there on
-abbrev HasBase : World → List Entry → World → Type 0
-HasBase first es v = (base : World) × (before : List Entry) × (since : List Entry) × (es ≡ since ++ before) × Legal first before base × IsBase base × RunsFrom base since v × (base.shared.in_use ≡ false)
+-- the oldest entries lead to a rack in which no node may be in use, and the others are a run from there on
+abbrev pub HasBase : World → List Entry → World → Type 0
+HasBase first es v = (base : World) × (before : List Entry) × (since : List Entry) × (es ≡ since ++ before) × Legal first before base × IsRack base × RunsFrom base since v × (base.shared.in_use ≡ false)
 
-transcript_begins : (first v : World) (es : List Entry) → IsFresh first → Legal first es v → Beginning v × HasBase first es v
+pub transcript_begins : (first v : World) (es : List Entry) → IsFresh first → Legal first es v → Beginning v × HasBase first es v
 transcript_begins first v [] base is = let P : World → Type 0 = λ u. Beginning u × HasBase first [] u in subst P (sym is) (inr base, (first, [], [], refl, refl, base.0, refl, base.1))
 transcript_begins first v (e ∷ es) base legal =
     let earlier = transcript_begins first legal.0 es base legal.1 in
@@ -175,15 +174,12 @@ opening_found (y ∷ ys) are m x e = go (bytes_eq m y.name) (opening_found ys ar
     go true more k = subst IsOpening (some_is y x k) are.0
     go false more k = more k
 
-pub opening_base : (nodes : List Node) (disks : List DiskCounts) → AreOpening nodes → NamesApart nodes → ((n : Name) (x : Node) → find_node n nodes ≡ Some x → IsKnown x) → IsBase (opened nodes disks)
-opening_base nodes disks are apart known = record {
-  nodes = λ n x found. let o = opening_found nodes are n x found in record { down = o.down; quiet = o.under_way; settled = o.settled; known = known n x found; log = λ v. o.log };
+pub opening_rack : (nodes : List Node) (disks : List DiskCounts) → AreOpening nodes → NamesApart nodes → IsRack (opened nodes disks)
+opening_rack nodes disks are apart = record {
+  nodes = λ n x found. let o = opening_found nodes are n x found in record { down = o.down; quiet = o.under_way; settled = o.settled; log = λ v. o.log };
   apart = apart;
   labels = refl;
   wire = refl;
   accepted = refl;
   read_only = refl;
 }
-
-pub runs_begin : RunsBegin
-runs_begin nodes disks es v are apart known legal = (transcript_begins (opened nodes disks) v es (opening_base nodes disks are apart known, refl) legal).1

@@ -228,9 +228,25 @@ images_told (n ∷ ns) es = with_image n.name (image_told n.name (volume_image n
 abbrev pub opening_told : List Node → List Entry → Opening
 opening_told ns es = record { images = images_told ns es }
 
+-- An entry replaces what the disk of this node had: it is an INIT of it that succeeded, or that a failure ended.
+pub record Replaces (node : Name) (e : Entry) : Type 0 where
+  pub slots : ℕ
+  pub journal : ℕ
+  pub says : reading e.source.text ≡ Says (At node (Init slots journal))
+  pub answered : (last_or None e.lines ≡ Some Normal) ⊎ ((cause : Cause) × (last_or None e.lines ≡ Some (Broken cause)))
+
+-- one of these entries does
+abbrev pub IsReplaced : Name → List Entry → Type 0
+IsReplaced node [] = ⊥
+IsReplaced node (e ∷ es) = Replaces node e ⊎ IsReplaced node es
+
+-- Of each of these nodes something is known of its disk, or these entries replace what that had.
+abbrev pub AreKnownOrReplaced : List Entry → List Node → Type 0
+AreKnownOrReplaced es nodes = (n : Name) (x : Node) → find_node n nodes ≡ Some x → IsKnown x ⊎ IsReplaced n es
+
 -- As long as no node may be in use, the world is a base, and its images are those that the lines tell;
 abbrev pub UnusedAreTold : Type 0
-UnusedAreTold = (nodes : List Node) (disks : List DiskCounts) (es : List Entry) (w : World) → AreOpening nodes → NamesApart nodes → ((n : Name) (x : Node) → find_node n nodes ≡ Some x → IsKnown x) →
+UnusedAreTold = (nodes : List Node) (disks : List DiskCounts) (es : List Entry) (w : World) → AreOpening nodes → NamesApart nodes → AreKnownOrReplaced es nodes →
     Legal (world.opened nodes disks) es w → w.shared.in_use ≡ false → IsBase w × (opening_of w ≡ opening_told nodes es)
 
 -- and from then on no line tells of others.
@@ -243,7 +259,8 @@ RunsTellNoMore = (nodes : List Node) (base v : World) (before since : List Entry
 
 -- Each legal transcript is a run.
 
--- Each legal transcript from a rack before its first line, of nodes of different names of whose disks something is known, has a base, and is a run from there on.
+-- Each legal transcript from a rack before its first line, of nodes of different names, has a base, and is a run from there on: where something is known of each disk, or
+-- the transcript replaces what that had.
 abbrev pub RunsBegin : Type 0
-RunsBegin = (nodes : List Node) (disks : List DiskCounts) (es : List Entry) (v : World) → AreOpening nodes → NamesApart nodes → ((n : Name) (x : Node) → find_node n nodes ≡ Some x → IsKnown x) →
+RunsBegin = (nodes : List Node) (disks : List DiskCounts) (es : List Entry) (v : World) → AreOpening nodes → NamesApart nodes → AreKnownOrReplaced es nodes →
     Legal (world.opened nodes disks) es v → (base : World) × (before : List Entry) × (since : List Entry) × (es ≡ since ++ before) × Legal (world.opened nodes disks) before base × IsBase base × RunsFrom base since v × (base.shared.in_use ≡ false)

@@ -41,8 +41,9 @@ pub fn settling_leaves_none()
     run_model::failure_puts_down();
 }
 
-/// Each legal transcript, from nodes of different names of whose disks something is known, has a base: the world after the last INIT that was asked
-/// while no node was in use, or the one before the first line. Its entries up to there lead to the base, and the others are a run from there on.
+/// Each legal transcript, from nodes of different names, has a base: the world after the last INIT that was asked while no node was in use, or the one before
+/// the first line. Its entries up to there lead to the base, and the others are a run from there on. So it is where something is known of each disk, or an
+/// INIT of the transcript replaces what that had, one that succeeds or that a failure ends.
 pub fn runs_begin()
     ensures begin { RunsBegin }
 {}

@@ -1,6 +1,6 @@
 -- The last settlement of a disk is of no unit of its journal and of no prepared record; and while its node is up, of no branch.
-use Rattle.std.proofs.Common.{◌≡◌, ◌≤◌, ◌<◌, ℕ, ◌+◌, List, [], ◌∷◌, inl, inr, Bool, true, false, Option, Some, None, if◌then◌else◌, refl, sym, ◌∙◌, ap, subst, arith}
-use Rattle.std.specs.Prelude.{is_some}
+use Rattle.std.proofs.Common.{◌≡◌, ◌⊎◌, ◌≤◌, ◌<◌, ℕ, ◌+◌, List, [], ◌∷◌, inl, inr, Bool, true, false, Option, Some, None, if◌then◌else◌, refl, sym, ◌∙◌, ap, subst, arith}
+use Rattle.std.specs.Prelude.{is_some, not, ◌||◌}
 use Rattle.std.specs.Str.{bytes_eq}
 use Rattle.std.proofs.lemmas.Bool.{both_ways, false_from_ne_true}
 use Rattle.vms_model.specs.Ids.{Id}
@@ -26,7 +26,8 @@ use Rattle.world_laws.specs.run_model.World as world
 use Rattle.world_laws.specs.run_model.World.{World, Shared, Node, DiskCounts, Durable, Act, Arms, Boots, Changes, Clocks, ComesUp, Creates, Directs, Draws, Falls, Formats, Holds, IsOpening, Labels, LastIsReached, Marks, Saves, Recovers, Numbers, Tables, Settlement, aborted_prepared, acted, find_node, next_id, opened, settlement_of, with_half}
 use Rattle.world_laws.specs.run_model.Answers as answers
 use Rattle.world_laws.specs.run_model.Answers.{Task, task_service, unit_key}
-use Rattle.world_laws.specs.run_model.Steps.{Choice, TaskAllowed, node_after, task_effect}
+use Rattle.world_laws.specs.run_model.Operations.{refused_if}
+use Rattle.world_laws.specs.run_model.Steps.{Choice, TaskAllowed, node_after, task_effect, with_unknown_volume}
 use Rattle.world_laws.specs.run_model.Statements.{Part, PartEffect, Begins, Phases, Step, Allowed, RoseAt, begun_with, part_effect, phases_of, refused_at_once, stops_at}
 use Rattle.world_laws.specs.run_model.Transcript.{AreOpening, Entry, Legal, Turn}
 use Rattle.world_laws.proofs.run_model.PartLemmas.{phases_fold}
@@ -35,6 +36,7 @@ use Rattle.world_laws.proofs.run_model.Refusing.{each_phase}
 use Rattle.world_laws.proofs.run_model.TaskLemmas.{effect_name}
 use Rattle.world_laws.specs.Nodes.{IsKeptDisk, IsOf, IsUp}
 use Rattle.world_laws.specs.Running.{IsDrawn}
+use Rattle.world_laws.proofs.AnswerLemmas.{neither, not_refused}
 use Rattle.world_laws.proofs.BootLemmas.{branch_in}
 use Rattle.world_laws.proofs.FindLemmas.{some_is}
 use Rattle.world_laws.proofs.IdLemmas.{id_is}
@@ -44,8 +46,12 @@ use Rattle.world_laws.proofs.ServedLemmas.{undrawn}
 use Rattle.world_laws.proofs.TableLemmas.{changed_serials, found_in, in_cut, in_serials, of_serial, serials_apart}
 use Rattle.world_laws.proofs.UpLemmas.{branch_drawn, differ, drawn_more}
 use Rattle.world_laws.proofs.WorldLemmas.{each_opening}
+use Rattle.run_laws.specs.Accounts.{made_anew}
 use Rattle.run_laws.specs.Promises.{AreLastApart, IsLastApart}
+use Rattle.run_laws.proofs.run_agreement.Barred.{quiet_powered}
+use Rattle.run_laws.proofs.DumpsShown.{WasMade}
 use Rattle.run_laws.proofs.Keeping.{IsNextUnit, Keeps, Kept, Scheme, all_take, any_effect, closes_plain}
+use Rattle.run_laws.proofs.MadeAnew.{made_new}
 use Rattle.run_laws.proofs.Once.{fewer_after, of_drawn, put_serials_new, unit_branch, unit_of}
 use Rattle.run_laws.proofs.RowFits.{FitsTable, RowFits, free_after, latest_id}
 use Rattle.run_laws.proofs.SoundWorlds.{Beside, Changed, Here, IsSound, IsSoundNode, begins_sound, changed, legal_sound, opening_sound, part_sound, sound_node, unused}
@@ -329,9 +335,34 @@ module _ (name : List ℕ) where
   turn_last w v (Says s) lines t sound h = step_last w v s lines t sound h
   turn_last w v (Bad column) lines t sound h = absurd t
 
-  legal_last : (opening w : World) (es : List Entry) → IsSound opening → HaveApart opening → Legal opening es w → HaveApart w
-  legal_last opening w [] sound h legal = subst HaveApart (sym legal) h
-  legal_last opening w (e ∷ es) sound h legal = turn_last legal.0 w (reading e.source.text) e.lines legal.2 (legal_sound opening legal.0 es sound legal.1) (legal_last opening legal.0 es sound h legal.1)
+  -- a volume that was just made has none
+  made_apart : (w v : World) (e : Entry) → IsSound w → Turn w (reading e.source.text) e.lines v → made_anew name (reading e.source.text) e.lines ≡ true → HaveApart v
+  made_apart w v e sound t made m found =
+      let new = made_new w v name (reading e.source.text) e.lines t made m found in
+      let off : w.shared.in_use ≡ false =
+      not_refused w.shared.in_use line.VolumeInUse (neither (refused_if w.shared.in_use line.VolumeInUse) _ (neither (refused_if (not (new.old.up || true)) line.NodeDown) _ new.unrefused).1).0 in
+      let unused = (sound.kept name new.old new.was).unused off in
+      let z : Node = acted (Formats new.slots new.journal) (with_unknown_volume true (world.powered new.outturn new.stops new.old)) in
+      let down : z.up ≡ false = ap (λ (y : Node). y.up) (quiet_powered new.outturn new.stops new.old unused.1) ∙ unused.0 in
+      subst HasApart new.is (record {
+        disk = record { own = λ s e. let no : ⊥ = cc in absurd no; units = λ s e. let no : ⊥ = cc in absurd no; prepared = λ s r e. let no : ⊥ = cc in absurd no };
+        way = λ act under. let clash : ◌≡◌ {A = Option Act} None (Some act) = under in let no : ⊥ = cc in absurd no;
+        runs = λ up. absurd (both_ways z.up down up);
+      })
+
+  -- from a world in which it is so, or where the entries make the volume
+  legal_last : (opening w : World) (es : List Entry) → IsSound opening → HaveApart opening ⊎ WasMade name es → Legal opening es w → HaveApart w
+  legal_last opening w [] sound (inl h) legal = subst HaveApart (sym legal) h
+  legal_last opening w [] sound (inr none) legal = absurd none
+  legal_last opening w (e ∷ es) sound start legal = go start (legal_last opening legal.0 es sound)
+    where
+      mid : IsSound legal.0
+      mid = legal_sound opening legal.0 es sound legal.1
+
+      go : HaveApart opening ⊎ WasMade name (e ∷ es) → (HaveApart opening ⊎ WasMade name es → Legal opening es legal.0 → HaveApart legal.0) → HaveApart w
+      go (inl h) more = turn_last legal.0 w (reading e.source.text) e.lines legal.2 mid (more (inl h) legal.1)
+      go (inr (inl now)) more = made_apart legal.0 w e mid legal.2 now
+      go (inr (inr was)) more = turn_last legal.0 w (reading e.source.text) e.lines legal.2 mid (more (inr was) legal.1)
 
 each_apart : (ns : List Node) → AreLastApart ns → (node : List ℕ) (n : Node) → find_node node ns ≡ Some n → IsLastApart n
 each_apart [] h node n e = let none : ⊥ = cc in absurd none
@@ -355,12 +386,12 @@ opening_last n o h = record {
 disk_apart : (n : Node) → IsLastDisk n.name n.durable → IsLastApart n
 disk_apart n d = λ s e. (d.units s e, λ r i. d.prepared s r e i)
 
--- of one node, whatever the others have
-pub last_stays_apart : (nodes : List Node) (disks : List DiskCounts) (es : List Entry) (closing : World) → AreOpening nodes → (name : List ℕ) → ((n : Node) → find_node name nodes ≡ Some n → IsLastApart n) → Legal (opened nodes disks) es closing →
+-- of one node, whatever the others have; and so it is where entries make its volume
+pub last_stays_apart : (nodes : List Node) (disks : List DiskCounts) (es : List Entry) (closing : World) → AreOpening nodes → (name : List ℕ) → ((n : Node) → find_node name nodes ≡ Some n → IsLastApart n) ⊎ WasMade name es → Legal (opened nodes disks) es closing →
     (n : Node) → find_node name closing.nodes ≡ Some n → IsLastApart n × ((act : Act) → n.under_way ≡ Some act → IsLastApart (acted act n))
-last_stays_apart nodes disks es closing opening name apart legal n found =
-    let h = legal_last name (opened nodes disks) closing es (opening_sound nodes disks opening) (λ m is. opening_last m (each_opening nodes opening name m is) (apart m is)) legal n found in
+last_stays_apart nodes disks es closing opening name start legal n found =
+    let h = legal_last name (opened nodes disks) closing es (opening_sound nodes disks opening) (elim start [ inl apart ↦ inl (λ m is. opening_last m (each_opening nodes opening name m is) (apart m is)) | inr made ↦ inr made ]) legal n found in
     (disk_apart n h.disk, λ act e. disk_apart (acted act n) (h.way act e))
 
 pub lasts_stay_apart : LastsStayApart
-lasts_stay_apart nodes disks es closing opening apart legal name = last_stays_apart nodes disks es closing opening name (each_apart nodes apart name) legal
+lasts_stay_apart nodes disks es closing opening apart legal name = last_stays_apart nodes disks es closing opening name (inl (each_apart nodes apart name)) legal

@@ -14,25 +14,27 @@ use Rattle.commit_protocol.specs.World.{In}
 use Rattle.commit_protocol.specs.Opening.{Image, IsAgreeing, OldIn, Opening, image_at, image_in, new_volumes, no_image, or_none}
 use Rattle.commit_protocol.proofs.NewVolumes.{new_agree}
 use Rattle.world_laws.specs.run_model.World.{World, Node, Durable, Volume, Sound, Faulty, Barred, Unknown, Act, Half, MayTurnOut, Settlement, aborted_prepared, acted, find_node, opened, with_half}
-use Rattle.world_laws.specs.run_model.Transcript.{AreOpening, Entry, Legal}
+use Rattle.world_laws.specs.run_model.Transcript.{Entry}
 use Rattle.world_laws.proofs.run_model.NodeLists.{found_name, some_is}
 use Rattle.run_laws.specs.run_agreement.Seen.{Face, IsFace, IsKnown, Resolution, has_volume, image_of, landed, outcome_of}
 use Rattle.run_laws.specs.run_agreement.Following.{opening_of}
-use Rattle.run_laws.specs.run_agreement.Laws.{IsRun, NamesApart, image_after, image_told, next_opening, opening_told, volume_image}
+use Rattle.run_laws.specs.run_agreement.Laws.{IsReplaced, IsRun, NamesApart, image_after, image_told, next_opening, opening_told, volume_image}
 use Rattle.run_laws.proofs.run_agreement.Events.{down_of_face, up_of_face}
 use Rattle.run_laws.proofs.run_agreement.Images.{after_in}
 use Rattle.run_laws.proofs.run_agreement.Openings.{reached_by}
-use Rattle.run_laws.specs.Anew.{AreForgotten, AreKnownOrAnew, IsMadeAnew}
+use Rattle.run_laws.specs.Anew.{AreKnownOrAnew}
 use Rattle.run_laws.specs.Promises.{AreLastApart, IsLastApart}
 use Rattle.run_laws.specs.Laws.{AgreedPromisesAreKept}
-use Rattle.run_laws.proofs.Anewed.{others_apart, others_for, others_forget, others_last, others_open, same_world, told_alike}
+use Rattle.run_laws.proofs.AbortsStand.{made_or_none}
+use Rattle.run_laws.proofs.Anewed.{fits_of}
+use Rattle.run_laws.proofs.DumpsShown.{WasMade}
 use Rattle.run_chains.specs.Reopenings.{IsReopened, reopened}
 use Rattle.run_chains.specs.Chains.{Active, AgreeingAreNew, AreNext, ChainsAgree, Committed, Follow, IsNew, Last, MadeAreNew, MayAgree, NextRunsAgree, Prepared, RunOf, TellsBranch, TellsNoneOf, Waited, is_made}
 use Rattle.run_chains.proofs.Anew.{Turns, agree_anew, told_old}
 use Rattle.run_chains.proofs.Lasts.{last_stays_apart}
 use Rattle.run_chains.proofs.Names.{Both, Nowhere, Place, all_apart, legal_names, next_names, node_at, place, same_apart}
 use Rattle.run_laws.proofs.ToldImages.{face, in_base, told_found, told_nowhere, told_out}
-use Rattle.run_chains.proofs.Told.{IsToldSo, told_so}
+use Rattle.run_chains.proofs.Told.{IsToldSo, replaced_told, told_so}
 
 -- One node.
 
@@ -185,17 +187,6 @@ next_runs_agree promised nodes disks es closing may legal next are =
       known = λ none name m e f. absurd (known p.base p.since p.run.is_run none name m e f (place name closing.nodes next are));
     }
   where
-    -- the run leads to the same world from nodes without the volumes that it makes anew
-    others : List Node
-    others = others_for es nodes may.disks
-
-    opens : AreOpening others
-    opens = others_open es nodes may.disks may.opening
-
-    led : Legal (opened others disks) es closing
-    led = same_world es nodes others disks may.opening opens may.names (others_forget es nodes may.disks) [] es closing refl (λ node m. m.made)
-        (same_apart nodes closing.nodes (legal_names (opened nodes disks) closing es legal) may.names) legal
-
     known : (base : World) (since : List Entry) → IsRun base since closing → ((name : List ℕ) (n : Node) → find_node name closing.nodes ≡ Some n → n.durable.volume ≡ Unknown → ⊥) → (name : Name) (m : Node) → find_node name next ≡ Some m → m.durable.volume ≡ Unknown → Place name closing.nodes next → ⊥
     known base since is_run none name m e f (Nowhere a b) = let clash : ◌≡◌ {A = Option Node} None (Some m) = sym b ∙ e in let no : ⊥ = cc in no
     known base since is_run none name m e f (Both n y a b is) = by (lands n y is.reopened).0 (lands n y is.reopened).1
@@ -216,20 +207,28 @@ next_runs_agree promised nodes disks es closing may legal next are =
             went (Barred bar) q k = let clash : Barred bar ≡ Unknown = sym k ∙ unknown in let no : ⊥ = cc in absurd no
             went Unknown q k = q
 
-    forget : AreForgotten es nodes others
-    forget = others_forget es nodes may.disks
-
     -- a node that is left with a volume began with an image
-    began : (base : World) (since : List Entry) → IsRun base since closing → opening_of base ≡ opening_told nodes es → (name : Name) (n : Node) → find_node name closing.nodes ≡ Some n → has_volume n ≡ true → (k : Node) → find_node name others ≡ Some k → image_told k.name (volume_image k) es ≡ None → ⊥
-    began base since is_run told name n a has k f none = both_ways (is_some (image_in name (opening_of base).images)) (ap (λ (o : Opening). is_some (image_in name o.images)) (told ∙ sym (told_alike es nodes others forget))
-        ∙ told_out name others es k (others_apart es nodes others may.opening opens forget may.names) f (ap (λ x. image_told x (volume_image k) es) (sym (found_name name others k f)) ∙ none)) (in_base base closing since is_run (λ x. false) name n a has)
+    began : (base : World) (since : List Entry) → IsRun base since closing → opening_of base ≡ opening_told nodes es → (name : Name) (n : Node) → find_node name closing.nodes ≡ Some n → has_volume n ≡ true → (k : Node) → find_node name nodes ≡ Some k → image_told name (volume_image k) es ≡ None → ⊥
+    began base since is_run told name n a has k f none = both_ways (is_some (image_in name (opening_of base).images)) (ap (λ (o : Opening). is_some (image_in name o.images)) told ∙ told_out name nodes es k may.names f none) (in_base base closing since is_run (λ x. false) name n a has)
+
+    -- so its last settlement was of no branch that stood unsettled then, or the run made its volume
+    started : (base : World) (since : List Entry) → IsRun base since closing → opening_of base ≡ opening_told nodes es → (name : Name) (n : Node) → find_node name closing.nodes ≡ Some n → has_volume n ≡ true → (o : Option Node) → find_node name nodes ≡ o →
+        ((k : Node) → find_node name nodes ≡ Some k → IsLastApart k) ⊎ WasMade name es
+    started base since is_run told name n a has None none = inl (λ k f. let clash : ◌≡◌ {A = Option Node} None (Some k) = sym none ∙ f in let no : ⊥ = cc in absurd no)
+    started base since is_run told name n a has (Some k) f = elim (fits_of es nodes may.disks name k f) [
+      | inl last ↦ inl (λ j g. subst IsLastApart (some_is k j (sym f ∙ g)) last)
+      | inr how ↦ elim how [
+        | inl none ↦ absurd (began base since is_run told name n a has k f none)
+        | inr replaced ↦ elim (made_or_none (opened nodes disks) closing name (volume_image k) es legal replaced) [ inl none ↦ absurd (began base since is_run told name n a has k f none) | inr made ↦ inr made ]
+      ]
+    ]
 
     apart : (base : World) (since : List Entry) → IsRun base since closing → opening_of base ≡ opening_told nodes es → (name : Name) (m : Node) → find_node name next ≡ Some m → Place name closing.nodes next → IsLastApart m
     apart base since is_run told name m e (Nowhere a b) = let clash : ◌≡◌ {A = Option Node} None (Some m) = sym b ∙ e in let no : ⊥ = cc in absurd no
     apart base since is_run told name m e (Both n y a b is) = subst IsLastApart (some_is y m (sym b ∙ e)) (by (lands n y is.reopened).0 (lands n y is.reopened).1)
       where
         kept : has_volume n ≡ true → IsLastApart n × ((act : Act) → n.under_way ≡ Some act → IsLastApart (acted act n))
-        kept has = last_stays_apart others disks es closing opens name (λ k f. elim (others_last es nodes may.disks name k f) [ inl last ↦ last | inr none ↦ absurd (began base since is_run told name n a has k f none) ]) led n a
+        kept has = last_stays_apart nodes disks es closing may.opening name (started base since is_run told name n a has (find_node name nodes) refl) legal n a
 
         by : (taken : Bool) → Lands n y taken → IsLastApart y
         by taken (inl (has, disk)) = disk_apart (landed taken n) y disk (landed_apart taken n (kept has).0 (kept has).1)
@@ -249,24 +248,27 @@ new_apart n new = go (has_volume n) refl
     go true has = λ s e. absurd (none n.durable.last (ap (λ (i : Image). i.last) (new.image has)) s e)
     go false has = new.bare has
 
-module _ (nodes : List Node) (es : List Entry) (names : NamesApart nodes) (new : (name : List ℕ) (n : Node) → find_node name nodes ≡ Some n → IsNew n) where
+module _ (nodes : List Node) (es : List Entry) (names : NamesApart nodes) (new : (name : List ℕ) (n : Node) → find_node name nodes ≡ Some n → IsNew n ⊎ IsReplaced name es) where
   -- each image is none, or that of a new volume
   nothing_told : (name : Name) → (image_in name (opening_told nodes es).images ≡ None) ⊎ (image_in name (opening_told nodes es).images ≡ Some no_image)
   nothing_told name = go (find_node name nodes) refl
     where
       go : (o : Option Node) → find_node name nodes ≡ o → (image_in name (opening_told nodes es).images ≡ None) ⊎ (image_in name (opening_told nodes es).images ≡ Some no_image)
       go None e = inl (told_nowhere name nodes es e)
-      go (Some n) e = elim (told_so name (volume_image n) es) [
-        | inl made ↦ inr (told ∙ made.1)
-        | inr other ↦ elim other.1 [ inl same ↦ first (has_volume n) refl (told ∙ same) | inr gone ↦ inl (told ∙ gone) ]
+      go (Some n) e = elim (new name n e) [
+        | inl fresh ↦ elim (told_so name (volume_image n) es) [
+          | inl made ↦ inr (told ∙ made.1)
+          | inr other ↦ elim other.1 [ inl same ↦ first fresh (has_volume n) refl (told ∙ same) | inr gone ↦ inl (told ∙ gone) ]
+        ]
+        | inr replaced ↦ elim (replaced_told name (volume_image n) es replaced) [ inl none ↦ inl (told ∙ none) | inr anew ↦ inr (told ∙ anew) ]
       ]
         where
           told : image_in name (opening_told nodes es).images ≡ image_told name (volume_image n) es
           told = told_found name nodes es n names e
 
-          first : (b : Bool) → has_volume n ≡ b → image_in name (opening_told nodes es).images ≡ volume_image n → (image_in name (opening_told nodes es).images ≡ None) ⊎ (image_in name (opening_told nodes es).images ≡ Some no_image)
-          first true has f = inr (f ∙ (λ i. if has i then Some (image_of n) else None) ∙ ap Some ((new name n e).image has))
-          first false has f = inl (f ∙ (λ i. if has i then Some (image_of n) else None))
+          first : IsNew n → (b : Bool) → has_volume n ≡ b → image_in name (opening_told nodes es).images ≡ volume_image n → (image_in name (opening_told nodes es).images ≡ None) ⊎ (image_in name (opening_told nodes es).images ≡ Some no_image)
+          first fresh true has f = inr (f ∙ (λ i. if has i then Some (image_of n) else None) ∙ ap Some (fresh.image has))
+          first fresh false has f = inl (f ∙ (λ i. if has i then Some (image_of n) else None))
 
   nothing_at : (name : Name) → image_at (opening_told nodes es) name ≡ no_image
   nothing_at name = elim (nothing_told name) [ inl e ↦ ap or_none e | inr e ↦ ap or_none e ]
@@ -285,30 +287,25 @@ module _ (nodes : List Node) (es : List Entry) (names : NamesApart nodes) (new :
   new_agrees = agree_anew (new_volumes []) (opening_told nodes es) (λ name. inr (elim (nothing_told name) [ inl e ↦ inl e | inr e ↦ inr (e, tells_none name) ])) (new_agree [])
 
 -- what is known of the disks of the first run, or is made on them
-abbrev first_known : (es : List Entry) (ns : List Node) → AllByRecursion (λ (n : Node). (IsNew n × IsKnown n) ⊎ IsMadeAnew n.name es) ns → AreKnownOrAnew es ns
+abbrev first_known : (es : List Entry) (ns : List Node) → AllByRecursion (λ (n : Node). (IsNew n × IsKnown n) ⊎ IsReplaced n.name es) ns → AreKnownOrAnew es ns
 first_known es [] h = tt
 first_known es (n ∷ ns) (inl (new, known), rest) = (inl (known, inl (new_apart n new)), first_known es ns rest)
 first_known es (n ∷ ns) (inr made, rest) = (inr made, first_known es ns rest)
 
--- without the volumes that it makes anew each of its nodes is new
-first_new : (es : List Entry) (ns : List Node) (h : AllByRecursion (λ (n : Node). (IsNew n × IsKnown n) ⊎ IsMadeAnew n.name es) ns) → AllByRecursion IsNew (others_for es ns (first_known es ns h))
-first_new es [] h = tt
-first_new es (n ∷ ns) (inl (new, known), rest) = (new, first_new es ns rest)
-first_new es (n ∷ ns) (inr made, rest) = (record { image = λ has. let no : ⊥ = cc in absurd no; bare = λ none s e. let no : ⊥ = cc in absurd no }, first_new es ns rest)
+-- each of its nodes is new, or what its disk had is replaced
+first_new : (es : List Entry) (ns : List Node) → AllByRecursion (λ (n : Node). (IsNew n × IsKnown n) ⊎ IsReplaced n.name es) ns → (name : List ℕ) (n : Node) → find_node name ns ≡ Some n → IsNew n ⊎ IsReplaced name es
+first_new es ns h name n found =
+    let one = node_at (λ (x : Node). (IsNew x × IsKnown x) ⊎ IsReplaced x.name es) ns name n h found in
+    elim one [ inl k ↦ inl k.0 | inr made ↦ inr (subst (λ x. IsReplaced x es) (found_name name ns n found) made) ]
 
-next_known : (es : List Entry) (ns : List Node) → AreLastApart ns → AllByRecursion (λ (n : Node). IsKnown n ⊎ IsMadeAnew n.name es) ns → AreKnownOrAnew es ns
+next_known : (es : List Entry) (ns : List Node) → AreLastApart ns → AllByRecursion (λ (n : Node). IsKnown n ⊎ IsReplaced n.name es) ns → AreKnownOrAnew es ns
 next_known es [] lasts h = tt
 next_known es (n ∷ ns) lasts (inl known, rest) = (inl (known, inl lasts.0), next_known es ns lasts.1 rest)
 next_known es (n ∷ ns) lasts (inr made, rest) = (inr made, next_known es ns lasts.1 rest)
 
 chain_agrees : AgreedPromisesAreKept → (r : RunOf) (rs : List RunOf) → Follow (r ∷ rs) → MayAgree r.nodes r.entries
 chain_agrees promised r [] h =
-    let disks = first_known r.entries r.nodes h.1.1 in
-    let others = others_for r.entries r.nodes disks in
-    let forget = others_forget r.entries r.nodes disks in
-    let apart = others_apart r.entries r.nodes others h.2 (others_open r.entries r.nodes disks h.2) forget h.1.0 in
-    let agree = new_agrees others r.entries apart (λ name n e. node_at IsNew others name n (first_new r.entries r.nodes h.1.1) e) in
-    record { opening = h.2; names = h.1.0; disks = disks; agree = subst IsAgreeing (told_alike r.entries r.nodes others forget) agree }
+    record { opening = h.2; names = h.1.0; disks = first_known r.entries r.nodes h.1.1; agree = new_agrees r.nodes r.entries h.1.0 (first_new r.entries r.nodes h.1.1) }
 chain_agrees promised r (before ∷ rs) h =
     let left = next_runs_agree promised before.nodes before.disks before.entries before.closing (chain_agrees promised before rs h.0) h.0.3 r.nodes h.1.0 in
     record { opening = h.2; names = left.names; disks = next_known r.entries r.nodes left.lasts h.1.2; agree = left.told r.entries h.1.1 }

@@ -13,8 +13,8 @@ use Rattle.commit_protocol.specs.Opening.{IsAgreeing, LastIn, Opening, WaitedFor
 use Rattle.world_laws.specs.run_model.World.{World, Node, DiskCounts, Act, Unknown, acted, find_node, opened}
 use Rattle.world_laws.specs.run_model.Transcript.{AreOpening, Entry, Legal}
 use Rattle.run_laws.specs.run_agreement.Seen.{IsKnown, has_volume, image_of}
-use Rattle.run_laws.specs.run_agreement.Laws.{NamesApart, opening_told}
-use Rattle.run_laws.specs.Anew.{AreKnownOrAnew, IsMadeAnew}
+use Rattle.run_laws.specs.run_agreement.Laws.{IsReplaced, NamesApart, opening_told}
+use Rattle.run_laws.specs.Anew.{AreKnownOrAnew}
 use Rattle.run_laws.specs.Promises.{AreLastApart, IsLastApart}
 use Rattle.run_laws.specs.Laws.{AgreedPromises}
 use Rattle.run_chains.specs.Reopenings.{IsReopened}
@@ -83,8 +83,8 @@ AreNext (n ∷ ns) (m ∷ ms) = IsNext n m × AreNext ns ms
 AreNext [] (m ∷ ms) = ⊥
 AreNext (n ∷ ns) [] = ⊥
 
--- The premises under which more is promised of a run (AgreedPromises): of the nodes that it begins with, that something is known of each disk, or that the run makes its
--- volume before anything boots it; and of the images with which it begins, as its lines tell them.
+-- The premises under which more is promised of a run (AgreedPromises): of the nodes that it begins with, that something is known of each disk, or that an INIT of the run
+-- replaces what it had; and of the images with which it begins, as its lines tell them.
 pub record MayAgree (nodes : List Node) (es : List Entry) : Type 0 where
   pub opening : AreOpening nodes
   pub names : NamesApart nodes
@@ -119,11 +119,11 @@ pub record IsNew (n : Node) : Type 0 where
   pub bare : has_volume n ≡ false → IsLastApart n
 
 -- What a run begins with behind these, the newest first: the first, of nodes of different names, with disks on which nothing ever happened; each other with what the run
--- before it left, and no image tells an id of a node whose volume it makes. Something is known of each disk, or the run makes its volume before anything boots it, whatever
--- the disk had.
+-- before it left, and no image tells an id of a node whose volume it makes. Something is known of each disk, or an INIT of the run replaces what it had, whatever that
+-- was.
 abbrev pub Begins : List RunOf → RunOf → Type 0
-Begins [] r = NamesApart r.nodes × AllByRecursion (λ (n : Node). (IsNew n × IsKnown n) ⊎ IsMadeAnew n.name r.entries) r.nodes
-Begins (before ∷ rs) r = AreNext before.closing.nodes r.nodes × MadeAreNew r.nodes r.entries × AllByRecursion (λ (n : Node). IsKnown n ⊎ IsMadeAnew n.name r.entries) r.nodes
+Begins [] r = NamesApart r.nodes × AllByRecursion (λ (n : Node). (IsNew n × IsKnown n) ⊎ IsReplaced n.name r.entries) r.nodes
+Begins (before ∷ rs) r = AreNext before.closing.nodes r.nodes × MadeAreNew r.nodes r.entries × AllByRecursion (λ (n : Node). IsKnown n ⊎ IsReplaced n.name r.entries) r.nodes
 
 -- Runs one after another, the newest first, each of a legal transcript.
 abbrev pub Follow : List RunOf → Type 0

@@ -1,10 +1,11 @@
 -- Where the images agree with which a run begins, aborts stand.
-use Rattle.std.proofs.Common.{◌≡◌, ℕ, ◌⊎◌, List, [], ◌∷◌, ◌++◌, inl, inr, Bool, true, false, Option, Some, None, refl, sym, ◌∙◌, ap, subst}
+use Rattle.std.proofs.Common.{◌≡◌, ℕ, ◌⊎◌, List, [], ◌∷◌, ◌++◌, inl, inr, Bool, true, false, Option, Some, None, if◌then◌else◌, refl, sym, ◌∙◌, ap, subst}
+use Rattle.std.specs.List.{last_or}
 use Rattle.std.proofs.lemmas.Bool.{both_ways, cases_Bool}
 use Rattle.std.proofs.lemmas.List.{append_assoc}
 use Rattle.vms_model.specs.Ids.{Id}
 use Rattle.vms_model.specs.Transactions.{Reason}
-use Rattle.run_said.specs.transcript_model.Lines.{Line}
+use Rattle.run_said.specs.transcript_model.Lines.{Broken, Cause, Line, Normal}
 use Rattle.run_said.specs.script_model.Statements.{Reading, Blank, Says, Bad}
 use Rattle.run_said.specs.script_model.Grammar.{reading}
 use Rattle.commit_protocol.specs.Messages.{LogRecord, Name, same_id}
@@ -17,21 +18,24 @@ use Rattle.commit_protocol.proofs.Lists.{same_id-refl, same_id-true}
 use Rattle.run_said.specs.log_laws.Slots.{prepared_of, records_in}
 use Rattle.run_said.specs.run_model.World.{World, Node, Act, DiskCounts, find_node, opened}
 use Rattle.run_said.specs.run_model.Transcript.{Entry, Legal, AreOpening, Turn}
-use Rattle.run_agreement.specs.Seen.{IsKnown, Resolution, has_volume}
-use Rattle.commit_protocol.specs.Opening.{IsAgreeing, Opening, in_rack}
+use Rattle.run_agreement.specs.Seen.{Resolution, has_volume}
+use Rattle.commit_protocol.specs.Opening.{Image, IsAgreeing, Opening, in_rack}
 use Rattle.run_agreement.specs.Following.{Shows, opening_of}
-use Rattle.run_agreement.specs.Laws.{IsRun, NamesApart, RunsFrom, image_told, opening_told, volume_image}
-use Rattle.run_agreement.proofs.Begun.{runs_begin}
+use Rattle.run_agreement.specs.Laws.{AreKnownOrReplaced, IsReplaced, IsRun, NamesApart, Replaces, RunsFrom, image_here, image_told, opening_told, volume_image}
+use Rattle.run_agreement.proofs.Found.{bytes_itself}
 use Rattle.run_agreement.proofs.Openings.{reached_by}
-use Rattle.run_agreement.proofs.Told.{quiet_images, runs_tell_no_more, unused_are_told, used_tell_no_more}
+use Rattle.run_agreement.proofs.Told.{IsQuiet, base_sure, quiet_images, replaces_or_quiet, runs_begin, runs_tell_no_more, unused_are_told, used_replace_none, used_sure, used_tell_no_more}
 use Rattle.recovery_laws.proofs.world_laws.WorldLemmas.{each_opening}
-use Rattle.run_laws.specs.Promises.{IsNeverCommitted}
+use Rattle.run_laws.specs.Accounts.{made_anew}
+use Rattle.run_laws.specs.Anew.{Makes}
+use Rattle.run_laws.specs.Promises.{AbortsStand, IsNeverCommitted}
 use Rattle.run_said.specs.Said.{Said}
 use Rattle.run_laws.proofs.TurnsTell.{legal_told}
 use Rattle.run_laws.specs.Laws.{AgreedAbortsStand, AgreedDumpsHold, AllAgree, ToldAgree}
 use Rattle.run_laws.proofs.AbortsHeld.{IsAborting, Leaves, Told, same_leaves, step_leaves}
-use Rattle.run_laws.proofs.DumpsShown.{IsDownThroughout, dumps_hold, legal_on}
+use Rattle.run_laws.proofs.DumpsShown.{IsUpOnceMade, WasMade, dumps_hold, legal_on}
 use Rattle.run_laws.proofs.Dying.{dead_other, dead_own, dead_told, dies, runs_used}
+use Rattle.run_laws.proofs.InitLines.{init_lines}
 use Rattle.run_laws.proofs.Falling.{NoRecord, RecordsOf, aborting}
 use Rattle.run_laws.proofs.SoundWorlds.{IsSound, legal_sound, opening_sound}
 use Rattle.run_laws.proofs.ToldImages.{in_base, told_out}
@@ -54,6 +58,10 @@ turn_leaves : (k : BranchKey) (reason : Reason) (r : Option LogRecord) (moment :
 turn_leaves k reason r moment w v Blank lines sound turn = same_leaves k reason r moment w v (ap (λ (x : World). x.nodes) turn.1)
 turn_leaves k reason r moment w v (Says s) lines sound turn = step_leaves k reason r moment w v s lines sound turn
 turn_leaves k reason r moment w v (Bad column) lines sound turn = absurd turn
+
+-- Where a node may be in use in a world that the oldest of these entries lead to, something is known by then of each disk, or they replaced what it had.
+abbrev pub AreSureInUse : List Node → List DiskCounts → List Entry → Type 0
+AreSureInUse nodes disks es = (later before : List Entry) (w : World) → es ≡ later ++ before → Legal (opened nodes disks) before w → w.shared.in_use ≡ true → AreKnownOrReplaced before nodes
 
 -- Of a branch whose abort is under way at a node that is down: it has no prepared record; or such records are of its transaction alone, and that is dead in each world of the
 -- protocol that shows this one with the abort not taken.
@@ -86,7 +94,7 @@ doomed_never k closing d = by d.fate
         (runs_used d.world closing d.after d.leads (used d.world d.sound k.serial.node d.node d.found k d.reason d.noted d.moment d.under)).0 s i e
         (of_its d.world d.sound k.serial.node d.node d.found k d.reason d.noted d.moment d.under records d.after closing d.leads s i e commit) commit)
 
-module _ (nodes : List Node) (disks : List DiskCounts) (es : List Entry) (opening : AreOpening nodes) (apart : NamesApart nodes) (known : (name : List ℕ) (n : Node) → find_node name nodes ≡ Some n → IsKnown n) (agree : AllAgree nodes disks es)
+module _ (nodes : List Node) (disks : List DiskCounts) (es : List Entry) (opening : AreOpening nodes) (apart : NamesApart nodes) (sure : AreSureInUse nodes disks es) (agree : AllAgree nodes disks es)
     (k : BranchKey) (reason : Reason) (r : Option LogRecord) (moment : ℕ) where
   abbrev first : World
   first = opened nodes disks
@@ -123,7 +131,7 @@ module _ (nodes : List Node) (disks : List DiskCounts) (es : List Entry) (openin
           go : ((c : LogRecord) × In c (prepared_of (records_in n.durable.log)) × (c.serial ≡ k.serial)) ⊎ ((c : LogRecord) → In c (prepared_of (records_in n.durable.log)) → c.serial ≡ k.serial → ⊥) → Fate w n k
           go (inr none) = Bare none
           go (inl c) =
-              let b = runs_begin nodes disks before w opening apart known legal in
+              let b = runs_begin nodes disks before w opening apart (sure later before w split legal in_use) legal in
               let is_run : IsRun b.0 b.2 w = record { base_is = b.5; agrees = agree later b.2 b.1 b.0 w (split ∙ ap (λ xs. later ++ xs) b.3) b.4 b.5 b.7 b.6 in_use; runs = b.6 } in
               Dead records b.0 b.2 is_run (λ q p off. dying b.0 b.2 is_run c.0 c.1 c.2 q p (ap q (sym h) ∙ off))
 
@@ -150,15 +158,18 @@ module _ (nodes : List Node) (disks : List DiskCounts) (es : List Entry) (openin
       ]
 
 -- Each branch whose abort a fall found under way is such a one.
-pub agreed_doomed : (nodes : List Node) (disks : List DiskCounts) (es : List Entry) → AreOpening nodes → NamesApart nodes → ((name : List ℕ) (n : Node) → find_node name nodes ≡ Some n → IsKnown n) → AllAgree nodes disks es →
+pub agreed_doomed : (nodes : List Node) (disks : List DiskCounts) (es : List Entry) → AreOpening nodes → NamesApart nodes → AreSureInUse nodes disks es → AllAgree nodes disks es →
     (later after before : List Entry) (w closing : World) (n : Node) (k : BranchKey) (reason : Reason) (r : Option LogRecord) (moment : ℕ) → es ≡ later ++ (after ++ before) → Legal (opened nodes disks) before w → Legal w after closing →
     find_node k.serial.node w.nodes ≡ Some n → n.under_way ≡ Some (aborting k reason r moment) → IsDoomed k closing
-agreed_doomed nodes disks es opening apart known agree later after before w closing n k reason r moment split legal path found under =
-    doomed nodes disks es opening apart known agree k reason r moment (later ++ after) before w (split ∙ sym (append_assoc later after before)) legal k.serial.node n (found, under) after closing path
+agreed_doomed nodes disks es opening apart sure agree later after before w closing n k reason r moment split legal path found under =
+    doomed nodes disks es opening apart sure agree k reason r moment (later ++ after) before w (split ∙ sym (append_assoc later after before)) legal k.serial.node n (found, under) after closing path
+
+pub sure_aborts_stand : (nodes : List Node) (disks : List DiskCounts) (es : List Entry) → AreOpening nodes → NamesApart nodes → AreSureInUse nodes disks es → AllAgree nodes disks es → AbortsStand (opened nodes disks) es
+sure_aborts_stand nodes disks es opening apart sure agree later after before w closing n k reason r moment split legal path found under =
+    doomed_never k closing (agreed_doomed nodes disks es opening apart sure agree later after before w closing n k reason r moment split legal path found under)
 
 pub agreed_aborts_stand : AgreedAbortsStand
-agreed_aborts_stand nodes disks es opening apart known agree later after before w closing n k reason r moment split legal path found under =
-    doomed_never k closing (agreed_doomed nodes disks es opening apart known agree later after before w closing n k reason r moment split legal path found under)
+agreed_aborts_stand nodes disks es opening apart known agree = sure_aborts_stand nodes disks es opening apart (λ later before w split legal used name n found. inl (known name n found)) agree
 
 pub agreed_dumps_hold : AgreedDumpsHold
 agreed_dumps_hold nodes disks es closing opening apart known lasts agree legal = dumps_hold nodes disks es closing opening lasts legal (agreed_aborts_stand nodes disks es opening apart known agree)
@@ -180,20 +191,12 @@ legal_parts start (e ∷ later) es w legal =
     )
 
 -- so a base from which entries lead to a world in which a node may be in use has the images that all entries tell
-pub told_same : (nodes : List Node) (disks : List DiskCounts) (es : List Entry) (closing : World) → AreOpening nodes → NamesApart nodes → ((name : List ℕ) (n : Node) → find_node name nodes ≡ Some n → IsKnown n) → Legal (opened nodes disks) es closing → (later since before : List Entry) (base v : World) → es ≡ later ++ (since ++ before) →
+pub told_same : (nodes : List Node) (disks : List DiskCounts) (es : List Entry) (closing : World) → AreOpening nodes → NamesApart nodes → AreSureInUse nodes disks es → Legal (opened nodes disks) es closing → (later since before : List Entry) (base v : World) → es ≡ later ++ (since ++ before) →
     Legal (opened nodes disks) before base → base.shared.in_use ≡ false → RunsFrom base since v → v.shared.in_use ≡ true → opening_of base ≡ opening_told nodes es
-told_same nodes disks es closing opening apart known legal later since before base v split path off runs on = same ∙ sym (fewer ∙ told)
+told_same nodes disks es closing opening apart sure legal later since before base v split path off runs on = same ∙ sym (fewer ∙ told)
   where
     first : World
     first = opened nodes disks
-
-    -- the base has the images that the entries before it tell
-    same : opening_of base ≡ opening_told nodes before
-    same = (unused_are_told nodes disks before base opening apart known path off).1
-
-    -- and those behind it tell of no others, in its run or in the legal transcript
-    told : opening_told nodes (since ++ before) ≡ opening_told nodes before
-    told = runs_tell_no_more nodes base v before since runs
 
     through : Legal first (since ++ before) v
     through = run_on since v runs
@@ -202,6 +205,14 @@ told_same nodes disks es closing opening apart known legal later since before ba
         run_on [] v r = subst (Legal first before) (sym r) path
         run_on (e ∷ since) v r = (r.0, run_on since r.0 r.1, r.3)
 
+    -- the base has the images that the entries before it tell
+    same : opening_of base ≡ opening_told nodes before
+    same = (unused_are_told nodes disks before base opening apart (base_sure nodes base v before since runs (sure later (since ++ before) v split through on)) path off).1
+
+    -- and those behind it tell of no others, in its run or in the legal transcript
+    told : opening_told nodes (since ++ before) ≡ opening_told nodes before
+    told = runs_tell_no_more nodes base v before since runs
+
     fewer : opening_told nodes es ≡ opening_told nodes (since ++ before)
     fewer =
         let parts = legal_parts first later (since ++ before) closing (subst (λ xs. Legal first xs closing) split legal) in
@@ -209,9 +220,22 @@ told_same nodes disks es closing opening apart known legal later since before ba
         ap (λ (x : Said). x.shared.in_use) ((legal_told nodes disks parts.0 (since ++ before) opening parts.1).0 ∙ sym (legal_told nodes disks v (since ++ before) opening through).0) ∙ on in
         ap (opening_told nodes) split ∙ (parts.3 in_use).1 nodes
 
+-- What is known where all entries are known is so where a node may be in use.
+pub sure_in_use : (nodes : List Node) (disks : List DiskCounts) (es : List Entry) (closing : World) → AreOpening nodes → AreKnownOrReplaced es nodes → Legal (opened nodes disks) es closing → AreSureInUse nodes disks es
+sure_in_use nodes disks es closing opening sure legal later before w split path on =
+    let parts = legal_parts (opened nodes disks) later before closing (subst (λ xs. Legal (opened nodes disks) xs closing) split legal) in
+    let in_use : parts.0.shared.in_use ≡ true = ap (λ (x : Said). x.shared.in_use) ((legal_told nodes disks parts.0 before opening parts.1).0 ∙ sym (legal_told nodes disks w before opening path).0) ∙ on in
+    used_sure nodes parts.0 closing before later parts.2 in_use (subst (λ xs. AreKnownOrReplaced xs nodes) split sure)
+
 pub told_agree : ToldAgree
-told_agree nodes disks es closing opening apart known legal agrees later since before base v split path base_is off runs on =
-    subst IsAgreeing (sym (told_same nodes disks es closing opening apart known legal later since before base v split path off runs on)) agrees
+told_agree nodes disks es closing opening apart sure legal agrees later since before base v split path base_is off runs on =
+    subst IsAgreeing (sym (told_same nodes disks es closing opening apart (sure_in_use nodes disks es closing opening sure legal) legal later since before base v split path off runs on)) agrees
+
+-- behind a world in which a node may be in use, no line tells of another image
+told_no_more : (name : Name) (i : Option Image) (w v : World) (before later : List Entry) → Legal w later v → w.shared.in_use ≡ true → image_told name i (later ++ before) ≡ image_told name i before
+told_no_more name i w v before [] legal on = refl
+told_no_more name i w v before (e ∷ later) legal on =
+    (used_tell_no_more legal.0 v (reading e.source.text) e.lines legal.2 (runs_used w legal.0 later legal.1 on).1).1 name (image_told name i (later ++ before)) ∙ told_no_more name i w legal.0 before later legal.1 on
 
 -- Nodes of which no image is told.
 
@@ -223,15 +247,73 @@ down_without base w es name x is_run out found =
       | inr none ↦ ((reached_by base w es is_run (λ m. false)).shows.are.without name x found none).1.down
     ]
 
--- so it is in each world that the oldest entries lead to
-pub down_throughout : (nodes : List Node) (disks : List DiskCounts) (es : List Entry) (closing : World) → AreOpening nodes → NamesApart nodes → ((name : List ℕ) (n : Node) → find_node name nodes ≡ Some n → IsKnown n) → IsAgreeing (opening_told nodes es) → Legal (opened nodes disks) es closing →
-    (name : Name) (n : Node) → find_node name nodes ≡ Some n → image_told name (volume_image n) es ≡ None → IsDownThroughout (opened nodes disks) es name
-down_throughout nodes disks es closing opening apart known agrees legal name n found none later before w x split path there = by w.shared.in_use refl
+-- an entry makes the volume of a node, or tells of no image where none was told
+here_none : (name : Name) (e : Entry) → (image_here name (reading e.source.text) (last_or None e.lines) None ≡ None) ⊎ Makes name e
+here_none name e = go (replaces_or_quiet name e)
   where
-    by : (b : Bool) → w.shared.in_use ≡ b → x.up ≡ false
-    by false off = (((legal_sound (opened nodes disks) w before (opening_sound nodes disks opening) path).kept name x there).unused off).0
-    by true on =
-        let b = runs_begin nodes disks before w opening apart known path in
-        let same : opening_of b.0 ≡ opening_told nodes es = told_same nodes disks es closing opening apart known legal later b.2 b.1 b.0 w (split ∙ ap (λ xs. later ++ xs) b.3) b.4 b.7 b.6 on in
-        let is_run : IsRun b.0 b.2 w = record { base_is = b.5; agrees = subst IsAgreeing (sym same) agrees; runs = b.6 } in
-        down_without b.0 w b.2 name x is_run (ap (λ (o : Opening). in_rack o name) same ∙ told_out name nodes es n apart found none) there
+    go : Replaces name e ⊎ IsQuiet name e → (image_here name (reading e.source.text) (last_or None e.lines) None ≡ None) ⊎ Makes name e
+    go (inr quiet) = inl (quiet None)
+    go (inl r) = by r.answered
+      where
+        by : (last_or None e.lines ≡ Some Normal) ⊎ ((cause : Cause) × (last_or None e.lines ≡ Some (Broken cause))) → (image_here name (reading e.source.text) (last_or None e.lines) None ≡ None) ⊎ Makes name e
+        by (inl made) = inr (record { slots = r.slots; journal = r.journal; says = r.says; answered = made })
+        by (inr broken) = let pick : Bool → Option Image = λ b. if b then None else None in inl ((λ i. image_here name (r.says i) (broken.1 i) None) ∙ ap pick (bytes_itself name name refl))
+
+-- Entries that make the volume of a node, in a legal transcript; and where they replace what its disk had, and an image is told of it, they do.
+makes_anew : (start w : World) (name : Name) (e : Entry) (es : List Entry) → Legal start (e ∷ es) w → Makes name e → made_anew name (reading e.source.text) e.lines ≡ true
+makes_anew start w name e es legal m =
+    let lines : e.lines ≡ Normal ∷ [] = init_lines legal.0 w name m.slots m.journal e.lines (subst (λ (q : Reading). Turn legal.0 q e.lines w) m.says legal.2) m.answered in
+    (λ i. made_anew name (m.says i) (lines i)) ∙ bytes_itself name name refl
+
+pub made_or_none : (start w : World) (name : Name) (i : Option Image) (es : List Entry) → Legal start es w → IsReplaced name es → (image_told name i es ≡ None) ⊎ WasMade name es
+made_or_none start w name i [] legal none = absurd none
+made_or_none start w name i (e ∷ es) legal replaced = go replaced (made_or_none start legal.0 name i es legal.1)
+  where
+    on_none : image_told name i es ≡ None → (image_told name i (e ∷ es) ≡ None) ⊎ WasMade name (e ∷ es)
+    on_none none = elim (here_none name e) [
+      | inl still ↦ inl (ap (image_here name (reading e.source.text) (last_or None e.lines)) none ∙ still)
+      | inr m ↦ inr (inl (makes_anew start w name e es legal m))
+    ]
+
+    go : Replaces name e ⊎ IsReplaced name es → (IsReplaced name es → (image_told name i es ≡ None) ⊎ WasMade name es) → (image_told name i (e ∷ es) ≡ None) ⊎ WasMade name (e ∷ es)
+    go (inr was) more = elim (more was) [ inl none ↦ on_none none | inr made ↦ inr (inr made) ]
+    go (inl r) more = by r.answered
+      where
+        by : (last_or None e.lines ≡ Some Normal) ⊎ ((cause : Cause) × (last_or None e.lines ≡ Some (Broken cause))) → (image_told name i (e ∷ es) ≡ None) ⊎ WasMade name (e ∷ es)
+        by (inl made) = inr (inl (makes_anew start w name e es legal (record { slots = r.slots; journal = r.journal; says = r.says; answered = made })))
+        by (inr broken) = let pick : Bool → Option Image = λ b. if b then None else image_told name i es in inl ((λ j. image_here name (r.says j) (broken.1 j) (image_told name i es)) ∙ ap pick (bytes_itself name name refl))
+
+module _ (nodes : List Node) (disks : List DiskCounts) (es : List Entry) (closing : World) (opening : AreOpening nodes) (apart : NamesApart nodes) (sure : AreKnownOrReplaced es nodes) (agrees : IsAgreeing (opening_told nodes es)) (legal : Legal (opened nodes disks) es closing) (name : Name) (n : Node) (found : find_node name nodes ≡ Some n) where
+  in_time : AreSureInUse nodes disks es
+  in_time = sure_in_use nodes disks es closing opening sure legal
+
+  -- where none is told by then, it is down
+  down_in_use : (later before : List Entry) (w : World) (x : Node) → es ≡ later ++ before → Legal (opened nodes disks) before w → find_node name w.nodes ≡ Some x → w.shared.in_use ≡ true → image_told name (volume_image n) before ≡ None → x.up ≡ false
+  down_in_use later before w x split path there on none =
+      let early = in_time later before w split path on in
+      let b = runs_begin nodes disks before w opening apart early path in
+      let same : opening_of b.0 ≡ opening_told nodes es = told_same nodes disks es closing opening apart in_time legal later b.2 b.1 b.0 w (split ∙ ap (λ xs. later ++ xs) b.3) b.4 b.7 b.6 on in
+      let told : opening_of b.0 ≡ opening_told nodes before =
+      (unused_are_told nodes disks b.1 b.0 opening apart (base_sure nodes b.0 w b.1 b.2 b.6 (subst (λ xs. AreKnownOrReplaced xs nodes) b.3 early)) b.4 b.7).1 ∙ sym (runs_tell_no_more nodes b.0 w b.1 b.2 b.6) ∙ ap (opening_told nodes) (sym b.3) in
+      let is_run : IsRun b.0 b.2 w = record { base_is = b.5; agrees = subst IsAgreeing (sym same) agrees; runs = b.6 } in
+      down_without b.0 w b.2 name x is_run (ap (λ (o : Opening). in_rack o name) told ∙ told_out name nodes before n apart found none) there
+
+  -- A node of which no image is told, or whose disk these entries replace, is up only once they made its volume.
+  pub up_once_made : (image_told name (volume_image n) es ≡ None) ⊎ IsReplaced name es → IsUpOnceMade (opened nodes disks) es name
+  up_once_made how later before w x split path there up = by how
+    where
+      on : w.shared.in_use ≡ true
+      on = elim (cases_Bool w.shared.in_use) [ inl is ↦ is | inr off ↦ absurd (both_ways x.up (((legal_sound (opened nodes disks) w before (opening_sound nodes disks opening) path).kept name x there).unused off).0 up) ]
+
+      never : image_told name (volume_image n) before ≡ None → WasMade name before
+      never none = absurd (both_ways x.up (down_in_use later before w x split path there on none) up)
+
+      by : (image_told name (volume_image n) es ≡ None) ⊎ IsReplaced name es → WasMade name before
+      by (inl none) =
+          let parts = legal_parts (opened nodes disks) later before closing (subst (λ xs. Legal (opened nodes disks) xs closing) split legal) in
+          let in_use : parts.0.shared.in_use ≡ true = ap (λ (y : Said). y.shared.in_use) ((legal_told nodes disks parts.0 before opening parts.1).0 ∙ sym (legal_told nodes disks w before opening path).0) ∙ on in
+          never (sym (told_no_more name (volume_image n) parts.0 closing before later parts.2 in_use) ∙ sym (ap (image_told name (volume_image n)) split) ∙ none)
+      by (inr replaced) =
+          let parts = legal_parts (opened nodes disks) later before closing (subst (λ xs. Legal (opened nodes disks) xs closing) split legal) in
+          let in_use : parts.0.shared.in_use ≡ true = ap (λ (y : Said). y.shared.in_use) ((legal_told nodes disks parts.0 before opening parts.1).0 ∙ sym (legal_told nodes disks w before opening path).0) ∙ on in
+          elim (made_or_none (opened nodes disks) w name (volume_image n) before path ((used_replace_none name parts.0 closing before later parts.2 in_use).1 (subst (IsReplaced name) split replaced))) [ inl none ↦ never none | inr made ↦ made ]

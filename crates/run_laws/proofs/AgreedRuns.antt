@@ -4,8 +4,9 @@ use Rattle.std.specs.List.{last_or}
 use Rattle.vms_model.specs.Ids.{Id}
 use Rattle.vms_model.specs.Transactions.{Abort, Commit, Reason}
 use Rattle.run_said.specs.transcript_model.Lines.{Line, Normal}
-use Rattle.run_said.specs.script_model.Statements.{At, Bad, Blank, Deliver, LinkDown, Reading, Says, Settle, Statement}
+use Rattle.run_said.specs.script_model.Statements.{At, Bad, Blank, Deliver, Init, LinkDown, Reading, Says, Settle, Statement}
 use Rattle.run_said.specs.script_model.Grammar.{reading}
+use Rattle.commit_protocol.specs.Messages.{Name}
 use Rattle.commit_protocol.specs.Opening.{IsAgreeing, Opening, accepted_in, commits_in, settled_in}
 use Rattle.commit_protocol.specs.Table.{Key, child, first}
 use Rattle.commit_protocol.specs.World.{In}
@@ -13,16 +14,16 @@ use Rattle.run_said.specs.run_model.World.{World, Node, DiskCounts, Act, Settlem
 use Rattle.run_said.specs.run_model.Steps.{Choice, task_effect}
 use Rattle.run_said.specs.run_model.Statements.{Begins, Part, PartEffect, Phases, Step, begun_with, part_effect, phases_of, refused_at_once, stops_at}
 use Rattle.run_said.specs.run_model.Transcript.{Entry, Legal, AreOpening, Turn}
-use Rattle.run_agreement.specs.Seen.{IsKnown, Resolution, landed, outcome_of}
+use Rattle.run_agreement.specs.Seen.{Resolution, landed, outcome_of}
 use Rattle.run_agreement.specs.Following.{opening_of}
-use Rattle.run_agreement.specs.Laws.{CommittedAreOfCommitted, HasOutcome, IsAtRest, IsCommitted, IsRun, IsSettled, LeaveAgreement, MakesNoVolume, NamesApart, RestingAreWhole, SettleAlike, SettlingEnds, SettlingLeavesNone, image_here, opening_told}
+use Rattle.run_agreement.specs.Laws.{AreKnownOrReplaced, CommittedAreOfCommitted, HasOutcome, IsAtRest, IsCommitted, IsRun, IsSettled, LeaveAgreement, MakesNoVolume, NamesApart, Replaces, RestingAreWhole, SettleAlike, SettlingEnds, SettlingLeavesNone, image_here, opening_told}
 use Rattle.run_said.proofs.run_model.NodeLists.{found_name}
 use Rattle.run_said.proofs.run_model.PartLemmas.{phases_fold}
 use Rattle.run_said.proofs.run_model.PartTasks.{View, Doing, Fixed, view}
 use Rattle.run_said.proofs.run_model.TaskLemmas.{effect_name}
 use Rattle.run_agreement.proofs.Bases.{used_part}
-use Rattle.run_agreement.proofs.Begun.{AnyPart, any_phases, apart_put, runs_begin}
-use Rattle.run_agreement.proofs.Told.{quiet_images, runs_tell_no_more, unused_are_told}
+use Rattle.run_agreement.proofs.Begun.{AnyPart, any_phases, apart_put}
+use Rattle.run_agreement.proofs.Told.{base_sure, quiet_images, runs_begin, runs_tell_no_more, unused_are_told, used_sure}
 use Rattle.run_laws.specs.Agreed.{AcceptedAreWhole, AgreedRun, EndedHoldAll, EndsHoldAll, SettlesWhole}
 use Rattle.run_laws.specs.Promises.{EndedSo, EndsCommit, EndsSo, IsSettledSo, settlements_of}
 use Rattle.run_laws.proofs.AbortsStand.{legal_parts}
@@ -39,11 +40,12 @@ pub record RunOf (start : World) (es : List Entry) (closing : World) : Type 0 wh
   pub told : opening_of base ≡ opening_told start.nodes es
   pub is_run : IsRun base since closing
 
-module _ (nodes : List Node) (disks : List DiskCounts) (es : List Entry) (closing : World) (opening : AreOpening nodes) (apart : NamesApart nodes) (known : (name : List ℕ) (n : Node) → find_node name nodes ≡ Some n → IsKnown n) (legal : Legal (opened nodes disks) es closing) (agrees : IsAgreeing (opening_told nodes es)) where
+module _ (nodes : List Node) (disks : List DiskCounts) (es : List Entry) (closing : World) (opening : AreOpening nodes) (apart : NamesApart nodes) (sure : AreKnownOrReplaced es nodes) (legal : Legal (opened nodes disks) es closing) (agrees : IsAgreeing (opening_told nodes es)) where
   pub run_of : RunOf (opened nodes disks) es closing
   run_of =
-      let b = runs_begin nodes disks es closing opening apart known legal in
-      let same : opening_of b.0 ≡ opening_told nodes es = (unused_are_told nodes disks b.1 b.0 opening apart known b.4 b.7).1 ∙ sym (runs_tell_no_more nodes b.0 closing b.1 b.2 b.6) ∙ ap (opening_told nodes) (sym b.3) in
+      let b = runs_begin nodes disks es closing opening apart sure legal in
+      let before : AreKnownOrReplaced b.1 nodes = base_sure nodes b.0 closing b.1 b.2 b.6 (subst (λ xs. AreKnownOrReplaced xs nodes) b.3 sure) in
+      let same : opening_of b.0 ≡ opening_told nodes es = (unused_are_told nodes disks b.1 b.0 opening apart before b.4 b.7).1 ∙ sym (runs_tell_no_more nodes b.0 closing b.1 b.2 b.6) ∙ ap (opening_told nodes) (sym b.3) in
       record { base = b.0; before = b.1; since = b.2; parts = b.3; begins = b.4; unused = b.7; told = same; is_run = record { base_is = b.5; agrees = subst IsAgreeing (sym same) agrees; runs = b.6 } }
 
 pub agreed_run : SettleAlike → CommittedAreOfCommitted → LeaveAgreement → RestingAreWhole → (base : World) (since : List Entry) (closing : World) → IsRun base since closing → AgreedRun base since closing
@@ -147,16 +149,19 @@ WholeFrom o v = (r : Resolution) (k : Key) → ((k ≡ first k.tid) ⊎ (In k v.
 whole_alike : (base other v : World) → opening_of base ≡ opening_of other → AcceptedAreWhole base v → AcceptedAreWhole other v
 whole_alike base other v same whole = subst (λ (o : Opening). WholeFrom o v) same whole
 
--- a SETTLE makes no volume
+-- a SETTLE makes no volume, and replaces nothing
+settle_replaces_none : (name : Name) (e : Entry) → reading e.source.text ≡ Says Settle → Replaces name e → ⊥
+settle_replaces_none name e said r = let clash : ◌≡◌ {A = Reading} (Says Settle) (Says (At name (Init r.slots r.journal))) = sym said ∙ r.says in let no : ⊥ = cc in no
+
 settle_run : (base w v : World) (e : Entry) (es : List Entry) → reading e.source.text ≡ Says Settle → Turn w (reading e.source.text) e.lines v → IsRun base es w → IsRun base (e ∷ es) v
 settle_run base w v e es said turn run = record { base_is = run.base_is; agrees = run.agrees; runs = (w, run.runs, subst (MakesNoVolume w) (sym said) none, turn) }
   where
     none : MakesNoVolume w (Says Settle)
     none node slots journal e = absurd (let f : ⊥ = cc in f)
 
-pub settles_whole : RestingAreWhole → SettlingLeavesNone → SettlingEnds → (nodes : List Node) (disks : List DiskCounts) (es : List Entry) (closing : World) → AreOpening nodes → NamesApart nodes → ((name : List ℕ) (n : Node) → find_node name nodes ≡ Some n → IsKnown n) →
+pub settles_whole : RestingAreWhole → SettlingLeavesNone → SettlingEnds → (nodes : List Node) (disks : List DiskCounts) (es : List Entry) (closing : World) → AreOpening nodes → NamesApart nodes → AreKnownOrReplaced es nodes →
     Legal (opened nodes disks) es closing → IsAgreeing (opening_told nodes es) → (base : World) → opening_of base ≡ opening_told nodes es → SettlesWhole base (opened nodes disks) es closing
-settles_whole rests none ends nodes disks es closing opening apart known legal agrees base base_told before events answer there =
+settles_whole rests none ends nodes disks es closing opening apart sure legal agrees base base_told before events answer there =
     let start = opened nodes disks in
     let whole : Legal start (there.after ++ (there.entry ∷ before)) closing = subst (λ xs. Legal start xs closing) there.stands legal in
     let parts = legal_parts start there.after (there.entry ∷ before) closing whole in
@@ -166,7 +171,12 @@ settles_whole rests none ends nodes disks es closing opening apart known legal a
     let used = settle_uses w v (events ++ answer ∷ []) step in
     let quiet : opening_told nodes (there.entry ∷ before) ≡ opening_told nodes before = λ i. record { images = quiet_images there.entry before nodes (λ n image. ap (λ r. image_here n r (last_or None there.entry.lines) image) there.said) i } in
     let told : opening_told nodes es ≡ opening_told nodes before = ap (opening_told nodes) there.stands ∙ (parts.3 used).1 nodes ∙ quiet in
-    let b = run_of nodes disks before w opening apart known parts.1.1 (subst IsAgreeing told agrees) in
+    let with_entry : AreKnownOrReplaced (there.entry ∷ before) nodes = used_sure nodes v closing (there.entry ∷ before) there.after parts.2 used (subst (λ xs. AreKnownOrReplaced xs nodes) there.stands sure) in
+    let early : AreKnownOrReplaced before nodes = λ name n found. elim (with_entry name n found) [
+      | inl known ↦ inl known
+      | inr replaced ↦ elim replaced [ inl here ↦ absurd (settle_replaces_none name there.entry there.said here) | inr was ↦ inr was ]
+    ] in
+    let b = run_of nodes disks before w opening apart early parts.1.1 (subst IsAgreeing told agrees) in
     let same : opening_of b.base ≡ opening_of base = b.told ∙ sym told ∙ sym base_told in
     let here : IsRun b.base (there.entry ∷ b.since) v = settle_run b.base w v there.entry b.since there.said parts.1.2 b.is_run in
     let left : answer ≡ Normal → IsAtRest v = λ normal. none b.base w v b.since events b.is_run (subst (λ a. Step w Settle (events ++ a ∷ []) v) normal step) in (

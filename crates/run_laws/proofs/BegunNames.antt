@@ -1,5 +1,5 @@
 -- The label of a START_TRANS names its transaction behind it, for no label is made twice.
-use Rattle.std.proofs.Common.{◌≡◌, ◌⊎◌, ℕ, List, [], ◌∷◌, ◌++◌, map, Bool, true, false, not, ◌||◌, Option, Some, None, if◌then◌else◌, inl, inr, refl, sym, ◌∙◌, ap, subst}
+use Rattle.std.proofs.Common.{◌≡◌, ◌⊎◌, ℕ, List, [], ◌∷◌, ◌++◌, map, Bool, true, false, not, ◌||◌, Option, Some, None, if◌then◌else◌, inl, inr, refl, sym, ◌∙◌, ap}
 use Rattle.std.specs.List.{last_or}
 use Rattle.std.specs.Prelude.{length, nat_le}
 use Rattle.std.specs.Str.{bytes_eq}
@@ -8,7 +8,7 @@ use Rattle.vms_model.specs.Ids.{Id}
 use Rattle.vms_model.specs.Limits.{label_limit}
 use Rattle.run_said.specs.transcript_model.Lines as line
 use Rattle.run_said.specs.transcript_model.Lines.{Line}
-use Rattle.run_said.specs.script_model.Statements.{Statement, At, Request, AddBranch, StartBranch, StartTrans, Reading, Says}
+use Rattle.run_said.specs.script_model.Statements.{At, Request, AddBranch, StartBranch, StartTrans, Reading, Says}
 use Rattle.run_said.specs.script_model.Grammar.{reading}
 use Rattle.run_said.specs.run_model.World.{World, Shared, Label, Node, DiskCounts, find_label, opened}
 use Rattle.run_said.specs.run_model.Answers.{new_label}
@@ -19,7 +19,6 @@ use Rattle.run_said.specs.run_model.Transcript.{AreOpening, Entry, Legal, Turn a
 use Rattle.run_said.proofs.run_model.NodeLists.{clash, some_is}
 use Rattle.run_laws.specs.Causes.{WasBegun}
 use Rattle.run_laws.specs.Naming.{ToldLabel, find_told, labels_here, labels_told, numbered}
-use Rattle.run_laws.specs.SaidLaws.{SaidThere}
 use Rattle.run_laws.proofs.Directed.{neither}
 use Rattle.run_laws.proofs.Labelling.{Succeeds, refused_rest, request_ends}
 use Rattle.run_laws.proofs.Named.{Named, told}

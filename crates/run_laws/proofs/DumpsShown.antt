@@ -18,9 +18,9 @@ use Rattle.unit_laws.specs.Units.{SerialsDiffer}
 use Rattle.unit_laws.specs.JournalLaws.{is_unit}
 use Rattle.commit_protocol.specs.Table.{Settles}
 use Rattle.commit_protocol.specs.World.{In}
-use Rattle.run_said.specs.run_model.World.{World, Shared, Node, File, DiskCounts, Act, IsOpening, LastIsReached, Settlement, Tables, settlement, find_file, find_node, opened}
+use Rattle.run_said.specs.run_model.World.{World, Shared, Node, File, DiskCounts, Act, Formats, IsOpening, LastIsReached, Settlement, Tables, acted, powered, settlement, find_file, find_node, opened}
 use Rattle.run_said.specs.run_model.Answers.{Serves, Task, of_file, records_of, refused_before_reading, service, shown_record, there_is_file, unchanged_file}
-use Rattle.run_said.specs.run_model.Steps.{Choice, Cut, TaskAllowed, Unpowered, Whole, WithoutMemory, lines_of_rows, task_effect, whole}
+use Rattle.run_said.specs.run_model.Steps.{Choice, Cut, TaskAllowed, Unpowered, Whole, WithoutMemory, lines_of_rows, task_effect, whole, with_unknown_volume}
 use Rattle.run_said.specs.run_model.Operations.{first_of, refused_if}
 use Rattle.run_said.specs.run_model.Statements.{Step, Begins, Phases, RoseAt, begun_with, named_node, other_node, phases_of, refused_at_once, stops_at}
 use Rattle.run_said.specs.run_model.StepLaws.{IsTask, is_refusal, task_of}
@@ -30,21 +30,23 @@ use Rattle.run_said.proofs.run_model.CauseLemmas.{refuses_first}
 use Rattle.run_said.proofs.run_model.Failing.{once_refuses}
 use Rattle.run_said.proofs.run_model.PartLemmas.{turn}
 use Rattle.run_said.proofs.run_model.TaskLemmas.{effect_name}
-use Rattle.run_laws.specs.Accounts.{Account, MayHave, Told, HasAccount, account_after, account_by, account_behind, commits_here, committed_in, is_up_in, known_again, recovered_by, recovered_here, created_here, file_of, left_sets, made_anew, no_account, direct_told, one_told, serial_told, sets_of, told_by, unsettled_in}
+use Rattle.run_laws.specs.Accounts.{Account, MayHave, Told, HasAccount, account_after, account_by, account_behind, commits_here, committed_in, is_up_in, known_again, recovered_by, recovered_here, created_here, file_of, left_sets, made_anew, no_account, direct_told, one_told, serial_told, sets_here, sets_of, told_by, unsettled_in}
 use Rattle.run_laws.specs.Laws.{DumpsHold}
 use Rattle.run_laws.specs.Promises.{AbortsStand, AreLastApart, DumpPromises, DumpsShow, DumpsShowByAll, RecoveriesAreWhole, Shows, IsLastApart, IsNeverCommitted, settlements_of}
 use Rattle.recovery_laws.specs.world_laws.Nodes.{IsKeptDisk, IsKeptNode}
 use Rattle.recovery_laws.specs.world_laws.Running.{history_in, history_of}
 use Rattle.recovery_laws.proofs.world_laws.DirectLemmas.{none_of}
-use Rattle.recovery_laws.proofs.world_laws.AnswerLemmas.{neither}
+use Rattle.recovery_laws.proofs.world_laws.AnswerLemmas.{neither, not_refused}
 use Rattle.recovery_laws.proofs.world_laws.ServedLemmas.{file_says, there_is as there_is_one, unchanged_rests}
 use Rattle.recovery_laws.proofs.world_laws.HeldLemmas.{noted_at}
 use Rattle.recovery_laws.proofs.world_laws.WorldLemmas.{each_opening}
 use Rattle.run_laws.proofs.AccountLemmas.{last_left, opening_tells, sure_records, sure_still, untold_left}
-use Rattle.run_laws.proofs.FileRequests.{IsKept, special_effect}
+use Rattle.run_agreement.proofs.Barred.{quiet_powered}
+use Rattle.run_laws.proofs.FileRequests.{IsKept, new_told, special_effect}
 use Rattle.run_laws.proofs.FileTelling.{Betrays, IsDoomed, IsToldDisk, IsToldUp, falls_told, or_else, task_quiet, telling, telling_keeps, tells_file}
 use Rattle.run_laws.proofs.Keeping.{else_effect, is_init, is_special, nothing_more}
 use Rattle.run_laws.proofs.Labelling.{served_up}
+use Rattle.run_laws.proofs.MadeAnew.{made_new, made_says}
 use Rattle.run_laws.proofs.Named.{Named}
 use Rattle.run_laws.proofs.NamedRuns.{legal_named}
 use Rattle.run_laws.proofs.Once.{unit_of}
@@ -223,6 +225,30 @@ module _ (node file : List ℕ) (D : Id → Type 0) where
         go true false up = h n found
         go false c up = h n found
 
+  -- A volume that was just made.
+
+  pub made_told : (es : List Entry) (mid w : World) (e : Entry) (a : Account) → IsSound mid → Turn mid (reading e.source.text) e.lines w → made_anew node (reading e.source.text) e.lines ≡ true → AreTold (account_behind node file es mid (reading e.source.text) e.lines a) w
+  made_told es mid w e a sound turn made m found =
+      let new = made_new mid w node (reading e.source.text) e.lines turn made m found in
+      let off : mid.shared.in_use ≡ false =
+      not_refused mid.shared.in_use line.VolumeInUse (neither (refused_if mid.shared.in_use line.VolumeInUse) _ (neither (refused_if (not (new.old.up || true)) line.NodeDown) _ new.unrefused).1).0 in
+      let unused = (sound.kept node new.old new.was).unused off in
+      let ready : Node = with_unknown_volume true (powered new.outturn new.stops new.old) in
+      let z : Node = acted (Formats new.slots new.journal) ready in
+      let there : find_node node w.nodes ≡ Some z = found ∙ ap (λ (y : Node). Some y) (sym new.is) in
+      let down : z.up ≡ false = ap (λ (y : Node). y.up) (quiet_powered new.outturn new.stops new.old unused.1) ∙ unused.0 in
+      subst (λ b. IsKept node file D b m) (sym nothing) (subst (IsKept node file D no_account) new.is (record {
+        disk = inr (new_told node file D new.slots new.journal ready (found_name node w.nodes z there));
+        way = λ act under. let clash : ◌≡◌ {A = Option Act} None (Some act) = under in let no : ⊥ = cc in absurd no;
+        runs = λ up. absurd (both_ways z.up down up);
+      }))
+    where
+      nothing : account_behind node file es mid (reading e.source.text) e.lines a ≡ no_account
+      nothing =
+          let x = made_says node (reading e.source.text) e.lines made in
+          (λ i. account_behind node file es mid (x.2 i) (x.3 i) a)
+          ∙ ap (λ (b : Bool). if b then no_account else (commits_here node (line.Normal ∷ []) (record a { told = sets_here node file es mid (Says (At node (Init x.0 x.1))) (line.Normal ∷ []) a.told }))) ((bytes_eq-Decides node node).1 refl)
+
   -- The opening.
 
   abbrev opening_account : World → Account
@@ -330,8 +356,13 @@ last_apart (m ∷ ns) h node n e = go (bytes_eq node m.name) e (last_apart ns h.
     go true k more = subst IsLastApart (some_is m n k) h.0
     go false k more = more k
 
+-- one of these entries made the volume of this node anew
+abbrev pub WasMade : List ℕ → List Entry → Type 0
+WasMade node [] = ⊥
+WasMade node (e ∷ es) = (made_anew node (reading e.source.text) e.lines ≡ true) ⊎ WasMade node es
+
 -- What is told of a file agrees with its node in the world that these entries lead to, over branches that are never committed there.
-module _ (node file : List ℕ) (nodes : List Node) (disks : List DiskCounts) (opens : AreOpening nodes) (apart : (n : Node) → find_node node nodes ≡ Some n → IsLastApart n) (all later : List Entry) (stand : AbortsStand (opened nodes disks) all) (closing : World) where
+module _ (node file : List ℕ) (nodes : List Node) (disks : List DiskCounts) (opens : AreOpening nodes) (all later : List Entry) (stand : AbortsStand (opened nodes disks) all) (closing : World) where
   abbrev Never : Id → Type 0
   Never x = IsNeverCommitted x closing
 
@@ -341,18 +372,39 @@ module _ (node file : List ℕ) (nodes : List Node) (disks : List DiskCounts) (o
       let own = (((sound.once node n found).way (Tables (Settles k Abort reason r) moment) under).own s (inl refl)).0 in
       stand later after es w closing n k reason r moment split before legal (subst (λ x. find_node x w.nodes ≡ Some n) (sym (own ∙ found_name node w.nodes n found)) found) under
 
-  path_told : (es after : List Entry) (w : World) (a : Account) → all ≡ later ++ (after ++ es) → HasAccount node file (opened nodes disks) es w a → Legal w after closing → AreTold node file Never a w
-  path_told [] after w a split tells legal = subst (λ b. AreTold node file Never b w) (sym tells.1) (subst (λ x. AreTold node file Never (opening_account node file Never (opened nodes disks)) x) (sym tells.0) (λ n found.
+  -- where the disk's last settlement at the opening is of no branch that stands unsettled there, or these entries made its volume
+  abbrev pub Starts : List Entry → Type 0
+  Starts es = ((n : Node) → find_node node nodes ≡ Some n → IsLastApart n) ⊎ WasMade node es
+
+  -- by what is told before an entry, unless that makes the volume
+  behind_told : (e : Entry) (es after : List Entry) (w : World) → all ≡ later ++ (after ++ e ∷ es) → (mid : World) (a : Account) → HasAccount node file (opened nodes disks) es mid a → (turn : Turn mid (reading e.source.text) e.lines w) → Legal w after closing → Starts (e ∷ es) →
+      (Starts es → all ≡ later ++ ((after ++ e ∷ []) ++ es) → HasAccount node file (opened nodes disks) es mid a → Legal mid (after ++ e ∷ []) closing → AreTold node file Never a mid) → AreTold node file Never (account_behind node file es mid (reading e.source.text) e.lines a) w
+  behind_told e es after w split mid a tells turn legal start more = elim start [ inl apart ↦ on_from (inl apart) | inr made ↦ elim made [ inl now ↦ made_told node file Never es mid w e a sound turn now | inr was ↦ on_from (inr was) ] ]
+    where
+      before : Legal (opened nodes disks) es mid
+      before = tells_legal node file (opened nodes disks) es mid a tells
+
+      on : Legal mid (after ++ e ∷ []) closing
+      on = legal_on mid w closing e after turn legal
+
+      here : all ≡ later ++ ((after ++ e ∷ []) ++ es)
+      here = split ∙ ap (λ xs. later ++ xs) (sym (split_on after e es))
+
+      sound : IsSound mid
+      sound = legal_sound (opened nodes disks) mid es (opening_sound nodes disks opens) before
+
+      on_from : Starts es → AreTold node file Never (account_behind node file es mid (reading e.source.text) e.lines a) w
+      on_from s = turn_told node file Never es mid a (sure_up node file (opened nodes disks) es mid a tells) w (reading e.source.text) e.lines (legal_named nodes disks es mid opens before) sound (doomed_at es (after ++ e ∷ []) mid here before on sound) turn (more s here tells on)
+
+  path_told : (es after : List Entry) (w : World) (a : Account) → Starts es → all ≡ later ++ (after ++ es) → HasAccount node file (opened nodes disks) es w a → Legal w after closing → AreTold node file Never a w
+  path_told [] after w a (inr none) split tells legal = absurd none
+  path_told [] after w a (inl apart) split tells legal = subst (λ b. AreTold node file Never b w) (sym tells.1) (subst (λ x. AreTold node file Never (opening_account node file Never (opened nodes disks)) x) (sym tells.0) (λ n found.
       opening_kept node file Never nodes disks n found (each_opening nodes opens node n found) (apart n found) ((opening_sound nodes disks opens).kept node n found).disk))
-  path_told (e ∷ es) after w a split tells legal =
+  path_told (e ∷ es) after w a start split tells legal =
       let mid = tells.0 in
-      let before = tells_legal node file (opened nodes disks) es mid tells.1 tells.2 in
-      let on = legal_on mid w closing e after tells.3 legal in
-      let here = split ∙ ap (λ xs. later ++ xs) (sym (split_on after e es)) in
-      let sound = legal_sound (opened nodes disks) mid es (opening_sound nodes disks opens) before in
       let then_sound = legal_sound (opened nodes disks) w (e ∷ es) (opening_sound nodes disks opens) (tells_legal node file (opened nodes disks) (e ∷ es) w a tells) in
       subst (λ b. AreTold node file Never b w) (sym tells.4)
-      (known_told node file Never w then_sound (account_behind node file es mid (reading e.source.text) e.lines tells.1) (turn_told node file Never es mid tells.1 (sure_up node file (opened nodes disks) es mid tells.1 tells.2) w (reading e.source.text) e.lines (legal_named nodes disks es mid opens before) sound (doomed_at es (after ++ e ∷ []) mid here before on sound) tells.3 (path_told es (after ++ e ∷ []) mid tells.1 here tells.2 on)))
+      (known_told node file Never w then_sound (account_behind node file es mid (reading e.source.text) e.lines tells.1) (behind_told e es after w split mid tells.1 tells.2 tells.3 legal start (path_told es (after ++ e ∷ []) mid tells.1)))
 
 -- Dumps.
 
@@ -438,17 +490,17 @@ not_betrayed node file mid n sound found b =
     let clash : Abort ≡ Commit = sym (b.3 s there refl) ∙ b.2 in
     let no : ⊥ = cc in no
 
--- a node is down in each world that the oldest of these entries lead to
-abbrev pub IsDownThroughout : World → List Entry → List ℕ → Type 0
-IsDownThroughout opening es node = (later before : List Entry) (w : World) (n : Node) → es ≡ later ++ before → Legal opening before w → find_node node w.nodes ≡ Some n → n.up ≡ false
+-- where a node is up in a world that the oldest of these entries lead to, they made its volume
+abbrev pub IsUpOnceMade : World → List Entry → List ℕ → Type 0
+IsUpOnceMade opening es node = (later before : List Entry) (w : World) (n : Node) → es ≡ later ++ before → Legal opening before w → find_node node w.nodes ≡ Some n → n.up ≡ true → WasMade node before
 
-module _ (nodes : List Node) (disks : List DiskCounts) (es : List Entry) (closing : World) (opens : AreOpening nodes) (lasts : (node : List ℕ) (n : Node) → find_node node nodes ≡ Some n → IsLastApart n ⊎ IsDownThroughout (opened nodes disks) es node) (legal : Legal (opened nodes disks) es closing)
+module _ (nodes : List Node) (disks : List DiskCounts) (es : List Entry) (closing : World) (opens : AreOpening nodes) (lasts : (node : List ℕ) (n : Node) → find_node node nodes ≡ Some n → IsLastApart n ⊎ IsUpOnceMade (opened nodes disks) es node) (legal : Legal (opened nodes disks) es closing)
     (stand : AbortsStand (opened nodes disks) es) where
   -- the last settlement of a node that is up in some world is of no branch that stands unsettled
-  lasts_apart : (node : List ℕ) → ((n : Node) → find_node node nodes ≡ Some n → IsLastApart n) ⊎ IsDownThroughout (opened nodes disks) es node
+  lasts_apart : (node : List ℕ) → ((n : Node) → find_node node nodes ≡ Some n → IsLastApart n) ⊎ IsUpOnceMade (opened nodes disks) es node
   lasts_apart node = go (find_node node nodes) refl
     where
-      go : (o : Option Node) → find_node node nodes ≡ o → ((n : Node) → find_node node nodes ≡ Some n → IsLastApart n) ⊎ IsDownThroughout (opened nodes disks) es node
+      go : (o : Option Node) → find_node node nodes ≡ o → ((n : Node) → find_node node nodes ≡ Some n → IsLastApart n) ⊎ IsUpOnceMade (opened nodes disks) es node
       go None none = inl (λ n found. let clash : ◌≡◌ {A = Option Node} None (Some n) = sym none ∙ found in let no : ⊥ = cc in absurd no)
       go (Some m) there = elim (lasts node m there) [ inl last ↦ inl (λ n found. subst IsLastApart (some_is m n (sym there ∙ found)) last) | inr down ↦ inr down ]
 
@@ -461,28 +513,19 @@ module _ (nodes : List Node) (disks : List DiskCounts) (es : List Entry) (closin
           first : Legal (opened nodes disks) before mid
           first = tells_legal node file (opened nodes disks) before mid a tells
 
-          here : Legal mid (e ∷ []) v
-          here = (mid, refl, turn)
-
-          sound : IsSound mid
-          sound = legal_sound (opened nodes disks) mid before (opening_sound nodes disks opens) first
-
           then_sound : IsSound v
           then_sound = legal_sound (opened nodes disks) v (e ∷ before) (opening_sound nodes disks opens) (mid, first, turn)
 
-          told : ((n : Node) → find_node node nodes ≡ Some n → IsLastApart n) → AreTold node file (λ x. IsNeverCommitted x v) (account_behind node file before mid (reading e.source.text) e.lines a) v
-          told apart = turn_told node file (λ x. IsNeverCommitted x v) before mid a (sure_up node file (opened nodes disks) before mid a tells) v (reading e.source.text) e.lines (legal_named nodes disks before mid opens first) sound
-              (doomed_at node file nodes disks opens apart es later stand v before (e ∷ []) mid parts first here sound) turn (path_told node file nodes disks opens apart es later stand v before (e ∷ []) mid a parts tells here)
+          told : Starts node file nodes disks opens es later stand v (e ∷ before) → AreTold node file (λ x. IsNeverCommitted x v) (account_behind node file before mid (reading e.source.text) e.lines a) v
+          told start = behind_told node file nodes disks opens es later stand v e before [] v parts mid a tells turn refl start (path_told node file nodes disks opens es later stand v before (e ∷ []) mid a)
 
           at : (o : Option Node) → find_node node v.nodes ≡ o → MayHave (account_behind node file before mid (reading e.source.text) e.lines a) (committed_in node file v)
           at (Some n) found =
               let is_up : n.up ≡ true = sym (ap (λ (o : Option Node). elim o as (λ x. Bool) [ Some m ↦ m.up | None ↦ false ]) found) ∙ up in
-              elim (lasts_apart node) [
-                | inl apart ↦ elim ((told apart n found).runs is_up) [
-                  | inl b ↦ absurd (not_betrayed node file v n then_sound found b)
-                  | inr k ↦ subst (MayHave (account_behind node file before mid (reading e.source.text) e.lines a)) (sym (there_committed node file (λ x. IsNeverCommitted x v) v then_sound n found)) k.records_are
-                ]
-                | inr off ↦ absurd (both_ways n.up (off later (e ∷ before) v n parts (mid, first, turn) found) is_up)
+              let start : Starts node file nodes disks opens es later stand v (e ∷ before) = elim (lasts_apart node) [ inl apart ↦ inl apart | inr once ↦ inr (once later (e ∷ before) v n parts (mid, first, turn) found is_up) ] in
+              elim ((told start n found).runs is_up) [
+                | inl b ↦ absurd (not_betrayed node file v n then_sound found b)
+                | inr k ↦ subst (MayHave (account_behind node file before mid (reading e.source.text) e.lines a)) (sym (there_committed node file (λ x. IsNeverCommitted x v) v then_sound n found)) k.records_are
               ]
           at None none = let clash : false ≡ true = sym (ap (λ (o : Option Node). elim o as (λ x. Bool) [ Some m ↦ m.up | None ↦ false ]) none) ∙ up in let no : ⊥ = cc in absurd no
 
@@ -493,10 +536,8 @@ module _ (nodes : List Node) (disks : List DiskCounts) (es : List Entry) (closin
           let later = there.after ++ there.entry ∷ [] in
           let split : es ≡ later ++ ([] ++ before) = there.stands ∙ sym (split_on there.after there.entry before) in
           let d = dumped mid new node file events count sound step in
-          elim (lasts_apart node) [
-            | inl apart ↦ of_node d.0 d.1 d.2 sound (path_told node file nodes disks opens apart es later stand mid before [] mid a split tells refl d.0 d.1)
-            | inr off ↦ absurd (both_ways d.0.up (off later before mid d.0 split first d.1) d.2.up)
-          ]
+          let start : Starts node file nodes disks opens es later stand mid before = elim (lasts_apart node) [ inl apart ↦ inl apart | inr once ↦ inr (once later before mid d.0 split first d.1 d.2.up) ] in
+          of_node d.0 d.1 d.2 sound (path_told node file nodes disks opens es later stand mid before [] mid a start split tells refl d.0 d.1)
         where
           of_node : (n : Node) → find_node node mid.nodes ≡ Some n → IsDumped n file events count → IsSound mid → IsKept node file (λ x. IsNeverCommitted x mid) a n → Shows events count a.records
           of_node n found d sound k = elim (k.runs d.up) [

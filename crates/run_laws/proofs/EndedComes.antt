@@ -1,5 +1,5 @@
 -- Where END_TRANS was answered that something was missing, the line that settles the first branch has ENDED behind it.
-use Rattle.std.proofs.Common.{◌≡◌, ℕ, ◌+◌, ◌⊎◌, List, [], ◌∷◌, ◌++◌, map, Bool, true, false, not, ◌&&◌, ◌||◌, Option, Some, None, if◌then◌else◌, inl, inr, refl, sym, ◌∙◌, ap, subst, append-nil, append_assoc}
+use Rattle.std.proofs.Common.{◌≡◌, ℕ, ◌+◌, ◌⊎◌, List, [], ◌∷◌, ◌++◌, map, Bool, true, false, not, ◌&&◌, ◌||◌, Option, Some, None, if◌then◌else◌, inl, inr, refl, sym, ◌∙◌, ap, subst, append_assoc}
 use Rattle.std.specs.Str.{bytes_eq}
 use Rattle.std.proofs.lemmas.Bool.{both_ways}
 use Rattle.std.proofs.lemmas.Slice.Eq.{bytes_eq-Decides}
@@ -17,13 +17,12 @@ use Rattle.commit_protocol.specs.Rows.{all_replied, all_taken, all_voted, begins
 use Rattle.commit_protocol.specs.Messages as message
 use Rattle.commit_protocol.specs.World.{In, undo_all}
 use Rattle.commit_protocol.proofs.Lists.{in_left, in_right}
-use Rattle.run_said.specs.run_model.World as world
-use Rattle.run_said.specs.run_model.World.{World, Shared, Node, Act, DiskCounts, Settlement, Boots, Directs, Formats, Outturn, Tables, acted, find_node, next_id, next_moment, opened, shared_after, tm_of}
+use Rattle.run_said.specs.run_model.World.{World, Shared, Node, Act, DiskCounts, Settlement, Boots, Directs, Outturn, Tables, acted, find_node, next_moment, opened, shared_after}
 use Rattle.run_said.specs.run_model.Answers as answers
 use Rattle.run_said.specs.run_model.Answers.{Row, Service, Task, Serves, Ticks, Takes, Hears, LosesLink, RunsDown, Restarts, boot_rows, branch_labelled, just, last_lines, left_active, powers, prepared_lines, refused_before_reading, service, settled_line, table_rows, task_service, told_rows, unit_key}
-use Rattle.run_said.specs.run_model.Operations.{first_of, refused_if}
+use Rattle.run_said.specs.run_model.Operations.{refused_if}
 use Rattle.run_said.specs.run_model.Steps.{Choice, TaskAllowed, TaskEffect, lines_of_rows, node_after, node_after_rows, ready_node, succeeded, task_effect}
-use Rattle.run_said.specs.run_model.Statements.{Part, Asks, Does, Doubtful, Heard, PartEffect, Phase, Phases, Begins, Question, Step, Unanswered, Allowed, RoseAt, begun_with, message_at, part_effect, phases_of, put_into, question, refused_at_once, stops_at, where_up}
+use Rattle.run_said.specs.run_model.Statements.{Part, Asks, Does, Doubtful, Heard, PartEffect, Phase, Phases, Begins, Question, Step, Unanswered, Allowed, RoseAt, begun_with, message_at, part_effect, phases_of, question, refused_at_once, stops_at}
 use Rattle.run_said.specs.run_model.StepLaws.{TaskAt, asked_by, task_of_part}
 use Rattle.run_said.specs.run_model.Transcript.{Entry, Legal, AreOpening, Turn as LineTurn}
 use Rattle.run_said.proofs.run_model.NodeLists.{found_name, some_is}
@@ -38,19 +37,17 @@ use Rattle.recovery_laws.proofs.world_laws.ServedLemmas.{undrawn}
 use Rattle.recovery_laws.proofs.world_laws.UpLemmas.{differ}
 use Rattle.run_laws.specs.Causes.{AbortCause, CommitCause, DeliversTo, IsDirect, WasEnded}
 use Rattle.run_laws.specs.Laws.{EndedComesHold}
-use Rattle.run_laws.specs.Promises.{EndedComes, IsUndoneByBoot, ShownThere, abort, commitment, ended_line, settlement_in}
+use Rattle.run_laws.specs.Promises.{IsUndoneByBoot, ShownThere, abort, commitment, ended_line}
 use Rattle.run_laws.proofs.Beginning.{transaction_begins}
 use Rattle.run_laws.proofs.BegunNames.{begun_named}
 use Rattle.run_laws.proofs.CauseRuns.{aborted_hold, commits_hold}
 use Rattle.run_laws.proofs.Deciding.{split_legal}
 use Rattle.run_laws.proofs.EachRow.{ArePlain, EachRow, is_plain}
 use Rattle.run_laws.proofs.Ending.{active_is, active_unprepared, done, end_row, ends_waiting, named_branch, row_is}
-use Rattle.run_laws.proofs.EndingRows.{IsEnding, told_reason}
-use Rattle.run_laws.proofs.EndingStays as stay
+use Rattle.run_laws.proofs.EndingRows.{told_reason}
 use Rattle.run_laws.proofs.EndingStays.{LeavesSo, staying, staying_keeps}
 use Rattle.run_laws.proofs.EndingTasks.{RowSo, RowsSo, task_so}
-use Rattle.run_laws.proofs.FirstBranch.{IsFirst, first_keeps, first_on}
-use Rattle.run_laws.proofs.FirstBranch as first_branch
+use Rattle.run_laws.proofs.FirstBranch.{IsFirst, first_on}
 use Rattle.run_laws.proofs.Keeping.{AllTake, Kept, any_effect, closes_none, down_effect, nothing_more}
 use Rattle.run_laws.proofs.Labelling.{label_of}
 use Rattle.run_laws.proofs.Missing.{put_one}

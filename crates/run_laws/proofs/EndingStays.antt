@@ -1,7 +1,6 @@
 -- What is known of a first branch that is ending, over all restarts: while its node is up it is ending or gone, and no boot finds it prepared.
-use Rattle.std.proofs.Common.{◌≡◌, ◌<◌, ℕ, List, [], ◌∷◌, ◌++◌, inl, inr, Bool, true, false, Option, Some, None, if◌then◌else◌, refl, sym, ◌∙◌, ap, subst, arith}
+use Rattle.std.proofs.Common.{◌≡◌, ◌<◌, ℕ, List, [], ◌∷◌, ◌++◌, inl, inr, Bool, true, false, Option, Some, None, refl, sym, ◌∙◌, ap, subst, arith}
 use Rattle.vms_model.specs.Ids.{Id}
-use Rattle.vms_model.specs.Transactions.{Commit, Abort}
 use Rattle.run_said.specs.transcript_model.Lines.{Line}
 use Rattle.unit_laws.specs.Units.{Map}
 use Rattle.unit_laws.specs.Journal.{RecoveryUnit}
@@ -12,7 +11,6 @@ use Rattle.commit_protocol.specs.World.{In}
 use Rattle.run_said.specs.log_laws.Slots.{prepared_of, records_in}
 use Rattle.run_said.specs.run_model.World as world
 use Rattle.run_said.specs.run_model.World.{Node, Durable, Act, Arms, Boots, Changes, Clocks, ComesUp, Creates, Directs, Draws, Falls, Formats, Holds, Labels, Marks, Saves, Recovers, Numbers, Tables, Settlement, Half, MayTurnOut, Unknown, aborted_prepared, acted, is_durable, next_id, prepared_left, prepared_serials, with_half}
-use Rattle.run_said.specs.run_model.Answers as answers
 use Rattle.run_said.specs.run_model.Answers.{unit_key}
 use Rattle.run_said.specs.run_model.Steps.{node_after}
 use Rattle.recovery_laws.specs.world_laws.Nodes.{IsOf, IsUp}

@@ -102,6 +102,23 @@ module _ (node file : List ℕ) (D : Id → Type 0) where
   abbrev pub IsDisk : Account → Node → Type 0
   IsDisk b m = Betrays node file D m.settled ⊎ IsToldDisk node file D b m.name m.durable
 
+  -- nothing is told of a file of a new volume
+  pub new_told : (slots journal : ℕ) (m : Node) → (acted (Formats slots journal) m).name ≡ node → IsToldDisk node file D no_account (acted (Formats slots journal) m).name (acted (Formats slots journal) m).durable
+  new_told slots journal m named = record {
+    named = named;
+    records_are = inl (sym (ap (λ q. records (history_of q)) (none_found 64)));
+    still = sure_still no_account (history_in file (acted (Formats slots journal) m).durable.directory).live refl;
+    quiet = λ gone x m. refl;
+    own = λ x e. let no : ⊥ = cc in absurd no;
+    apart = λ x r e commit i j. let no : ⊥ = cc in no;
+    only = λ x none. ((λ m. refl), refl);
+    prepared = λ r i. absurd (subst (λ rs. In r (prepared_of rs)) (none_in slots) i);
+  }
+    where
+      none_found : (k : ℕ) → find_file file (replicate k None) ≡ None
+      none_found zero = refl
+      none_found (suc k) = none_found k
+
   abbrev pub IsUpTold : Account → Node → Type 0
   IsUpTold b m = Betrays node file D m.settled ⊎ IsToldUp node file D false b m
 
@@ -698,20 +715,7 @@ module _ (node file : List ℕ) (D : Id → Type 0) where
         made = ap (λ b. if b then no_account else a) (same_text node)
 
         disk : IsToldDisk node file D no_account (acted (Formats slots journal) (with_unknown_volume true (powered o stops n))).name (acted (Formats slots journal) (with_unknown_volume true (powered o stops n))).durable
-        disk = record {
-          named = powered_name o stops n ∙ found_name node w.nodes n found;
-          records_are = inl (sym (ap (λ q. records (history_of q)) (none_found 64)));
-          still = sure_still no_account (history_in file (acted (Formats slots journal) (with_unknown_volume true (powered o stops n))).durable.directory).live refl;
-          quiet = λ gone x m. refl;
-          own = λ x e. let no : ⊥ = cc in absurd no;
-          apart = λ x r e commit i j. let no : ⊥ = cc in no;
-          only = λ x none. ((λ m. refl), refl);
-          prepared = λ r i. absurd (subst (λ rs. In r (prepared_of rs)) (none_in slots) i);
-        }
-          where
-            none_found : (k : ℕ) → find_file file (replicate k None) ≡ None
-            none_found zero = refl
-            none_found (suc k) = none_found k
+        disk = new_told slots journal (with_unknown_volume true (powered o stops n)) (powered_name o stops n ∙ found_name node w.nodes n found)
 
         go : (q : Option Line) → refused_before_reading s n (service (Init slots journal)) ≡ q →
             (let x = whole s n (with_unknown_volume true (powered o stops n)) (service (Init slots journal)) q in IsKept (by (Init slots journal) (x.lines ++ x.answer ∷ [])) x.node)

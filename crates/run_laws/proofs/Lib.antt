@@ -6,6 +6,7 @@ pub mod EachRow
 pub mod Staying
 pub mod ShownSettled
 pub mod MadeAnew
+pub mod InitLines
 pub mod LastSettled
 pub mod Directed
 pub mod Reasons
@@ -105,6 +106,7 @@ pub mod Restarting
 pub mod FirstBranch
 pub mod Leading
 pub mod AbortsStand
+pub mod Spoilt
 pub mod AbortsHeld
 pub mod Dying
 pub mod Undecided

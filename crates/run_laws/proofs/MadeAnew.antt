@@ -37,20 +37,23 @@ made_says node (Says Settle) lines e = let no : ⊥ = cc in absurd no
 made_says node Blank lines e = let no : ⊥ = cc in absurd no
 made_says node (Bad column) lines e = let no : ⊥ = cc in absurd no
 
--- what its node is behind it
-record IsNew (n : Node) : Type 0 where
-  before : Node
-  slots : ℕ
-  journal : ℕ
-  quiet : before.under_way ≡ None
-  is : acted (world.Formats slots journal) before ≡ n
+-- what its node is behind it: a volume was made on the disk that ran again of the node that was there
+pub record IsNew (w : World) (node : List ℕ) (n : Node) : Type 0 where
+  pub old : Node
+  pub was : find_node node w.nodes ≡ Some old
+  pub outturn : Outturn
+  pub stops : ℕ
+  pub slots : ℕ
+  pub journal : ℕ
+  pub unrefused : refused_before_reading w.shared old (service (Init slots journal)) ≡ None
+  pub is : acted (world.Formats slots journal) (with_unknown_volume true (powered outturn stops old)) ≡ n
 
-init_new : (w v : World) (node : List ℕ) (slots journal : ℕ) → Step w (At node (Init slots journal)) (line.Normal ∷ []) v → (m : Node) → find_node node v.nodes ≡ Some m → IsNew m
+init_new : (w v : World) (node : List ℕ) (slots journal : ℕ) → Step w (At node (Init slots journal)) (line.Normal ∷ []) v → (m : Node) → find_node node v.nodes ≡ Some m → IsNew w node m
 init_new w v node slots journal step m now = go (ended w v (At node (Init slots journal)) (line.Normal ∷ []) node (Serves (Init slots journal)) refl step)
   where
-    go : Ended w v node (Serves (Init slots journal)) (line.Normal ∷ []) → IsNew m
+    go : Ended w v node (Serves (Init slots journal)) (line.Normal ∷ []) → IsNew w node m
     go (Refused refusal h shows goes) = let same : line.Normal ≡ refusal = (same_last [] [] line.Normal refusal shows).1 in let clash : false ≡ true = ap is_refusal same ∙ h in let no : ⊥ = cc in absurd no
-    go (Turned n found c allowed shows goes) = subst IsNew (some_is e.node m (sym there ∙ now)) (done c shows)
+    go (Turned n found c allowed shows goes) = subst (IsNew w node) (some_is e.node m (sym there ∙ now)) (done c shows)
       where
         e : TaskEffect
         e = task_effect w.shared (stops_at node w) n (Serves (Init slots journal)) c
@@ -58,28 +61,31 @@ init_new w v node slots journal step m now = go (ended w v (At node (Init slots 
         there : find_node node v.nodes ≡ Some (task_effect w.shared (stops_at node w) n (Serves (Init slots journal)) c).node
         there = ap (λ (x : World). find_node node x.nodes) goes ∙ put_node node n e.node w.nodes (effect_name w.shared (stops_at node w) n (Serves (Init slots journal)) c) found
 
-        whole_done : (o : Outturn) (q : Option Line) → refused_before_reading w.shared n (service (Init slots journal)) ≡ q → let x = whole w.shared n (ready_node o (stops_at node w) (service (Init slots journal)) n) (service (Init slots journal)) q in line.Normal ∷ [] ≡ x.lines ++ x.answer ∷ [] → IsNew x.node
+        whole_done : (o : Outturn) (q : Option Line) → refused_before_reading w.shared n (service (Init slots journal)) ≡ q → let x = whole w.shared n (ready_node o (stops_at node w) (service (Init slots journal)) n) (service (Init slots journal)) q in line.Normal ∷ [] ≡ x.lines ++ x.answer ∷ [] → IsNew w node x.node
         whole_done o (Some refusal) first k =
             let same : line.Normal ≡ refusal = (same_last [] [] line.Normal refusal k).1 in
             let clash : true ≡ false = sym ((refuses_first w.shared n (Serves (Init slots journal))).says refusal first) ∙ ap is_refusal (sym same) in let no : ⊥ = cc in absurd no
-        whole_done o None first k = record { before = with_unknown_volume true (powered o (stops_at node w) n); slots = slots; journal = journal; quiet = refl; is = refl }
+        whole_done o None first k = record { old = n; was = found; outturn = o; stops = stops_at node w; slots = slots; journal = journal; unrefused = first; is = refl }
 
-        done : (c : Choice) → line.Normal ∷ [] ≡ (task_effect w.shared (stops_at node w) n (Serves (Init slots journal)) c).lines ++ (task_effect w.shared (stops_at node w) n (Serves (Init slots journal)) c).answer ∷ [] → IsNew (task_effect w.shared (stops_at node w) n (Serves (Init slots journal)) c).node
+        done : (c : Choice) → line.Normal ∷ [] ≡ (task_effect w.shared (stops_at node w) n (Serves (Init slots journal)) c).lines ++ (task_effect w.shared (stops_at node w) n (Serves (Init slots journal)) c).answer ∷ [] → IsNew w node (task_effect w.shared (stops_at node w) n (Serves (Init slots journal)) c).node
         done (Whole o) k = whole_done o (refused_before_reading w.shared n (service (Init slots journal))) refl k
         done WithoutMemory k = let no : ⊥ = cc in absurd no
         done Unpowered k = let no : ⊥ = cc in absurd no
         done (Cut o j b cause) k = let x = task_effect w.shared (stops_at node w) n (Serves (Init slots journal)) (Cut o j b cause) in let same : line.Normal ≡ line.Broken cause = (same_last [] x.lines line.Normal (line.Broken cause) k).1 in let no : ⊥ = cc in absurd no
 
+pub made_new : (w v : World) (node : List ℕ) (r : Reading) (lines : List Line) → Turn w r lines v → made_anew node r lines ≡ true → (m : Node) → find_node node v.nodes ≡ Some m → IsNew w node m
+made_new w v node r lines turn made m now =
+    let x = made_says node r lines made in
+    init_new w v node x.0 x.1 (subst (λ ls. Step w (At node (Init x.0 x.1)) ls v) x.3 (subst (λ y. Turn w y lines v) x.2 turn)) m now
+
 -- so its disk has no last settlement
 pub made_last : (w v : World) (node : List ℕ) (r : Reading) (lines : List Line) → Turn w r lines v → made_anew node r lines ≡ true → (m : Node) → find_node node v.nodes ≡ Some m → m.durable.last ≡ None
 made_last w v node r lines turn made m now =
-    let x = made_says node r lines made in
-    let new = init_new w v node x.0 x.1 (subst (λ ls. Step w (At node (Init x.0 x.1)) ls v) x.3 (subst (λ y. Turn w y lines v) x.2 turn)) m now in
+    let new = made_new w v node r lines turn made m now in
     subst (λ (y : Node). y.durable.last ≡ None) new.is refl
 
 -- and no file; and nothing is under way there
 pub made_empty : (w v : World) (node : List ℕ) (r : Reading) (lines : List Line) → Turn w r lines v → made_anew node r lines ≡ true → (m : Node) → find_node node v.nodes ≡ Some m → (m.durable.directory ≡ empty_directory) × (m.under_way ≡ None)
 made_empty w v node r lines turn made m now =
-    let x = made_says node r lines made in
-    let new = init_new w v node x.0 x.1 (subst (λ ls. Step w (At node (Init x.0 x.1)) ls v) x.3 (subst (λ y. Turn w y lines v) x.2 turn)) m now in
-    subst (λ (y : Node). (y.durable.directory ≡ empty_directory) × (y.under_way ≡ None)) new.is (refl, new.quiet)
+    let new = made_new w v node r lines turn made m now in
+    subst (λ (y : Node). (y.durable.directory ≡ empty_directory) × (y.under_way ≡ None)) new.is (refl, refl)

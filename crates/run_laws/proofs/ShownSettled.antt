@@ -1,7 +1,6 @@
 -- What a line shows to be settled is settled, for good.
 use Rattle.std.proofs.Common.{◌≡◌, ℕ, ◌⊎◌, List, [], ◌∷◌, ◌++◌, inl, inr, take, Bool, true, false, Option, Some, None, refl, sym, ◌∙◌, ap, subst}
 use Rattle.vms_model.specs.Transactions.{Outcome, Commit, Abort, Reason, SegFail}
-use Rattle.vms_model.specs.Limits.{message_limit}
 use Rattle.run_said.specs.transcript_model.Lines as line
 use Rattle.run_said.specs.transcript_model.Lines.{Line, Cause}
 use Rattle.run_said.specs.script_model.Statements.{Statement, Reading, Blank, Says, Bad}

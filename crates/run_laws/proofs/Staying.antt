@@ -6,7 +6,7 @@ use Rattle.run_said.specs.transcript_model.Lines.{Line, Cause}
 use Rattle.run_said.specs.script_model.Statements.{Statement, At, Deliver, LinkDown, Settle, Reading, Blank, Says, Bad}
 use Rattle.run_said.specs.script_model.Grammar.{reading}
 use Rattle.commit_protocol.specs.World.{In}
-use Rattle.run_said.specs.run_model.World.{World, Shared, Node, Settlement, Act, Tables, Directs, Outturn, Lost, Taken, Half, opened, find_node, with_node, acted, powered, unpowered, settled_more, settlement_of}
+use Rattle.run_said.specs.run_model.World.{World, Shared, Node, Settlement, Act, Tables, Directs, Outturn, Lost, Taken, Half, find_node, with_node, acted, powered, unpowered, settled_more, settlement_of}
 use Rattle.run_said.specs.run_model.Answers.{Row, Service, Task, task_service, refused_before_reading, powers, spoils}
 use Rattle.run_said.specs.run_model.Steps.{Choice, Whole, WithoutMemory, Unpowered, Cut, task_effect, ready_node, node_after, node_after_rows, rows_to_cut, with_unknown_volume, whole, begun}
 use Rattle.run_said.specs.run_model.Statements.{Part, PartEffect, Begins, Phases, Step, part_effect, stops_at, phases_of, refused_at_once, begun_with}

@@ -9,3 +9,4 @@ pub use Rattle.run_agreement.proofs.Openings
 pub use Rattle.run_agreement.proofs.Resting
 pub use Rattle.run_agreement.proofs.Serving
 pub use Rattle.run_agreement.proofs.Tasks
+pub use Rattle.run_agreement.proofs.Told

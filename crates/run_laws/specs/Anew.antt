@@ -1,4 +1,4 @@
--- Volumes that are made before anything boots their nodes, whatever was on their disks.
+-- Volumes that are made before anything boots their nodes, and disks that an INIT replaces, whatever was on them.
 use Rattle.std.specs.Prelude.{◌≡◌, ◌⊎◌, ℕ, List, [], ◌∷◌, ◌++◌, Some, None}
 use Rattle.std.specs.List.{AllByRecursion, last_or}
 use Rattle.run_said.specs.transcript_model.Lines.{Normal}
@@ -6,7 +6,7 @@ use Rattle.run_said.specs.script_model.Statements.{At, Boot, Init, Says, Settle,
 use Rattle.run_said.specs.script_model.Grammar.{reading}
 use Rattle.run_said.specs.run_model.World.{DiskCounts, Node, World, opened}
 use Rattle.run_said.specs.run_model.Transcript.{AreOpening, Entry, Legal}
-use Rattle.run_agreement.specs.Laws.{NamesApart, image_told, volume_image}
+use Rattle.run_agreement.specs.Laws.{IsReplaced, NamesApart, image_told, volume_image}
 use Rattle.run_agreement.specs.Seen.{IsKnown}
 use Rattle.run_laws.specs.Promises.{IsLastApart}
 
@@ -30,10 +30,10 @@ pub record IsMadeAnew (node : List ℕ) (es : List Entry) : Type 0 where
   pub first : IsMadeFirst node es
   pub made : IsMadeIn node es
 
--- Of each node something is known of its disk, the last settlement of which is of no branch that stands unsettled there, unless the run begins with no image of it: it has
--- no volume, or the last INIT of it that was not refused was ended by a failure; or its volume is made anew.
+-- Of each node something is known of its disk, the last settlement of which is of no branch that stands unsettled there, unless the disk has no volume; or an INIT of it
+-- replaces what the disk had, one that succeeds or that a failure ends. Nothing is asked of what was replaced.
 abbrev pub AreKnownOrAnew : List Entry → List Node → Type 0
-AreKnownOrAnew es ns = AllByRecursion (λ (n : Node). (IsKnown n × (IsLastApart n ⊎ (image_told n.name (volume_image n) es ≡ None))) ⊎ IsMadeAnew n.name es) ns
+AreKnownOrAnew es ns = AllByRecursion (λ (n : Node). (IsKnown n × (IsLastApart n ⊎ (image_told n.name (volume_image n) es ≡ None))) ⊎ IsReplaced n.name es) ns
 
 -- Nodes and others, place by place: each is the same, but for a node whose volume is made anew; there the other has its name and as many blocks, and may have
 -- anything on its disk.

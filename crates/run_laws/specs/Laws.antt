@@ -15,7 +15,7 @@ use Rattle.run_said.specs.run_model.Transcript.{Entry, Legal, AreOpening, InAllR
 use Rattle.commit_protocol.specs.Opening.{IsAgreeing}
 use Rattle.run_agreement.specs.Seen.{IsKnown}
 use Rattle.run_agreement.specs.Following.{opening_of}
-use Rattle.run_agreement.specs.Laws.{IsBase, NamesApart, RunsFrom, opening_told}
+use Rattle.run_agreement.specs.Laws.{AreKnownOrReplaced, IsBase, NamesApart, RunsFrom, opening_told}
 use Rattle.run_said.specs.Said.{SaidNode, node_in, said_of}
 use Rattle.run_laws.specs.SaidLaws.{SaidThere}
 use Rattle.run_laws.specs.Anew.{AreKnownOrAnew}
@@ -132,7 +132,7 @@ AllAgree nodes disks es = (later since before : List Entry) (base v : World) →
 
 -- So it is in a legal transcript where the images agree that its lines tell.
 abbrev pub ToldAgree : Type 0
-ToldAgree = (nodes : List Node) (disks : List DiskCounts) (es : List Entry) (closing : World) → AreOpening nodes → NamesApart nodes → ((name : List ℕ) (n : Node) → find_node name nodes ≡ Some n → IsKnown n) →
+ToldAgree = (nodes : List Node) (disks : List DiskCounts) (es : List Entry) (closing : World) → AreOpening nodes → NamesApart nodes → AreKnownOrReplaced es nodes →
     Legal (opened nodes disks) es closing → IsAgreeing (opening_told nodes es) → AllAgree nodes disks es
 
 -- So aborts stand, in racks of nodes of different names of whose disks something is known;
@@ -163,7 +163,7 @@ pub record AgreedPromises (opening : World) (es : List Entry) (closing : World) 
   pub dumps : DumpPromises opening es
   pub stand : AbortsStand opening es
 
--- So it is of nodes of different names of whose disks something is known, or whose volumes are made anew, whatever their disks had.
+-- So it is of nodes of different names of whose disks something is known, or whose disks an INIT replaces, whatever they had.
 abbrev pub AgreedPromisesAreKept : Type 0
 AgreedPromisesAreKept = (nodes : List Node) (disks : List DiskCounts) (es : List Entry) (closing : World) → AreOpening nodes → NamesApart nodes → AreKnownOrAnew es nodes → IsAgreeing (opening_told nodes es) →
     Legal (opened nodes disks) es closing → AgreedPromises (opened nodes disks) es closing

@@ -1,4 +1,4 @@
-use Rattle.run_agreement.proofs.Begun.{runs_begin}
+use Rattle.run_agreement.proofs.Told.{runs_begin}
 use Rattle.run_agreement.proofs.runs_begin.Goals as goal
 
 pub returns : goal.returns
