@@ -106,6 +106,8 @@ for words in '' '--help' 'RUN' 'MAKE 0 1' 'RUN A' 'RUN A=new.img B' 'RUN A=new.i
     check "the line for '$words'" [ "$(cat out)" = "$usage" ]
     check "the forms for '$words'" grep -q 'dtm RUN NODE=IMAGE \.\.\.   reads' err
 done
+ends "a word that is no text" 2 "$dtm" RUN $'A=new\xff.img' < /dev/null
+check "the line for it" [ "$(cat out)" = "$usage" ]
 ends "a faulty line" 1 run 'A: PUT T F 1 %xAA
 ' A=new.img
 check "its line of the transcript" [ "$(cat out)" = '1 BADLINE 14' ]
